@@ -1,0 +1,74 @@
+-- Document 01, "Lent buffers, and what comes back": the output's entries. Assumes nothing.
+use Prim.Native.Nat.{ℕ}
+use mathlib.Core.Bool.{Bool, true, false}
+use mathlib.Core.List.{List, [], _∷_, _++_, map}
+use lib.ListN.{length}
+use Rattle.spec.specs.Lists.{gather, little}
+use Rattle.spec.specs.Blocks.{Kind, terminate, jump, jumpi, dynamic-jump, dynamic-jumpi, Block}
+use Rattle.spec.specs.Search.{Found, nowhere, found, Rec}
+use Rattle.spec.specs.Ending.{Final}
+
+-- a whole answer: the code's length, the energy used, the blocks and the record
+pub record Map : Type 0 where
+  pub size : ℕ
+  pub energy : ℕ
+  pub blocks : List Final
+  pub recs : List Rec
+
+-- "Output entries: length of body (4 bytes), kind (2), body; little-endian."
+abbrev pub item : ℕ → List ℕ → List ℕ
+item kind body = little 4 (length body) ++ little 2 kind ++ body
+
+-- "a missing destination is 0x8000"
+abbrev pub goes : Found → ℕ
+goes nowhere = 0x8000
+goes (found t s) = t
+
+abbrev pub flag : Bool → ℕ
+flag true = 1
+flag false = 0
+
+abbrev pub path-bytes : List ℕ → List ℕ
+path-bytes p = little 4 (length p) ++ gather (little 2) p
+
+-- "Kind 1 head: code length (2), block count, record count, energy."
+abbrev pub head : Map → List ℕ
+head m = item 1 (little 2 (m .size) ++ little 2 (length (m .blocks)) ++ little 4 (length (m .recs)) ++ little 4 (m .energy))
+
+-- "7 entry of the block before it: to, path length, path."
+abbrev pub entry : Rec → List ℕ
+entry r = item 7 (little 2 (goes (r .to)) ++ path-bytes (r .path))
+
+-- "2 Terminate: start, end, success (1 byte). 3 Jump: start, end, to. 4 Jumpi: start, end, true, false. 5 DynamicJump: start, end, count.
+-- 6 DynamicJumpi: start, end, false, count.", "each with its 7s"
+abbrev pub shown : List ℕ → List Rec → Kind → List (List ℕ)
+shown span es (terminate success) = item 2 (span ++ (flag success ∷ [])) ∷ []
+shown span es (jump t) = item 3 (span ++ little 2 t) ∷ []
+shown span es (jumpi t f) = item 4 (span ++ little 2 t ++ little 2 f) ∷ []
+shown span es dynamic-jump = item 5 (span ++ little 4 (length es)) ∷ map entry es
+shown span es (dynamic-jumpi f) = item 6 (span ++ little 2 f ++ little 4 (length es)) ∷ map entry es
+
+abbrev pub span : Block → List ℕ
+span b = little 2 (b .start) ++ little 2 (b .end)
+
+abbrev pub block-entries : Map → List (List ℕ)
+block-entries m = gather (λ (f : Final). shown (span (f .block)) (f .entries) (f .block .kind)) (m .blocks)
+
+-- "8 record: start, to, path length, path."
+abbrev pub record-entry : Rec → List ℕ
+record-entry r = item 8 (little 2 (r .start) ++ little 2 (goes (r .to)) ++ path-bytes (r .path))
+
+-- "Order: head, blocks by start each with its 7s, records as found."
+unfoldable pub entries : Map → List (List ℕ)
+entries m = head m ∷ block-entries m ++ map record-entry (m .recs)
+
+abbrev pub joined : List (List ℕ) → List ℕ
+joined = gather (λ (e : List ℕ). e)
+
+-- the bytes that the output then begins with
+unfoldable pub bytes : Map → List ℕ
+bytes m = joined (entries m)
+
+-- the part of them that the Rust's answer speaks of
+unfoldable pub block-bytes : Map → List ℕ
+block-bytes m = joined (block-entries m)

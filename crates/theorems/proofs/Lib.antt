@@ -1,0 +1,9 @@
+pub mod Branch
+pub mod Composing
+pub mod Carried
+pub mod Growth
+pub mod Limits
+pub mod Trimming
+pub mod Reached
+pub mod Symbols
+pub mod Shortage
