@@ -10,11 +10,8 @@ use lib.ListN.{length}
 use borrow.Author.Tests.{eqb-true, eqb-false, eq-eqb}
 use Rattle.spec.specs.Lists.{if, mem}
 use Rattle.spec.specs.Reach.{Edge, leads, with, Swept, left, sweep, spread, closure}
-use Rattle.theorems.proofs.Branch.{both, and-right, if-true, if-false}
-
-pub data In {A : Type 0} (x : A) : List A → Type 0 where
-  here : {xs : List A} → In x (x ∷ xs)
-  there : {y : A} {xs : List A} → In x xs → In x (y ∷ xs)
+use Rattle.theorems.proofs.Branch.{both}
+use Rattle.theorems.proofs.Members.{In, here, there, and-both, and-true, or-right, or-cases}
 
 -- what the document says of the reached set, as a rule
 pub data Reached (es : List Edge) (seeds : List ℕ) : ℕ → Type 0 where
@@ -22,21 +19,6 @@ pub data Reached (es : List Edge) (seeds : List ℕ) : ℕ → Type 0 where
   along : (e : Edge) → In e es → Reached es seeds (e .place) → Reached es seeds (e .witness) → Reached es seeds (e .to)
 
 -- ---- small facts
-
-and-both : (a b : Bool) → a && b ≡ true → (a ≡ true) × (b ≡ true)
-and-both true b e = (refl, e)
-and-both false b e = (cc, cc)
-
-and-true : (a b : Bool) → a ≡ true → b ≡ true → a && b ≡ true
-and-true a b p q = rw (p, q)
-
-or-right : (a b : Bool) → b ≡ true → a || b ≡ true
-or-right true b e = refl
-or-right false b e = e
-
-or-cases : (a b : Bool) → a || b ≡ true → (a ≡ true) ⊎ (b ≡ true)
-or-cases true b e = inl refl
-or-cases false b e = inr e
 
 mem-with : (t : ℕ) (got : List ℕ) → mem t (with t got) ≡ true
 mem-with t got = both (λ (l : List ℕ). mem t l ≡ true) (mem t got) (λ on. on) (λ _. ap (λ (b : Bool). b || mem t got) (eq-eqb t t refl))

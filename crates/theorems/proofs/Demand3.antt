@@ -1,0 +1,91 @@
+-- Demand 3, for whole answers: rooms no smaller and a limit no smaller. Assumes nothing.
+use Prim.Native.Nat.{ℕ, zero, suc, _+_, _*_, _≤_, _<_}
+use native.Mathlib.Omega.{arith}
+use native.Mathlib.Nat.{le-trans}
+use mathlib.Core.Path.{_≡_, refl, sym, ap, subst, _∙_}
+use mathlib.Core.Logic.{_⊎_, inl, inr}
+use mathlib.Core.Bool.{Bool, true, false}
+use mathlib.Core.List.{List, [], _∷_, _++_}
+use lib.ListN.{length}
+use Rattle.spec.specs.Search.{Room, P, S, T, R, Q, Need, Rec, St}
+use Rattle.spec.specs.Rooms.{Lent, units, room}
+use Rattle.spec.specs.Entries.{Map, bytes}
+use Rattle.spec.specs.Answer.{Answer, refused, answered, prepared, searched, mapped, answer}
+use Rattle.theorems.proofs.Shortage.{Fits, none-asked, one-more}
+use Rattle.theorems.proofs.Refusals.{Taken, Verdict, code-over, limit-over, work-short, room-short, output-short, all-fits, verdict, verdict-only}
+use Rattle.theorems.proofs.Limits.{search-begins, search-same}
+
+-- no buffer of k is smaller than l's
+pub record Lends (l k : Lent) : Type 0 where
+  pub w : l .w ≤ k .w
+  pub p : l .p ≤ k .p
+  pub s : l .s ≤ k .s
+  pub t : l .t ≤ k .t
+  pub r : l .r ≤ k .r
+  pub q : l .q ≤ k .q
+  pub out : l .out ≤ k .out
+
+room-mono : (l k : Lent) → Lends l k → (r : Room) → room l r ≤ room k r
+room-mono l k h P = omega arith
+room-mono l k h S = omega arith
+room-mono l k h T = omega arith
+room-mono l k h R = omega arith
+room-mono l k h Q = omega arith
+
+fits-mono : (l k : Lent) → Lends l k → {ns : List Need} → Fits l ns → Fits k ns
+fits-mono l k h none-asked = none-asked
+fits-mono l k h (one-more {n} held rest) = one-more (le-trans held (room-mono l k h (n .room))) (fits-mono l k h rest)
+
+-- what an answer that was given says of its run
+record Gave (l : Lent) (m : ℕ) (code : List ℕ) (a : Map) : Type 0 where
+  taken : Taken l m code
+  fits : Fits l (searched m code .needs)
+  output : length (bytes a) ≤ units (l .out) 1
+  is : a ≡ mapped code (searched m code)
+
+gave : (l : Lent) (m : ℕ) (code : List ℕ) (a : Map) → answer l m code ≡ answered a → Gave l m code a
+gave l m code a e = go (answer l m code) (verdict l m code) e
+  where
+    go : (b : Answer) → Verdict l m code b → b ≡ answered a → Gave l m code a
+    go b (code-over h) q = let z : _≡_ {A = ℕ} 0 1 = cc in absurd (omega arith)
+    go b (limit-over c h) q = let z : _≡_ {A = ℕ} 0 1 = cc in absurd (omega arith)
+    go b (work-short c n h) q = let z : _≡_ {A = ℕ} 0 1 = cc in absurd (omega arith)
+    go b (room-short t f) q = let z : _≡_ {A = ℕ} 0 1 = cc in absurd (omega arith)
+    go b (output-short t f h) q = let z : _≡_ {A = ℕ} 0 1 = cc in absurd (omega arith)
+    go b (all-fits t f h) q =
+        let i : mapped code (searched m code) ≡ a = cc in
+        record { taken = t; fits = f; output = subst (λ (x : Map). length (bytes x) ≤ units (l .out) 1) i h; is = sym i }
+
+module _ (l k : Lent) (h : Lends l k) (m n : ℕ) (m≤n : m ≤ n) (top : n ≤ 500000) (code : List ℕ) where
+  -- "its record is a beginning of the larger one's"
+  pub record-begins : (a b : Map) → answer l m code ≡ answered a → answer k n code ≡ answered b → (new : List Rec) × (b .recs ≡ a .recs ++ new)
+  unfolding searched mapped
+  record-begins a b e f =
+      let g = search-begins m n m≤n (prepared code) in
+      (g .0, rw (gave l m code a e .is, gave k n code b f .is) (g .1))
+
+  same-run : (a : Map) → Gave l m code a → (m ≡ n) ⊎ (a .energy < m) → searched m code ≡ searched n code
+  unfolding searched mapped
+  same-run a g (inl q) = ap (λ (x : ℕ). searched x code) q
+  same-run a g (inr q) = search-same m n m≤n (prepared code) (subst (λ (x : Map). x .energy < m) (g .is) q)
+
+  -- If the limits are equal, or the first run used less energy than its limit, the second is answered too, and the answers are equal.
+  pub answered-again : (a : Map) → answer l m code ≡ answered a → (m ≡ n) ⊎ (a .energy < m) → answer k n code ≡ answered a
+  answered-again a e d = subst (λ (s : St). answer k n code ≡ answered (mapped code s)) (sym same) again ∙ ap answered (sym (g .is))
+    where
+      g : Gave l m code a
+      g = gave l m code a e
+
+      same : searched m code ≡ searched n code
+      same = same-run a g d
+
+      out-fits : length (bytes (mapped code (searched n code))) ≤ units (k .out) 1
+      out-fits =
+          let o : length (bytes (mapped code (searched m code))) ≤ units (l .out) 1 = subst (λ (x : Map). length (bytes x) ≤ units (l .out) 1) (g .is) (g .output) in
+          le-trans (subst (λ (s : St). length (bytes (mapped code s)) ≤ units (l .out) 1) same o) (omega (arith, h .out))
+
+      again : answer k n code ≡ answered (mapped code (searched n code))
+      again =
+          verdict-only k n code
+          (all-fits (record { code-fits = g .taken .code-fits; limit-fits = top; work-fits = le-trans (g .taken .work-fits) (h .w) })
+          (subst (λ (s : St). Fits k (s .needs)) same (fits-mono l k h (g .fits))) out-fits)
