@@ -8,6 +8,8 @@ pub mod Composing
 pub mod Stored
 pub mod Trimming
 pub mod Symbols
+pub mod Counts
+pub mod Blockwise
 pub mod Reached
 pub mod Pruning
 pub mod Carried
