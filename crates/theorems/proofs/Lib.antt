@@ -20,6 +20,7 @@ pub mod Records
 pub mod Replay
 pub mod Panics
 pub mod Shortage
+pub mod Older
 pub mod Refusals
 pub mod Demand3
 pub mod Sessions
