@@ -1,0 +1,96 @@
+//! The families of codes that are held against each other, by name.
+
+use codes::corners::CORNERS;
+use codes::random::{Random, jumpy, mutant, noise};
+use codes::solidity::{self, Shape};
+use codes::woven;
+
+/// A family of codes that a seed spells out.
+pub struct Family {
+    pub name: &'static str,
+    /// Of a hundred codes that a light family is asked for, those that this one is asked for.
+    pub share: u64,
+    pub next: fn(&mut Random) -> Vec<u8>,
+}
+
+pub const FAMILIES: [Family; 9] = [
+    Family {
+        name: "noise",
+        share: 100,
+        next: |random| {
+            let length = random.between(1, 60);
+            noise(random, length)
+        },
+    },
+    Family {
+        name: "jumpy",
+        share: 100,
+        next: |random| {
+            let length = random.between(3, 40);
+            jumpy(random, length)
+        },
+    },
+    Family {
+        name: "jumpy-long",
+        share: 100,
+        next: |random| {
+            let length = random.between(40, 250);
+            jumpy(random, length)
+        },
+    },
+    Family {
+        name: "mutants",
+        share: 50,
+        next: |random| {
+            let corner = random.pick(&CORNERS);
+            let corner = codes::from_hex(corner).expect("the corners are hexadecimal");
+            mutant(random, &corner)
+        },
+    },
+    Family {
+        name: "woven",
+        share: 20,
+        next: |random| {
+            let (blocks, steps) = (random.between(2, 6), random.between(1, 4));
+            woven::code(random, blocks, steps)
+        },
+    },
+    Family {
+        name: "woven-long",
+        share: 10,
+        next: |random| {
+            let (blocks, steps) = (random.between(5, 16), random.between(1, 5));
+            woven::code(random, blocks, steps)
+        },
+    },
+    Family {
+        name: "calls-small",
+        share: 100,
+        next: |random| {
+            let shape = Shape::small(random);
+            solidity::code(random, shape)
+        },
+    },
+    Family {
+        name: "calls-middle",
+        share: 50,
+        next: |random| {
+            let shape = Shape::middle(random);
+            solidity::code(random, shape)
+        },
+    },
+    Family {
+        name: "calls-large",
+        share: 2,
+        next: |random| {
+            let shape = Shape::large(random);
+            solidity::code(random, shape)
+        },
+    },
+];
+
+/// The family of this name; a name that none has is a fault of the program.
+pub fn named(name: &str) -> &'static Family {
+    let found = FAMILIES.iter().find(|family| family.name == name);
+    found.unwrap_or_else(|| panic!("no family of codes is called '{name}'"))
+}

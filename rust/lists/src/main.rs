@@ -1,0 +1,68 @@
+//! `lists [--check]`: writes `tests/answers.list` and `tests/rust.list`, the same bytes each time;
+//! with `--check` it writes nothing and fails if a file holds anything else.
+
+mod answers;
+mod maps;
+mod summary;
+
+use std::fs;
+use std::path::{Path, PathBuf};
+use std::process::ExitCode;
+
+fn main() -> ExitCode {
+    let check = match std::env::args().skip(1).collect::<Vec<_>>()[..] {
+        [] => false,
+        [ref word] if word == "--check" => true,
+        _ => {
+            eprintln!("usage: lists [--check]");
+            return ExitCode::from(2);
+        }
+    };
+    match run(check) {
+        Ok(()) => ExitCode::SUCCESS,
+        Err(sentence) => {
+            eprintln!("lists: {sentence}");
+            ExitCode::FAILURE
+        }
+    }
+}
+
+fn run(check: bool) -> Result<(), String> {
+    let answers = answers::lines();
+    let taken = answers.iter().map(|line| line.code.clone()).collect();
+    let maps = maps::lines(taken);
+    let texts: Vec<String> = answers.iter().map(answers::Line::text).collect();
+    settle(check, "answers.list", &texts)?;
+    println!("{}", summary::of_answers(&answers));
+    let texts: Vec<String> = maps.iter().map(|code| maps::text(code)).collect();
+    settle(check, "rust.list", &texts)?;
+    println!("{}", summary::of_maps(&maps));
+    Ok(())
+}
+
+/// The folder `tests` of the repository that this program was built in.
+fn folder() -> PathBuf {
+    Path::new(env!("CARGO_MANIFEST_DIR")).join("../../tests")
+}
+
+/// Writes the lines to the list, or compares them with it.
+fn settle(check: bool, name: &str, lines: &[String]) -> Result<(), String> {
+    let path = folder().join(name);
+    let text: String = lines.iter().map(|line| format!("{line}\n")).collect();
+    if !check {
+        return fs::write(&path, text).map_err(|e| format!("cannot write tests/{name}: {e}"));
+    }
+    let there = fs::read_to_string(&path).map_err(|e| format!("cannot read tests/{name}: {e}"))?;
+    if there == text {
+        return Ok(());
+    }
+    let same = there
+        .lines()
+        .zip(lines)
+        .take_while(|(old, new)| old == new)
+        .count();
+    Err(format!(
+        "tests/{name} is not what would be written, from line {} on",
+        same + 1
+    ))
+}

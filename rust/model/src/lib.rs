@@ -1,0 +1,56 @@
+//! Document 01 as a plain program, written from its text: what a call must answer.
+//!
+//! It is the second opinion: the proved definitions are held against it, and it is held against
+//! the unchanged Rust. It is written to be read, not to be fast.
+
+pub mod blocks;
+pub mod entries;
+pub mod map;
+pub mod ops;
+pub mod reach;
+pub mod rooms;
+pub mod search;
+pub mod stack;
+
+pub use blocks::{Block, Entry, Kind};
+pub use map::{Map, map};
+pub use rooms::{Lent, Needs, Refusal};
+pub use search::Record;
+
+/// "code over 24,576 bytes" is refused.
+pub const LONGEST_CODE: usize = 24_576;
+/// "an energy limit of 0 to 500,000".
+pub const HIGHEST_LIMIT: u64 = 500_000;
+
+/// What a call gives back: its refusal, or the bytes of its output.
+#[derive(Clone, Debug, PartialEq, Eq)]
+pub enum Answer {
+    Refused(Refusal),
+    Answered(Vec<u8>),
+}
+
+impl Answer {
+    /// The number of document 01's table; 0 is answered.
+    pub fn number(&self) -> u8 {
+        match self {
+            Answer::Refused(refusal) => refusal.number(),
+            Answer::Answered(_) => 0,
+        }
+    }
+
+    /// The bytes written; none if refused.
+    pub fn written(&self) -> &[u8] {
+        match self {
+            Answer::Refused(_) => &[],
+            Answer::Answered(bytes) => bytes,
+        }
+    }
+}
+
+/// The answer to one call with these lent rooms, this limit and this code.
+pub fn answer(lent: &Lent, limit: u64, code: &[u8]) -> Answer {
+    match map(lent, limit, code) {
+        Ok(map) => Answer::Answered(entries::write(code.len(), &map)),
+        Err(refusal) => Answer::Refused(refusal),
+    }
+}

@@ -1,0 +1,4 @@
+//! Wires up evmole's two files that the map needs.
+
+pub mod code_iterator;
+pub mod op;
