@@ -1,0 +1,45 @@
+-- How many bytes of code after its own belong to an instruction, by the range that its byte lies in. Assumes nothing.
+use mathlib.Core.Path.{_≡_}
+use Prim.Native.Nat.{ℕ, _-_, _≤_, _<_}
+use native.Mathlib.Decide.{decLt}
+use native.Mathlib.Omega.{arith}
+use borrow.Author.Tests.{le-leb, lt-leb}
+use Rattle.spec.specs.Lists.{if}
+use Rattle.spec.specs.Opcodes.{argument}
+use Rattle.evm.specs.Rows.{SizeIs}
+
+module _ (b : ℕ) where
+  pub argument-below : b < 0x60 → argument b ≡ 0
+  unfolding if
+  argument-below h = rw (lt-leb 0x60 b h)
+
+  pub argument-push : 0x60 ≤ b → b < 0x80 → argument b ≡ b - 0x5F
+  unfolding if
+  argument-push h g =
+      let l : b ≤ 0x7F = omega arith in
+      rw (le-leb 0x60 b h, le-leb b 0x7F l)
+
+  pub argument-above : 0x80 ≤ b → argument b ≡ 0
+  unfolding if
+  argument-above h =
+      let l : 0x60 ≤ b = omega arith in
+      rw (le-leb 0x60 b l, lt-leb b 0x7F h)
+
+  -- ---- the ways out of size_of
+
+  pub size-below : b < 0x60 → SizeIs b 1
+  size-below h = omega (arith, argument-below h)
+
+  pub size-push : 0x60 ≤ b → b < 0x80 → SizeIs b (b - 0x5E)
+  size-push h g = omega (arith, argument-push h g)
+
+  pub size-above : 0x80 ≤ b → SizeIs b 1
+  size-above h = omega (arith, argument-above h)
+
+  pub argument-most : argument b ≤ 32
+  argument-most = go (decLt b 0x60) (decLt b 0x80)
+    where
+      go : Dec (b < 0x60) → Dec (b < 0x80) → argument b ≤ 32
+      go (yes h) d = omega (arith, argument-below h)
+      go (no h) (yes g) = omega (arith, argument-push (omega arith) g)
+      go (no h) (no g) = omega (arith, argument-above (omega arith))

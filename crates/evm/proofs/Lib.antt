@@ -1,0 +1,8 @@
+-- Walks, Steps and Arguments are what a crate above cites of the walk; Packed and Table of the rows.
+pub mod Walks
+pub mod Steps
+pub mod Arguments
+pub mod Packed
+pub mod Table
+mod Spells
+mod Held

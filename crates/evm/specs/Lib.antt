@@ -1,0 +1,4 @@
+pub mod Rows
+pub mod Step
+pub mod Argument
+pub mod Walker

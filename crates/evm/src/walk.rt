@@ -1,0 +1,52 @@
+// The walk over code, on a slice and a number: one whole instruction at a place, and the number that its argument spells.
+use crate::rows::size_of;
+ghost use mathlib.Core.Path.{_≡_};
+ghost use Rattle.evm.specs.Argument.{Follow, Spelled, Widened};
+ghost use Rattle.evm.specs.Step.{stepAt};
+
+// A whole instruction, with the place of the next one; or none: the code ends, or ends before the instruction does.
+pub enum Step {
+    Whole { pc: usize, op: u8, next: usize },
+    End,
+}
+
+// What stands at a place of the code.
+pub fn step_at(code: &[u8], at: usize) -> Step
+    ensures { λ r. ⌜ r ≡ stepAt (now (code .entry)) at ⌝ }
+{
+    if code.len() <= at {
+        return Step::End;
+    }
+    let op = code[at];
+    let n = size_of(op);
+    if n <= code.len() - at {
+        Step::Whole {
+            pc: at,
+            op,
+            next: at + n,
+        }
+    } else {
+        Step::End
+    }
+}
+
+// The number that the n bytes after pc spell, most significant first.
+pub fn argument_at(code: &[u8], pc: usize, n: usize) -> u64
+    requires { ⌜ Follow (now code) pc n ⌝ }
+    ensures { λ r. ⌜ Spelled (now (code .entry)) pc n r ⌝ }
+{
+    let mut v: u64 = 0;
+    let mut i = 0;
+    while i < n {
+        i += 1;
+        v = v * 256 + wide(code[pc + i]);
+    }
+    v
+}
+
+// A byte as a number.
+fn wide(x: u8) -> u64
+    ensures { λ r. ⌜ Widened x r ⌝ }
+{
+    x as u64
+}
