@@ -1,10 +1,9 @@
 -- Document 01, "Lent buffers, and what comes back": the refusals in their order, and the whole answer. Assumes nothing.
 use Prim.Native.Nat.{ℕ, zero, suc, _+_, _*_}
-use mathlib.Core.Bool.{Bool, true, false}
-use mathlib.Core.List.{List, [], _∷_}
+use mathlib.Core.List.{List, [], _++_}
 use lib.Dec.{leb, ltb}
-use lib.ListN.{length}
-use Rattle.spec.specs.Lists.{if}
+use lib.ListN.{length, drop, replicate}
+use Rattle.spec.specs.Lists.{if, within}
 use Rattle.spec.specs.Walk.{instructions}
 use Rattle.spec.specs.Blocks.{blocks}
 use Rattle.spec.specs.Search.{Node, nodes, St, search}
@@ -55,3 +54,18 @@ answer l limit code =
     if (ltb 24576 (length code)) (refused 1)
     (if (ltb 500000 limit) (refused 2)
     (if (ltb (l .w) (64 * length code + 256)) (refused 3) run))
+
+-- ---- what a call leaves in the lent buffers, and what the exported entry gives
+
+-- "On 0 and 4 to 9, W, P, S, T, R, Q are all zero bytes on return"; 1, 2 and 3 "touch nothing"
+abbrev pub room-after : Answer → List ℕ → List ℕ
+room-after a b = if (within 1 3 (numberOf a)) b (replicate (length b) 0)
+
+-- "On 0 the output holds the answer and its other bytes stay"; refused, all of them do
+abbrev pub output-after : Answer → List ℕ → List ℕ
+output-after a out = written a ++ drop (length (written a)) out
+
+-- "the exported entry gives whichever isn't 0"
+abbrev pub exported : Answer → ℕ
+exported (refused n) = n
+exported (answered m) = length (bytes m)

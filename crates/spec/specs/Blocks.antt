@@ -1,12 +1,12 @@
 -- Document 01, "Cutting into blocks (source 000, initial.rs)". Assumes nothing.
-use Prim.Native.Nat.{ℕ, zero, suc, _+_}
+use Prim.Native.Nat.{ℕ, _+_}
 use mathlib.Core.Bool.{Bool, true, false, _&&_, _||_}
 use mathlib.Core.List.{List, [], _∷_, map}
 use mathlib.Core.Option.{Option, none, some}
 use lib.Dec.{eqb, leb}
 use lib.ListN.{getD}
 use Rattle.spec.specs.Lists.{if, within, mem}
-use Rattle.spec.specs.Opcodes.{Row, row}
+use Rattle.spec.specs.Opcodes.{row}
 use Rattle.spec.specs.Walk.{Ins}
 
 pub data Kind : Type 0 where

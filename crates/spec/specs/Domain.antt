@@ -1,6 +1,6 @@
 -- Document 01, "Opcode rows": "demand 2's domain is the codes in which no such byte stands as an instruction". Assumes nothing.
 use Prim.Native.Nat.{ℕ}
-use mathlib.Core.Bool.{Bool, true, false, not}
+use mathlib.Core.Bool.{Bool, not}
 use mathlib.Core.List.{List, [], _∷_}
 use Rattle.spec.specs.Lists.{mem, some?}
 use Rattle.spec.specs.Walk.{Ins, instructions}

@@ -6,7 +6,7 @@ use mathlib.Core.Option.{Option, none, some}
 use lib.Dec.{eqb, ltb}
 use lib.ListN.{length, drop, getD, replicate}
 use Rattle.spec.specs.Lists.{if, within}
-use Rattle.spec.specs.Opcodes.{Row, row}
+use Rattle.spec.specs.Opcodes.{row}
 use Rattle.spec.specs.Walk.{Ins, from}
 
 -- ---- "A symbol is Before(n), Constant(v), Jumpdest(v) or Other(pc)."

@@ -1,16 +1,15 @@
 -- Demand 3, for whole answers: rooms no smaller and a limit no smaller. Assumes nothing.
-use Prim.Native.Nat.{ℕ, zero, suc, _+_, _*_, _≤_, _<_}
+use Prim.Native.Nat.{ℕ, _≤_, _<_}
 use native.Mathlib.Omega.{arith}
 use native.Mathlib.Nat.{le-trans}
-use mathlib.Core.Path.{_≡_, refl, sym, ap, subst, _∙_}
+use mathlib.Core.Path.{_≡_, sym, ap, subst, _∙_}
 use mathlib.Core.Logic.{_⊎_, inl, inr}
-use mathlib.Core.Bool.{Bool, true, false}
-use mathlib.Core.List.{List, [], _∷_, _++_}
+use mathlib.Core.List.{List, _++_}
 use lib.ListN.{length}
 use Rattle.spec.specs.Search.{Room, P, S, T, R, Q, Need, Rec, St}
 use Rattle.spec.specs.Rooms.{Lent, units, room}
 use Rattle.spec.specs.Entries.{Map, bytes}
-use Rattle.spec.specs.Answer.{Answer, refused, answered, prepared, searched, mapped, answer}
+use Rattle.spec.specs.Answer.{Answer, answered, prepared, searched, mapped, answer}
 use Rattle.theorems.proofs.Shortage.{Fits, none-asked, one-more}
 use Rattle.theorems.proofs.Refusals.{Taken, Verdict, code-over, limit-over, work-short, room-short, output-short, all-fits, verdict, verdict-only}
 use Rattle.theorems.proofs.Limits.{search-begins, search-same}
@@ -37,13 +36,13 @@ fits-mono l k h none-asked = none-asked
 fits-mono l k h (one-more {n} held rest) = one-more (le-trans held (room-mono l k h (n .room))) (fits-mono l k h rest)
 
 -- what an answer that was given says of its run
-record Gave (l : Lent) (m : ℕ) (code : List ℕ) (a : Map) : Type 0 where
-  taken : Taken l m code
-  fits : Fits l (searched m code .needs)
-  output : length (bytes a) ≤ units (l .out) 1
-  is : a ≡ mapped code (searched m code)
+pub record Gave (l : Lent) (m : ℕ) (code : List ℕ) (a : Map) : Type 0 where
+  pub taken : Taken l m code
+  pub fits : Fits l (searched m code .needs)
+  pub output : length (bytes a) ≤ units (l .out) 1
+  pub is : a ≡ mapped code (searched m code)
 
-gave : (l : Lent) (m : ℕ) (code : List ℕ) (a : Map) → answer l m code ≡ answered a → Gave l m code a
+pub gave : (l : Lent) (m : ℕ) (code : List ℕ) (a : Map) → answer l m code ≡ answered a → Gave l m code a
 gave l m code a e = go (answer l m code) (verdict l m code) e
   where
     go : (b : Answer) → Verdict l m code b → b ≡ answered a → Gave l m code a
@@ -56,14 +55,15 @@ gave l m code a e = go (answer l m code) (verdict l m code) e
         let i : mapped code (searched m code) ≡ a = cc in
         record { taken = t; fits = f; output = subst (λ (x : Map). length (bytes x) ≤ units (l .out) 1) i h; is = sym i }
 
-module _ (l k : Lent) (h : Lends l k) (m n : ℕ) (m≤n : m ≤ n) (top : n ≤ 500000) (code : List ℕ) where
-  -- "its record is a beginning of the larger one's"
-  pub record-begins : (a b : Map) → answer l m code ≡ answered a → answer k n code ≡ answered b → (new : List Rec) × (b .recs ≡ a .recs ++ new)
-  unfolding searched mapped
-  record-begins a b e f =
-      let g = search-begins m n m≤n (prepared code) in
-      (g .0, rw (gave l m code a e .is, gave k n code b f .is) (g .1))
+-- Of two answered runs, the one with no smaller limit has a record that begins with the other's, whatever the rooms.
+pub record-begins : (l k : Lent) (m n : ℕ) → m ≤ n → (code : List ℕ) (a b : Map) → answer l m code ≡ answered a → answer k n code ≡ answered b
+    → (new : List Rec) × (b .recs ≡ a .recs ++ new)
+unfolding searched mapped
+record-begins l k m n m≤n code a b e f =
+    let g = search-begins m n m≤n (prepared code) in
+    (g .0, rw (gave l m code a e .is, gave k n code b f .is) (g .1))
 
+module _ (l k : Lent) (h : Lends l k) (m n : ℕ) (m≤n : m ≤ n) (top : n ≤ 500000) (code : List ℕ) where
   same-run : (a : Map) → Gave l m code a → (m ≡ n) ⊎ (a .energy < m) → searched m code ≡ searched n code
   unfolding searched mapped
   same-run a g (inl q) = ap (λ (x : ℕ). searched x code) q

@@ -4,66 +4,49 @@ use Prim.Native.Nat.{ℕ, zero, suc, _+_, _≤_}
 use native.Mathlib.Omega.{arith}
 use native.Mathlib.Nat.{le-of-lt}
 use mathlib.Core.Path.{_≡_}
-use mathlib.Core.Bool.{Bool, _&&_}
+use mathlib.Core.Bool.{_&&_}
 use mathlib.Core.List.{List, [], _∷_}
 use lib.Dec.{ltb}
 use borrow.Author.Tests.{ltb-true, ltb-false}
 use Rattle.spec.specs.Lists.{mem}
 use Rattle.spec.specs.Stacks.{Sym, before, constant, jumpdest, other, Stack}
-use Rattle.spec.specs.Search.{Node, Taker, Parent, Rec, Room, Met, St, begin, need, spend, remember, forget, add, Turn, Level, record-nowhere, record-found, arrive, follow, loops, tries, level, turn, round, rounds, search}
+use Rattle.spec.specs.Search.{Node, Taker, Parent, St, begin, Turn, Level, record-nowhere, record-found, arrive, follow, loops, tries, level, turn, round, rounds, search}
 use Rattle.theorems.proofs.Branch.{both, and-right}
-use Rattle.theorems.proofs.Carried.{Carried, carry-rounds}
+use Rattle.theorems.proofs.Records.{Trace, nothing, then, counts, records, asks, remembers, forgets, Rounds, no-more, a-round, search-rounds}
 
 -- ---- the units counted
 
--- What a search does, one thing after the other. `counts` is step 1.
-pub data Trace : St → St → Type 0 where
-  nothing : {s : St} → Trace s s
-  then : {s t u : St} → Trace s t → Trace t u → Trace s u
-  counts : {s : St} → Trace s (spend s)
-  asks : {s : St} (r : Room) (u : ℕ) → Trace s (need r u s)
-  remembers : {s : St} (m : Met) → Trace s (remember m s)
-  forgets : {s : St} → Trace s (forget s)
-  records : {s : St} (r : Rec) → Trace s (add r s)
-
--- the units counted in step 1
-abbrev pub counted : {s t : St} → Trace s t → ℕ
+-- the units counted in step 1, each for a parent of a level
+abbrev pub counted : {ns : List Node} {reached : List ℕ} {s t : St} → Trace ns reached s t → ℕ
 counted nothing = 0
 counted (then a b) = counted a + counted b
-counted counts = 1
+counted (counts o h) = 1
+counted (records h) = 0
 counted (asks r u) = 0
 counted (remembers m) = 0
 counted forgets = 0
-counted (records r) = 0
 
-traced : Carried Trace
-traced = record {
-  keeps = λ s. nothing;
-  joins = λ s t u. then;
-  spends = λ s. counts;
-  needs = λ r u s. asks r u;
-  remembers = λ m s. remembers m;
-  forgets = λ s. forgets;
-  adds = λ r s. records r;
-}
+-- and in all rounds
+abbrev pub counted-in : {ns : List Node} {n : ℕ} {s t : St} → Rounds ns n s t → ℕ
+counted-in no-more = 0
+counted-in (a-round a b) = counted a + counted-in b
 
-energy-counts : {s t : St} (a : Trace s t) → t .energy ≡ s .energy + counted a
-energy-counts nothing = omega arith
-energy-counts (then a b) = omega (arith, energy-counts a, energy-counts b)
-energy-counts counts = omega arith
-energy-counts (asks r u) = omega arith
-energy-counts (remembers m) = omega arith
-energy-counts forgets = omega arith
-energy-counts (records r) = omega arith
+energy-trace : {ns : List Node} {reached : List ℕ} {s t : St} (a : Trace ns reached s t) → t .energy ≡ s .energy + counted a
+energy-trace nothing = omega arith
+energy-trace (then a b) = omega (arith, energy-trace a, energy-trace b)
+energy-trace (counts o h) = omega arith
+energy-trace (records h) = omega arith
+energy-trace (asks r u) = omega arith
+energy-trace (remembers m) = omega arith
+energy-trace forgets = omega arith
 
--- the search's own trace
-pub search-trace : (limit : ℕ) (ns : List Node) → Trace begin (search limit ns)
-unfolding search
-search-trace limit ns = carry-rounds Trace traced 128 limit ns begin
+energy-rounds : {ns : List Node} {n : ℕ} {s t : St} (a : Rounds ns n s t) → t .energy ≡ s .energy + counted-in a
+energy-rounds no-more = omega arith
+energy-rounds (a-round a b) = omega (arith, energy-trace a, energy-rounds b)
 
 -- The energy is the units counted in step 1.
-pub energy-is-counted : (limit : ℕ) (ns : List Node) → search limit ns .energy ≡ counted (search-trace limit ns)
-energy-is-counted limit ns = omega (arith, energy-counts (search-trace limit ns))
+pub energy-is-counted : (limit : ℕ) (ns : List Node) → search limit ns .energy ≡ counted-in (search-rounds limit ns)
+energy-is-counted limit ns = omega (arith, energy-rounds (search-rounds limit ns))
 
 -- ---- energy: a level whose number is w passes the limit by at most w + 1
 

@@ -14,13 +14,14 @@ pub mod Reached
 pub mod Pruning
 pub mod Carried
 pub mod Growth
-pub mod Energy
 pub mod Limits
 pub mod Records
+pub mod Energy
 pub mod Replay
 pub mod Panics
 pub mod Shortage
 pub mod Older
 pub mod Refusals
 pub mod Demand3
+pub mod Answered
 pub mod Sessions

@@ -1,17 +1,17 @@
 -- Demand 3: one code, two limits, the second no smaller. Assumes nothing.
-use Prim.Native.Nat.{ℕ, zero, suc, _+_, _-_, _≤_, _<_}
+use Prim.Native.Nat.{ℕ, zero, suc, _≤_, _<_}
 use native.Mathlib.Omega.{arith}
-use native.Mathlib.Nat.{le-trans, le-refl, le-of-lt}
-use mathlib.Core.Path.{_≡_, refl, sym, ap, subst, _∙_}
+use native.Mathlib.Nat.{le-trans, le-of-lt}
+use mathlib.Core.Path.{_≡_, refl, sym, ap, subst}
 use mathlib.Core.Bool.{Bool, true, false, _&&_}
-use mathlib.Core.List.{List, [], _∷_, _++_, append-assoc, append-nil}
+use mathlib.Core.List.{List, [], _∷_, _++_, append-nil}
 use lib.Dec.{eqb, ltb}
 use lib.ListN.{length}
 use borrow.Author.Tests.{ltb-true, ltb-false, lt-ltb, le-ltb}
 use Rattle.theorems.proofs.Branch.{both, if-true, if-false, and-false}
-use Rattle.spec.specs.Lists.{if, mem, lastOf}
-use Rattle.spec.specs.Stacks.{Sym, before, constant, jumpdest, other, Stack, cells, read, compose}
-use Rattle.spec.specs.Search.{Node, Taker, Parent, Rec, St, begin, need, spend, forget, Turn, turn-of, Level, record-nowhere, arrive, follow, loops, tries, level, turn, round, rounds, search}
+use Rattle.spec.specs.Lists.{if, mem}
+use Rattle.spec.specs.Stacks.{Sym, before, constant, jumpdest, other, Stack}
+use Rattle.spec.specs.Search.{Node, Taker, Parent, Rec, St, begin, spend, forget, Turn, turn-of, Level, arrive, follow, loops, tries, level, turn, round, rounds, search}
 use Rattle.theorems.proofs.Carried.{carry-nowhere, carry-follow, carry-tries, carry-level, carry-turn, carry-round, carry-rounds}
 use Rattle.theorems.proofs.Growth.{Grows, grows-refl, grows-trans, grows}
 

@@ -1,13 +1,13 @@
 -- Members of lists, and of what the definitions make of lists. Assumes nothing.
 use Prim.Native.Nat.{ℕ}
 use native.Mathlib.Omega.{arith}
-use mathlib.Core.Path.{_≡_, refl, sym, ap, subst, _∙_}
+use mathlib.Core.Path.{_≡_, refl, sym, ap, subst}
 use mathlib.Core.Logic.{_⊎_, inl, inr}
 use mathlib.Core.Bool.{Bool, true, false, _&&_, _||_}
 use mathlib.Core.List.{List, [], _∷_, _++_, map, append-assoc}
 use lib.Dec.{eqb}
 use borrow.Author.Tests.{eqb-true, eq-eqb}
-use Rattle.spec.specs.Lists.{if, mem, keep, gather}
+use Rattle.spec.specs.Lists.{mem, keep, gather}
 use Rattle.theorems.proofs.Branch.{both}
 
 pub data In {A : Type 0} (x : A) : List A → Type 0 where

@@ -1,18 +1,25 @@
--- Demand 1: "a room refusal exactly when the counted need passes the room". Assumes nothing.
-use Prim.Native.Nat.{ℕ, zero, suc, _+_, _*_, _≤_, _<_}
-use mathlib.Core.Path.{_≡_, refl, sym, ap, _∙_}
-use mathlib.Core.Bool.{Bool, true, false}
+-- Demand 1: each number is given exactly when document 01's table says. Assumes nothing.
+use Prim.Native.Nat.{ℕ, zero, suc, _+_, _*_, _^_, _≤_, _<_}
+use native.Mathlib.Omega.{arith}
+use mathlib.Core.Path.{_≡_, refl, ap, _∙_}
 use mathlib.Core.List.{List}
 use lib.Dec.{leb, ltb}
 use lib.ListN.{length}
 use borrow.Author.Tests.{ltb-true, ltb-false, lt-ltb, le-ltb, leb-true, leb-false, le-leb, lt-leb}
-use Rattle.spec.specs.Lists.{if}
-use Rattle.spec.specs.Search.{Need, St}
-use Rattle.spec.specs.Rooms.{Lent, units, shortage}
+use Rattle.spec.specs.Search.{Room, P, S, T, R, Q, Need}
+use Rattle.spec.specs.Rooms.{Lent, units, room, shortage}
 use Rattle.spec.specs.Entries.{Map, bytes}
 use Rattle.spec.specs.Answer.{Answer, refused, answered, searched, mapped, within-out, within-rooms, answer}
 use Rattle.theorems.proofs.Branch.{both, if-true, if-false}
 use Rattle.theorems.proofs.Shortage.{Fits, FirstShort, none-short, fits-none, first-short, short-first}
+
+-- "of any room at most 2^30 units count as lent"
+pub room-capped : (l : Lent) (r : Room) → room l r ≤ 2 ^ 30
+room-capped l P = omega arith
+room-capped l S = omega arith
+room-capped l T = omega arith
+room-capped l R = omega arith
+room-capped l Q = omega arith
 
 module _ (l : Lent) (limit : ℕ) (code : List ℕ) where
   -- what the run asks of its rooms, and the map that it makes

@@ -1,24 +1,23 @@
 -- Document 01: "Left out ... the tables states, deep_states, replayed_paths and the replay in materialize_path_state, on two facts to be proved: a block run
 -- from any identity depth trims to the same stack, and resolve_with_parent is associative in its stored form." From them: what the Rust replays of a
 -- path is the state that is stored for it. Assumes nothing.
-use Prim.Native.Nat.{ℕ, zero, suc, _≤_, _<_}
+use Prim.Native.Nat.{ℕ}
 use mathlib.Core.Path.{_≡_, refl, sym, ap, subst, _∙_}
 use mathlib.Core.Logic.{_⊎_, inl, inr}
-use mathlib.Core.Bool.{Bool, true, false}
 use mathlib.Core.Option.{Option, none, some}
-use mathlib.Core.List.{List, [], _∷_, _++_, map}
+use mathlib.Core.List.{List, [], _∷_, _++_}
 use lib.Dec.{ltb}
 use Rattle.spec.specs.Lists.{if}
 use Rattle.spec.specs.Walk.{Ins, from}
 use Rattle.spec.specs.Blocks.{Kind, terminate, jump, jumpi, dynamic-jump, dynamic-jumpi, Block}
-use Rattle.spec.specs.Stacks.{Sym, before, constant, jumpdest, other, Stack, entry, cells, Ran, runs, trimmed, run, compose}
+use Rattle.spec.specs.Stacks.{Sym, before, constant, jumpdest, other, Stack, cells, Ran, runs, trimmed, run, compose}
 use Rattle.spec.specs.Search.{Node, node, nodes, Taker, taker, takes, takers, sides, Parent, parent, direct, Found, nowhere, found, Rec, leads, found-parents, Level, search}
 use Rattle.theorems.proofs.Branch.{both}
 use Rattle.theorems.proofs.Composing.{compose-assoc}
 use Rattle.theorems.proofs.Trimming.{identity, run-any-depth}
 use Rattle.theorems.proofs.Members.{In, here, there, in-only, in-cases, in-gather, in-map}
 use Rattle.theorems.proofs.Each.{Each, each-map, each-in}
-use Rattle.theorems.proofs.Records.{Parented, Opens, first-level, deeper-level, Recorded, arrives, is-lost, too-heavy, History, search-history}
+use Rattle.theorems.proofs.Records.{Stored, Opens, first-level, deeper-level, Recorded, arrives, is-lost, too-heavy, Came, search-history}
 
 module _ (code : List ℕ) (is : List Ins) where
   -- a block's own stack
@@ -91,6 +90,11 @@ module _ (code : List ℕ) (is : List Ins) where
       both (λ (t : Stack). t ≡ s) _ (λ _. refl)
       (λ _. rw (deep-own required (h .first)) (replays-composed depth (own (h .first)) (h .rest) ∙ sym (h .stack-is)))
 
+  -- The widening loop of resolve_dynamic_jump_path asks again by what it materialized: it asks for the same depth, and so ends at its first pass.
+  pub widening-ends : (asks : Stack → ℕ) (depth : Stack → ℕ) (required : ℕ) {path : List ℕ} {s : Stack} (h : Replays path s)
+      → asks (materialized depth required (h .first) (h .rest) s) ≡ asks s
+  widening-ends asks depth required h = ap asks (materialized-same depth required h)
+
   -- ---- every state of the search is of that kind
 
   module _ (bs : List Block) where
@@ -143,22 +147,24 @@ module _ (code : List ℕ) (is : List Ins) where
         subst (λ (q : Parent). Replays (q .path) (q .stack)) (sym (in-only (subst (λ (f : Found). In p (leads (r .path) f)) e i))) h
 
     module _ (recs : List Rec) (all : Each (λ _. ReplaysRec) recs) where
-      pub parent-replays : {l : Level} {p : Parent} → Parented ns recs l p → Replays (p .path) (p .stack)
-      parent-replays {p} h = split (in-cases (direct ns) (h .stored))
+      pub parent-replays : {p : Parent} → Stored ns recs p → Replays (p .path) (p .stack)
+      parent-replays {p} h = split (in-cases (direct ns) h)
         where
           split : In p (direct ns) ⊎ In p (found-parents recs) → Replays (p .path) (p .stack)
           split (inl i) = direct-replays i
           split (inr i) = let g = in-gather (λ (r : Rec). leads (r .path) (r .to)) recs i in leads-replays (g .0) (each-in all (g .1) .1) (g .2)
 
-      pub level-replays : {start w : ℕ} {l : Level} → Opens ns recs start w l → Replays (l .path) (l .state)
-      level-replays (first-level {k} i e h) = subst (λ (b : ℕ). Replays (b ∷ []) (k .first)) e (taker-replays i)
-      level-replays (deeper-level o w h e) = longer (level-replays o) (parent-replays h)
+      module _ (reached : List ℕ) where
+        -- the state of every level
+        pub level-replays : {start w : ℕ} {l : Level} → Opens ns reached recs start w l → Replays (l .path) (l .state)
+        level-replays (first-level {k} i e h) = subst (λ (b : ℕ). Replays (b ∷ []) (k .first)) e (taker-replays i)
+        level-replays (deeper-level o w h e) = longer (level-replays o) (parent-replays (h .stored))
 
-      pub record-replays : (r : Rec) → Recorded ns recs r → ReplaysRec r
-      record-replays r (arrives o w h e) = kept refl (longer (level-replays o) (parent-replays h))
-      record-replays r (is-lost o w h e) = without refl (longer (level-replays o) (parent-replays h))
-      record-replays r (too-heavy o h) = without refl (longer (level-replays o) (parent-replays h))
+        pub record-replays : (r : Rec) → Recorded ns reached recs r → ReplaysRec r
+        record-replays r (arrives o w h e) = kept refl (longer (level-replays o) (parent-replays (h .stored)))
+        record-replays r (is-lost o w h e) = without refl (longer (level-replays o) (parent-replays (h .stored)))
+        record-replays r (too-heavy o h) = without refl (longer (level-replays o) (parent-replays (h .stored)))
 
     -- Every state that the search keeps is what its path's blocks compose to.
     pub search-replays : (limit : ℕ) → Each (λ _. ReplaysRec) (search limit ns .recs)
-    search-replays limit = each-map (λ recs r all. record-replays recs all r) (search-history ns limit)
+    search-replays limit = each-map (λ before r all (h : Came ns before r). record-replays before all _ r (h .made)) (search-history limit ns)

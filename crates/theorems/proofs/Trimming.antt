@@ -1,19 +1,19 @@
 -- A block run from any identity depth trims to the same stack: the run reads its stack only by depth, and a trimmed stack is fixed by what is read of it. Assumes nothing.
-use Prim.Native.Nat.{ℕ, zero, suc, _+_, _-_, _≤_, _<_}
+use Prim.Native.Nat.{ℕ, zero, suc, _+_}
 use native.Mathlib.Omega.{arith}
 use native.Mathlib.Nat.{zero-add, suc-add, add-zero, add-suc}
-use mathlib.Core.Path.{_≡_, refl, sym, ap, ap₂, subst, _∙_}
+use mathlib.Core.Path.{_≡_, refl, sym, ap, ap₂, _∙_}
 use mathlib.Core.Bool.{Bool, true, false}
-use mathlib.Core.Option.{Option, none, some}
-use mathlib.Core.List.{List, [], _∷_, _++_, map}
+use mathlib.Core.Option.{some}
+use mathlib.Core.List.{List, [], _∷_, _++_}
 use lib.Dec.{eqb}
-use lib.ListN.{length, drop, replicate}
+use lib.ListN.{replicate}
 use borrow.Author.Tests.{eq-eqb}
 use Rattle.theorems.proofs.Branch.{if-true}
 use Rattle.spec.specs.Lists.{if}
 use Rattle.spec.specs.Walk.{Ins}
-use Rattle.spec.specs.Opcodes.{Row, row}
-use Rattle.spec.specs.Stacks.{Sym, before, constant, jumpdest, other, Stack, entry, reads, read, pops, push, pushes, span, joins, settle, trims, trim, from-value, known-value, anded, summed, swap, trade, Does, pushes-value, pushes-pc, dups, swaps, ands, adds, jumps, jumpis, lands, halts, plain, does, act, Ran, still, after, runs, trimmed}
+use Rattle.spec.specs.Opcodes.{row}
+use Rattle.spec.specs.Stacks.{Sym, before, other, Stack, entry, reads, read, pops, push, pushes, span, settle, trims, trim, trade, Does, pushes-value, pushes-pc, dups, swaps, ands, adds, jumps, jumpis, lands, halts, plain, does, act, Ran, after, runs, trimmed}
 use Rattle.theorems.proofs.Composing.{reads-drop}
 
 -- two stacks that read the same at every depth

@@ -1,0 +1,150 @@
+-- What holds of every answer that is given: its blocks, its record and its energy. Assumes nothing.
+use Prim.Native.Nat.{ℕ, _+_, _≤_}
+use native.Mathlib.Omega.{arith}
+use mathlib.Core.Path.{_≡_, refl, sym, ap, ap₂, subst, _∙_}
+use mathlib.Core.Bool.{Bool, false, not}
+use mathlib.Core.List.{List, [], _∷_, map}
+use borrow.Author.Tests.{not-true}
+use Rattle.spec.specs.Lists.{keep}
+use Rattle.spec.specs.Walk.{Ins, instructions}
+use Rattle.spec.specs.Blocks.{Kind, terminate, jump, jumpi, dynamic-jump, dynamic-jumpi, Block, with-kind, starts, blocks}
+use Rattle.spec.specs.Stacks.{Ran, run}
+use Rattle.spec.specs.Search.{Node, node, nodes, Rec, is-nowhere, dests}
+use Rattle.spec.specs.Ending.{Final, all-are, merged, ended, entries-of, finals}
+use Rattle.spec.specs.Rooms.{Lent}
+use Rattle.spec.specs.Entries.{Map}
+use Rattle.spec.specs.Answer.{answered, prepared, searched, mapped, answer}
+use Rattle.theorems.proofs.Branch.{both}
+use Rattle.theorems.proofs.Lists.{Rising, one-more, rising-from}
+use Rattle.theorems.proofs.Members.{In, in-keep, in-map}
+use Rattle.theorems.proofs.Cutting.{Made, made, starts-rise}
+use Rattle.theorems.proofs.Energy.{search-energy}
+use Rattle.theorems.proofs.Records.{History, search-history}
+use Rattle.theorems.proofs.Demand3.{gave}
+
+-- where final blocks start
+abbrev pub finals-at : List Final → List ℕ
+finals-at = map (λ (f : Final). f .block .start)
+
+-- ---- a final block is a block of the cut, with another kind
+
+record Kept (b c : Block) : Type 0 where
+  id : c .id ≡ b .id
+  start : c .start ≡ b .start
+  end : c .end ≡ b .end
+
+same-block : {b : Block} {k : Kind} → Kept b (with-kind k b)
+same-block = record { id = refl; start = refl; end = refl }
+
+merged-keeps : (b : Block) (es : List Rec) (ts : List ℕ) → Kept b (merged b es ts .block)
+merged-keeps b es [] = same-block
+merged-keeps b es (t ∷ ts) = both (λ (f : Final). Kept b (f .block)) (all-are t ts) (λ _. same-block) (λ _. same-block)
+
+ended-keeps : (b : Block) (es : List Rec) (k : Kind) → Kept b (ended b es k .block)
+ended-keeps b es (terminate success) = same-block
+ended-keeps b es (jump t) = same-block
+ended-keeps b es (jumpi t f) = same-block
+ended-keeps b es dynamic-jump = merged-keeps b _ (dests es)
+ended-keeps b es (dynamic-jumpi f) = same-block
+
+-- ---- a DynamicJump's entries all have a destination
+
+abbrev AllFound : Final → Type 0
+AllFound f = f .block .kind ≡ dynamic-jump → (r : Rec) → In r (f .entries) → is-nowhere (r .to) ≡ false
+
+-- `v.to.unwrap()`: entries without destination were dropped
+kept-found : (es : List Rec) {r : Rec} → In r (keep (λ (r : Rec). not (is-nowhere (r .to))) es) → is-nowhere (r .to) ≡ false
+kept-found es {r} i = not-true (is-nowhere (r .to)) (in-keep (λ (r : Rec). not (is-nowhere (r .to))) es i .0)
+
+merged-found : (b : Block) (es : List Rec) (ts : List ℕ) → AllFound (merged b (keep (λ (r : Rec). not (is-nowhere (r .to))) es) ts)
+merged-found b es [] = λ e r i. kept-found es i
+merged-found b es (t ∷ ts) = both AllFound (all-are t ts) (λ _ e r i. elim i [ ]) (λ _ e r i. kept-found es i)
+
+ended-found : (b : Block) (es : List Rec) (k : Kind) → AllFound (ended b es k)
+ended-found b es (terminate success) = λ e r i. elim i [ ]
+ended-found b es (jump t) = λ e r i. elim i [ ]
+ended-found b es (jumpi t f) = λ e r i. elim i [ ]
+ended-found b es dynamic-jump = merged-found b es (dests es)
+ended-found b es (dynamic-jumpi f) = λ e r i. let z : _≡_ {A = ℕ} 0 1 = cc in absurd (omega arith)
+
+-- ---- from a final block back to the cut's
+
+module _ (recs : List Rec) {f : Final} (n : Node) (e : f ≡ ended (n .block) (entries-of (n .block .start) recs) (n .block .kind)) where
+  final-found : AllFound f
+  final-found = subst AllFound (sym e) (ended-found (n .block) (entries-of (n .block .start) recs) (n .block .kind))
+
+  final-keeps : (b : Block) (r : Ran) → n ≡ node b r → Kept b (f .block)
+  final-keeps b r q =
+      let k = subst (λ (g : Final). Kept (n .block) (g .block)) (sym e) (ended-keeps (n .block) (entries-of (n .block .start) recs) (n .block .kind)) in
+      record {
+        id = k .id ∙ ap (λ (m : Node). m .block .id) q;
+        start = k .start ∙ ap (λ (m : Node). m .block .start) q;
+        end = k .end ∙ ap (λ (m : Node). m .block .end) q;
+      }
+
+made-kept : {code : List ℕ} {b c : Block} → Kept b c → Made code b → Made code c
+made-kept k m = record {
+  id-start = k .id ∙ m .id-start ∙ sym (k .start);
+  begins = rw (k .start) (m .begins);
+  forward = rw (k .start, k .end) (m .forward);
+  start-inside = rw (k .start) (m .start-inside);
+  end-inside = rw (k .end) (m .end-inside);
+}
+
+final-starts : (code : List ℕ) (is : List Ins) (bs : List Block) (recs : List Rec) → finals-at (finals (nodes code is bs) recs) ≡ starts bs
+final-starts code is [] recs = refl
+final-starts code is (b ∷ bs) recs =
+    ap₂ {C = List ℕ} (λ (x : ℕ) (xs : List ℕ). x ∷ xs) (final-keeps recs (node b (run code is (b .start))) refl b (run code is (b .start)) refl .start) (final-starts code is bs recs)
+
+-- what is kept of a rising list rises
+rising-keep : (test : Final → Bool) {lo : ℕ} (fs : List Final) → Rising lo (finals-at fs) → Rising lo (finals-at (keep test fs))
+rising-keep test [] r = r
+rising-keep test {lo} (f ∷ fs) (one-more h r) =
+    both (λ (gs : List Final). Rising lo (finals-at gs)) (test f) (λ _. one-more h (rising-keep test fs r)) (λ _. rising-from (omega arith) (rising-keep test fs r))
+
+-- ---- every answer
+
+module _ (l : Lent) (limit : ℕ) (code : List ℕ) (a : Map) (e : answer l limit code ≡ answered a) where
+  the-map : a ≡ mapped code (searched limit code)
+  the-map = gave l limit code a e .is
+
+  -- "the total may pass the limit, by at most 256"
+  pub answered-energy : a .energy ≤ limit + 256
+  unfolding mapped searched
+  answered-energy = rw the-map (search-energy limit (prepared code))
+
+  -- each record came of those before it
+  pub answered-history : History (prepared code) (a .recs)
+  unfolding mapped searched
+  answered-history = rw the-map (search-history limit (prepared code))
+
+  record FromCut (f : Final) : Type 0 where
+    cut : Block
+    member : In cut (blocks code (instructions code))
+    same : Kept cut (f .block)
+    found : AllFound f
+
+  from-cut : (f : Final) → In f (a .blocks) → FromCut f
+  unfolding mapped prepared
+  from-cut f i =
+      let recs = searched limit code .recs in
+      let k = in-keep _ (finals (prepared code) recs) (subst (λ (m : Map). In f (m .blocks)) the-map i) in
+      let n = in-map _ (prepared code) (k .1) in
+      let b = in-map (λ (b : Block). node b (run code (instructions code) (b .start))) (blocks code (instructions code)) (n .1) in
+      record { cut = b .0; member = b .1; same = final-keeps recs (n .0) (n .2) (b .0) _ (b .2); found = final-found recs (n .0) (n .2) }
+
+  -- "`id` equals `start`", the end is not before the start, and both lie within the code
+  pub answered-block : (f : Final) → In f (a .blocks) → Made code (f .block)
+  answered-block f i = let c = from-cut f i in made-kept (c .same) (made code (c .member))
+
+  -- an entry of a DynamicJump has a destination
+  pub answered-entry : (f : Final) → In f (a .blocks) → f .block .kind ≡ dynamic-jump → (r : Rec) → In r (f .entries) → is-nowhere (r .to) ≡ false
+  answered-entry f i = from-cut f i .found
+
+  -- blocks stand in address order
+  pub answered-order : Rising 0 (finals-at (a .blocks))
+  unfolding mapped prepared
+  answered-order =
+      let recs = searched limit code .recs in
+      let all = subst (Rising 0) (sym (final-starts code (instructions code) (blocks code (instructions code)) recs)) (starts-rise code) in
+      subst (λ (m : Map). Rising 0 (finals-at (m .blocks))) (sym the-map) (rising-keep _ (finals (prepared code) recs) all)
