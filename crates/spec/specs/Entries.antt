@@ -20,9 +20,9 @@ abbrev pub item : ℕ → List ℕ → List ℕ
 item kind body = little 4 (length body) ++ little 2 kind ++ body
 
 -- "a missing destination is 0x8000"
-abbrev pub goes : Found → ℕ
-goes nowhere = 0x8000
-goes (found t s) = t
+abbrev pub destination : Found → ℕ
+destination nowhere = 0x8000
+destination (found t s) = t
 
 abbrev pub flag : Bool → ℕ
 flag true = 1
@@ -36,27 +36,27 @@ abbrev pub head : Map → List ℕ
 head m = item 1 (little 2 (m .size) ++ little 2 (length (m .blocks)) ++ little 4 (length (m .recs)) ++ little 4 (m .energy))
 
 -- "7 entry of the block before it: to, path length, path."
-abbrev pub entry : Rec → List ℕ
-entry r = item 7 (little 2 (goes (r .to)) ++ path-bytes (r .path))
+abbrev pub path-entry : Rec → List ℕ
+path-entry r = item 7 (little 2 (destination (r .to)) ++ path-bytes (r .path))
 
 -- "2 Terminate: start, end, success (1 byte). 3 Jump: start, end, to. 4 Jumpi: start, end, true, false. 5 DynamicJump: start, end, count.
 -- 6 DynamicJumpi: start, end, false, count.", "each with its 7s"
 abbrev pub shown : List ℕ → List Rec → Kind → List (List ℕ)
-shown span es (terminate success) = item 2 (span ++ (flag success ∷ [])) ∷ []
-shown span es (jump t) = item 3 (span ++ little 2 t) ∷ []
-shown span es (jumpi t f) = item 4 (span ++ little 2 t ++ little 2 f) ∷ []
-shown span es dynamic-jump = item 5 (span ++ little 4 (length es)) ∷ map entry es
-shown span es (dynamic-jumpi f) = item 6 (span ++ little 2 f ++ little 4 (length es)) ∷ map entry es
+shown extent es (terminate success) = item 2 (extent ++ (flag success ∷ [])) ∷ []
+shown extent es (jump t) = item 3 (extent ++ little 2 t) ∷ []
+shown extent es (jumpi t f) = item 4 (extent ++ little 2 t ++ little 2 f) ∷ []
+shown extent es dynamic-jump = item 5 (extent ++ little 4 (length es)) ∷ map path-entry es
+shown extent es (dynamic-jumpi f) = item 6 (extent ++ little 2 f ++ little 4 (length es)) ∷ map path-entry es
 
-abbrev pub span : Block → List ℕ
-span b = little 2 (b .start) ++ little 2 (b .end)
+abbrev pub extent : Block → List ℕ
+extent b = little 2 (b .start) ++ little 2 (b .end)
 
 abbrev pub block-entries : Map → List (List ℕ)
-block-entries m = gather (λ (f : Final). shown (span (f .block)) (f .entries) (f .block .kind)) (m .blocks)
+block-entries m = gather (λ (f : Final). shown (extent (f .block)) (f .entries) (f .block .kind)) (m .blocks)
 
 -- "8 record: start, to, path length, path."
 abbrev pub record-entry : Rec → List ℕ
-record-entry r = item 8 (little 2 (r .start) ++ little 2 (goes (r .to)) ++ path-bytes (r .path))
+record-entry r = item 8 (little 2 (r .start) ++ little 2 (destination (r .to)) ++ path-bytes (r .path))
 
 -- "Order: head, blocks by start each with its 7s, records as found."
 unfoldable pub entries : Map → List (List ℕ)

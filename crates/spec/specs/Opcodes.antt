@@ -12,8 +12,8 @@ pub record Range : Type 0 where
 abbrev pub only : ℕ → Range
 only b = record { lo = b; hi = b }
 
-abbrev pub span : ℕ → ℕ → Range
-span l h = record { lo = l; hi = h }
+abbrev pub range : ℕ → ℕ → Range
+range l h = record { lo = l; hi = h }
 
 -- The bytes of the ranges take `taken` words and give `given`; each byte past `first` takes `more` more and gives `again` more.
 pub record Rule : Type 0 where
@@ -27,24 +27,24 @@ pub record Rule : Type 0 where
 abbrev pub each : ℕ → ℕ → List Range → Rule
 each t g rs = record { ranges = rs; taken = t; given = g; first = 0; more = 0; again = 0 }
 
-abbrev pub counted : ℕ → ℕ → ℕ → ℕ → ℕ → ℕ → Rule
-counted l h t g m a = record { ranges = span l h ∷ []; taken = t; given = g; first = l; more = m; again = a }
+abbrev pub ramp : ℕ → ℕ → ℕ → ℕ → ℕ → ℕ → Rule
+ramp l h t g m a = record { ranges = range l h ∷ []; taken = t; given = g; first = l; more = m; again = a }
 
 -- "Given as taken/given, bytes in hex", in the document's order.
 abbrev pub rules : List Rule
 rules =
     each 0 0 (only 0x00 ∷ only 0x5B ∷ only 0xFE ∷ [])
-    ∷ each 2 1 (span 0x01 0x07 ∷ only 0x0A ∷ only 0x0B ∷ span 0x10 0x14 ∷ span 0x16 0x18 ∷ span 0x1A 0x1D ∷ only 0x20 ∷ [])
+    ∷ each 2 1 (range 0x01 0x07 ∷ only 0x0A ∷ only 0x0B ∷ range 0x10 0x14 ∷ range 0x16 0x18 ∷ range 0x1A 0x1D ∷ only 0x20 ∷ [])
     ∷ each 3 1 (only 0x08 ∷ only 0x09 ∷ only 0xF0 ∷ [])
     ∷ each 1 1 (only 0x15 ∷ only 0x19 ∷ only 0x31 ∷ only 0x35 ∷ only 0x3B ∷ only 0x3F ∷ only 0x40 ∷ only 0x49 ∷ only 0x51 ∷ only 0x54 ∷ only 0x5C ∷ [])
-    ∷ each 0 1 (only 0x30 ∷ span 0x32 0x34 ∷ only 0x36 ∷ only 0x38 ∷ only 0x3A ∷ only 0x3D ∷ span 0x41 0x48 ∷ only 0x4A ∷ span 0x58 0x5A ∷ only 0x5F ∷ span 0x60 0x7F ∷ [])
+    ∷ each 0 1 (only 0x30 ∷ range 0x32 0x34 ∷ only 0x36 ∷ only 0x38 ∷ only 0x3A ∷ only 0x3D ∷ range 0x41 0x48 ∷ only 0x4A ∷ range 0x58 0x5A ∷ only 0x5F ∷ range 0x60 0x7F ∷ [])
     ∷ each 3 0 (only 0x37 ∷ only 0x39 ∷ only 0x3E ∷ only 0x5E ∷ [])
     ∷ each 4 0 (only 0x3C ∷ [])
     ∷ each 1 0 (only 0x50 ∷ only 0x56 ∷ only 0xFF ∷ [])
     ∷ each 2 0 (only 0x52 ∷ only 0x53 ∷ only 0x55 ∷ only 0x57 ∷ only 0x5D ∷ only 0xF3 ∷ only 0xFD ∷ [])
-    ∷ counted 0x80 0x8F 1 2 1 1
-    ∷ counted 0x90 0x9F 2 2 1 1
-    ∷ counted 0xA0 0xA4 2 0 1 0
+    ∷ ramp 0x80 0x8F 1 2 1 1
+    ∷ ramp 0x90 0x9F 2 2 1 1
+    ∷ ramp 0xA0 0xA4 2 0 1 0
     ∷ each 7 1 (only 0xF1 ∷ only 0xF2 ∷ [])
     ∷ each 6 1 (only 0xF4 ∷ only 0xFA ∷ [])
     ∷ each 4 1 (only 0xF5 ∷ [])
