@@ -1,115 +1,120 @@
--- Document 01, "Stacks": "Meaning to prove". What an instruction does to a stack of 256-bit words, top first, by YP, and what a symbol says of a word.
--- Assumes nothing.
+-- Document 01, "Stacks": "Meaning to prove". YP's run of a block on words, top first, and what the block's symbols say of those words; YP's limit of 1,024
+-- words is set aside, and any numbers may be the words. Assumes nothing.
 use Prim.Native.Nat.{ℕ, zero, suc, _+_, _-_, _^_, _%_, _<_, _≤_}
 use mathlib.Core.Path.{_≡_}
-use mathlib.Core.Bool.{Bool, true, false}
+use mathlib.Core.Bool.{Bool, true, false, _&&_, _||_, not}
 use mathlib.Core.List.{List, [], _∷_, _++_}
 use mathlib.Core.Option.{Option, none, some}
 use lib.Bits.{bitAnd}
 use lib.Dec.{eqb}
-use lib.ListN.{length, getD, drop}
-use Rattle.spec.specs.Lists.{if}
-use Rattle.spec.specs.Opcodes.{Row, row}
+use lib.ListN.{length, getD, drop, set}
+use Rattle.spec.specs.Lists.{if, within, mem}
+use Rattle.spec.specs.Opcodes.{row}
 use Rattle.spec.specs.Walk.{Ins}
-use Rattle.spec.specs.Stacks.{Sym, before, constant, jumpdest, other, known-value, Stack, read, Does, pushes-value, pushes-pc, dups, swaps, ands, adds, jumps, jumpis, lands, halts, plain, does, mask, is, act}
+use Rattle.spec.specs.Stacks.{Sym, before, constant, jumpdest, other, known-value, Stack, entry, read, does, mask, is, act, Ran}
 
--- the n words from depth i
-abbrev pub words : List ℕ → ℕ → ℕ → List ℕ
-words st i zero = []
-words st i (suc n) = getD st i 0 ∷ words st (suc i) n
+-- ---- "YP decides what an instruction does to a stack."
 
 -- "any words supplied for the results YP computes elsewhere": n of them
 abbrev pub supplied : (ℕ → ℕ) → ℕ → List ℕ
 supplied f zero = []
 supplied f (suc n) = f n ∷ supplied f n
 
--- the words that an instruction needs on the stack
-abbrev pub takes : Ins → Does → ℕ
-takes i pushes-value = 0
-takes i pushes-pc = 0
-takes i (dups n) = suc n
-takes i (swaps n) = suc (suc n)
-takes i ands = 2
-takes i adds = 2
-takes i jumps = 1
-takes i jumpis = 2
-takes i lands = 0
-takes i halts = row (i .op) .taken
-takes i plain = row (i .op) .taken
+-- the top and the word n below it change places
+abbrev pub exchanged : ℕ → List ℕ → List ℕ
+exchanged n st = set (set st 0 (getD st n 0)) n (getD st 0 0)
 
--- YP's stack after an instruction
-unfoldable pub does-to : (ℕ → ℕ → ℕ) → Ins → Does → List ℕ → List ℕ
-does-to supply i pushes-value st = i .arg ∷ st
-does-to supply i pushes-pc st = i .pc ∷ st
-does-to supply i (dups n) st = getD st n 0 ∷ st
-does-to supply i (swaps n) st = (getD st (suc n) 0 ∷ words st 1 n ++ (getD st 0 0 ∷ [])) ++ drop (suc (suc n)) st
-does-to supply i ands st = bitAnd (getD st 0 0) (getD st 1 0) ∷ drop 2 st
-does-to supply i adds st = ((getD st 0 0 + getD st 1 0) % 2 ^ 256) ∷ drop 2 st
-does-to supply i jumps st = drop 1 st
-does-to supply i jumpis st = drop 2 st
-does-to supply i lands st = st
-does-to supply i halts st = supplied (supply (i .pc)) (row (i .op) .given) ++ drop (row (i .op) .taken) st
-does-to supply i plain st = supplied (supply (i .pc)) (row (i .op) .given) ++ drop (row (i .op) .taken) st
+-- the words after an instruction, by its byte: ADD, AND, PC, PUSH0 to PUSH32, DUP, SWAP; of the others the row says how many words they take and give
+unfoldable pub yields : (ℕ → ℕ → ℕ) → Ins → List ℕ → List ℕ
+yields supply i st =
+    if (eqb (i .op) 0x01) (((getD st 0 0 + getD st 1 0) % 2 ^ 256) ∷ drop 2 st)
+    (if (eqb (i .op) 0x16) (bitAnd (getD st 0 0) (getD st 1 0) ∷ drop 2 st)
+    (if (eqb (i .op) 0x58) (i .pc ∷ st)
+    (if (within 0x5F 0x7F (i .op)) (i .arg ∷ st)
+    (if (within 0x80 0x8F (i .op)) (getD st (i .op - 0x80) 0 ∷ st)
+    (if (within 0x90 0x9F (i .op)) (exchanged (i .op - 0x8F) st)
+    (supplied (supply (i .pc)) (row (i .op) .given) ++ drop (row (i .op) .taken) st))))))
 
--- what a symbol says of a word, given the words on entry
-abbrev pub Means : List ℕ → Sym → ℕ → Type 0
-Means entry (before n) w = w ≡ getD entry n 0
-Means entry (constant v) w = w ≡ v
-Means entry (jumpdest v) w = w ≡ v
-Means entry (other pc) w = Unit {0}
+-- ---- the run of a block's instructions
 
--- every word of the stack is as its symbol says
-pub record True (entry : List ℕ) (s : Stack) (st : List ℕ) : Type 0 where
-  pub at : (n : ℕ) → n < length st → Means entry (read s n) (getD st n 0)
+-- JUMP, JUMPI
+unfoldable pub jumping : ℕ → Bool
+jumping b = mem b (0x56 ∷ 0x57 ∷ [])
 
--- "wherever the mask rule was used the other word was below 2^32"
+-- JUMP, JUMPI, STOP, RETURN, REVERT, INVALID, SELFDESTRUCT
+unfoldable pub closing : ℕ → Bool
+closing b = mem b (0x56 ∷ 0x57 ∷ 0x00 ∷ 0xF3 ∷ 0xFD ∷ 0xFE ∷ 0xFF ∷ [])
+
+-- the run of the block at `start` ends with the instruction; "A JUMPDEST past its block's start ends the block before it"
+abbrev pub last : ℕ → Ins → Bool
+last start i = closing (i .op) || (eqb (i .op) 0x5B && not (eqb (i .pc) start))
+
+-- what a run ends with: the words, and the one that its jump popped as the destination
+pub record Ended : Type 0 where
+  pub words : List ℕ
+  pub popped : Option ℕ
+
+abbrev pub executes : (ℕ → ℕ → ℕ) → ℕ → List Ins → List ℕ → Ended
+executes supply start [] st = record { words = st; popped = none }
+executes supply start (i ∷ is) st =
+    let after = yields supply i st in
+    let on = executes supply start is after in
+    if (last start i) (record { words = after; popped = if (jumping (i .op)) (some (getD st 0 0)) none }) on
+
+-- ---- what is asked of it
+
+-- P holds at each instruction that is run, of the symbols and the words before it
+abbrev pub Throughout : List ℕ → (ℕ → ℕ → ℕ) → ℕ → (Ins → Stack → List ℕ → Type 0) → List Ins → Stack → List ℕ → Type 0
+Throughout code supply start P [] s st = Unit {0}
+Throughout code supply start P (i ∷ is) s st =
+    P i s st × (last start i ≡ false → Throughout code supply start P is (act code i (does (i .op)) s) (yields supply i st))
+
+-- "for blocks not cut at an unknown byte": past one, YP has no run
+abbrev pub Known : Ins → Stack → List ℕ → Type 0
+Known i s st = row (i .op) .known ≡ true
+
+-- "on any entry stack .. that is deep enough"
+abbrev pub Deep : Ins → Stack → List ℕ → Type 0
+Deep i s st = row (i .op) .taken ≤ length st
+
+-- "wherever the mask rule was used the other word was below 2^32": at an AND, top looked at first
 pub record Small (s : Stack) (st : List ℕ) : Type 0 where
   pub top : is mask (known-value (read s 0)) ≡ true → getD st 1 0 < 2 ^ 32
   pub next : is mask (known-value (read s 0)) ≡ false → is mask (known-value (read s 1)) ≡ true → getD st 0 0 < 2 ^ 32
 
-abbrev pub MaskOk : Does → Stack → List ℕ → Type 0
-MaskOk pushes-value s st = Unit {0}
-MaskOk pushes-pc s st = Unit {0}
-MaskOk (dups n) s st = Unit {0}
-MaskOk (swaps n) s st = Unit {0}
-MaskOk ands s st = Small s st
-MaskOk adds s st = Unit {0}
-MaskOk jumps s st = Unit {0}
-MaskOk jumpis s st = Unit {0}
-MaskOk lands s st = Unit {0}
-MaskOk halts s st = Unit {0}
-MaskOk plain s st = Unit {0}
+abbrev pub Masked : Ins → Stack → List ℕ → Type 0
+Masked i s st = i .op ≡ 0x16 → Small s st
 
--- ---- YP's run of a block's instructions, beside the symbols'
+-- what is asked of a block's run from the words st on entry
+pub record Asked (code : List ℕ) (supply : ℕ → ℕ → ℕ) (start : ℕ) (is : List Ins) (st : List ℕ) : Type 0 where
+  pub known : Throughout code supply start Known is entry st
+  pub deep : Throughout code supply start Deep is entry st
+  pub masked : Throughout code supply start Masked is entry st
 
--- what a block's run ends with: the stack of words, and the word that its jump pops
-pub record Ended : Type 0 where
-  pub words : List ℕ
-  pub pops : Option ℕ
+-- ---- what the symbols say
 
-abbrev pub ends : List ℕ → Ended
-ends st = record { words = st; pops = none }
+-- "Before(n) is the word at depth n on entry"; an Other says nothing
+abbrev pub Means : List ℕ → Sym → ℕ → Type 0
+Means ws (before n) w = (n < length ws) × (w ≡ getD ws n 0)
+Means ws (constant v) w = w ≡ v
+Means ws (jumpdest v) w = w ≡ v
+Means ws (other pc) w = Unit {0}
 
-abbrev pub pops : List ℕ → List ℕ → Ended
-pops st after = record { words = after; pops = some (getD st 0 0) }
+-- "every Before, Constant or Jumpdest read .. is the true word", if ws stood on entry
+pub record Tells (ws : List ℕ) (s : Stack) (st : List ℕ) : Type 0 where
+  pub at : (n : ℕ) → n < length st → Means ws (read s n) (getD st n 0)
 
--- the run of the instructions of the block at `start`, on the words; it ends where the block does
-abbrev pub proceeds : ℕ → Ins → List ℕ → List ℕ → Ended → Does → Ended
-proceeds start i st after on pushes-value = on
-proceeds start i st after on pushes-pc = on
-proceeds start i st after on (dups n) = on
-proceeds start i st after on (swaps n) = on
-proceeds start i st after on ands = on
-proceeds start i st after on adds = on
-proceeds start i st after on jumps = pops st after
-proceeds start i st after on jumpis = pops st after
-proceeds start i st after on lands = if (eqb (i .pc) start) on (ends st)
-proceeds start i st after on halts = ends after
-proceeds start i st after on plain = on
+-- and there are as many words as the stack says: one for each symbol above, and those of ws without the first `base`
+pub record Holds (ws : List ℕ) (s : Stack) (st : List ℕ) : Type 0 where
+  pub truth : Tells ws s st
+  pub size : length st + s .base ≡ length (s .above) + length ws
 
-abbrev pub executes : (ℕ → ℕ → ℕ) → ℕ → List Ins → List ℕ → Ended
-executes supply start [] st = ends st
-executes supply start (i ∷ is) st =
-    let after = does-to supply i (does (i .op)) st in
-    let on = executes supply start is after in
-    proceeds start i st after on (does (i .op))
+-- no jump, or one that takes a symbol and pops a word of which that is true
+pub data Jump (ws : List ℕ) : Option Sym → Option ℕ → Type 0 where
+  no-jump : Jump ws none none
+  jumps-to : {x : Sym} {w : ℕ} → Means ws x w → Jump ws (some x) (some w)
+
+-- "read after the block": what the run on symbols ends with, beside what YP's run does
+pub record Faithful (ws : List ℕ) (r : Ran) (e : Ended) : Type 0 where
+  pub stack : Holds ws (r .stack) (e .words)
+  pub jump : Jump ws (r .goes) (e .popped)

@@ -1,73 +1,22 @@
--- Document 01, "Opcode rows": what an instruction does to a stack, by YP, takes and gives as many words as its row says; none takes more than 17.
--- Assumes nothing.
-use Prim.Native.Nat.{ℕ, zero, suc, _+_, _-_, _≤_, _<_}
+-- Document 01, "Which instruction does what is one decision over the byte and its ranges": YP's step and the ends of a run, given by the byte, are those
+-- of the decision, and so are the row's numbers. At the 256 bytes by computing; a number past them is plain and unknown. Assumes nothing.
+use Prim.Native.Nat.{ℕ, zero, suc, _+_, _^_, _%_, _≤_, _<_}
 use native.Mathlib.Omega.{arith}
 use native.Mathlib.Nat.{eq-or-lt-of-le}
-use mathlib.Core.Path.{_≡_, refl, ap, _∙_}
+use mathlib.Core.Path.{_≡_, refl}
 use mathlib.Core.Logic.{_⊎_, inl, inr}
 use mathlib.Core.Bool.{Bool, true, false, _&&_}
-use mathlib.Core.List.{List, _++_}
+use mathlib.Core.List.{List, [], _∷_, _++_}
+use lib.Bits.{bitAnd}
 use lib.Dec.{T, eqb, leb, ltb, leb→le}
-use lib.ListN.{length, drop, length-append, length-drop, length-replicate}
-use borrow.Author.Tests.{eqb-true, leb-true, ltb-true, ltb-false, lt-leb, ne-eqb}
-use Rattle.spec.specs.Lists.{if}
-use Rattle.spec.specs.Opcodes.{Row, unknown, row}
+use lib.ListN.{getD, drop}
+use borrow.Author.Tests.{leb-true, ltb-true, ltb-false, lt-leb, ne-eqb}
+use Rattle.spec.specs.Lists.{if, within, mem}
+use Rattle.spec.specs.Opcodes.{unknown, row}
 use Rattle.spec.specs.Walk.{Ins}
-use Rattle.spec.specs.Stacks.{Stack, span, act, Does, pushes-value, pushes-pc, dups, swaps, ands, adds, jumps, jumpis, lands, halts, plain, does}
-use Rattle.spec.specs.Meaning.{words, supplied, takes, does-to}
+use Rattle.spec.specs.Stacks.{Does, pushes-value, pushes-pc, dups, swaps, ands, adds, jumps, jumpis, lands, halts, plain, does}
+use Rattle.spec.specs.Meaning.{supplied, exchanged, yields, jumping, closing}
 use Rattle.theorems.proofs.Branch.{and-false}
-use Rattle.theorems.proofs.Members.{and-both}
-
--- the words that an instruction gives
-abbrev pub gives : Ins → Does → ℕ
-gives i pushes-value = 1
-gives i pushes-pc = 1
-gives i (dups n) = suc (suc n)
-gives i (swaps n) = suc (suc n)
-gives i ands = 1
-gives i adds = 1
-gives i jumps = 0
-gives i jumpis = 0
-gives i lands = 0
-gives i halts = row (i .op) .given
-gives i plain = row (i .op) .given
-
--- ---- one test at each byte
-
--- the test passes at every number below n
-abbrev below : (ℕ → Bool) → ℕ → Bool
-below f zero = true
-below f (suc n) = f n && below f n
-
-below-at : (f : ℕ → Bool) (n k : ℕ) → below f n ≡ true → k < n → f k ≡ true
-below-at f zero k e h = absurd (omega arith)
-below-at f (suc n) k e h = split (eq-or-lt-of-le {n = k} {m = n} (omega arith)) (below-at f n k (and-both (f n) (below f n) e .1))
-  where
-    split : (k ≡ n) ⊎ (k < n) → (k < n → f k ≡ true) → f k ≡ true
-    split (inl q) on = ap f q ∙ and-both (f n) (below f n) e .0
-    split (inr q) on = on q
-
--- the numbers of the byte b, as an instruction, are its row's
-abbrev fits : Ins → ℕ → Bool
-fits i b =
-    let j : Ins = record { pc = i .pc; op = b; arg = i .arg } in
-    eqb (takes j (does b)) (row b .taken) && (eqb (gives j (does b)) (row b .given) && leb (row b .taken) 17)
-
-all-fit : (i : Ins) → below (fits i) 256 ≡ true
-unfolding does row if
-all-fit i = refl
-
--- The words that the instruction takes and gives are its row's, and it takes at most 17.
-pub record Counted (i : Ins) : Type 0 where
-  pub taken : takes i (does (i .op)) ≡ row (i .op) .taken
-  pub given : gives i (does (i .op)) ≡ row (i .op) .given
-  pub few : row (i .op) .taken ≤ 17
-
-byte-counted : (i : Ins) → i .op < 256 → Counted i
-byte-counted i h =
-    let t = and-both _ _ (below-at (fits i) 256 (i .op) (all-fit i) h) in
-    let u = and-both (eqb (gives i (does (i .op))) (row (i .op) .given)) _ (t .1) in
-    record { taken = eqb-true _ _ (t .0); given = eqb-true _ _ (u .0); few = leb-true _ _ (u .1) }
 
 -- ---- a number past 255, which is no byte, is plain and unknown
 
@@ -89,70 +38,147 @@ module _ (b : ℕ) (past : 255 < b) where
   unfolding row if
   past-unknown = simp (above, and-off, tt {0})
 
--- ---- every instruction
+-- ---- two functions are the same at every number: at the bytes the two lists of their values are one, and past them
 
-pub counted : (i : Ins) → Counted i
-counted i = split (ltb (i .op) 256) refl
-  where
-    split : (t : Bool) → ltb (i .op) 256 ≡ t → Counted i
-    split true e = byte-counted i (ltb-true _ _ e)
-    split false e =
-        let h = ltb-false _ _ e in
-        let p = past-plain (i .op) h in
-        record { taken = rw p; given = rw p; few = rw (past-unknown (i .op) h) (omega arith) }
+module _ {A : Type 0} where
+  -- the values at the numbers below n
+  abbrev values : (ℕ → A) → ℕ → List A
+  values f zero = []
+  values f (suc n) = f n ∷ values f n
 
-length-words : (st : List ℕ) (i n : ℕ) → length (words st i n) ≡ n
-length-words st i zero = refl
-length-words st i (suc n) = ap suc (length-words st (suc i) n)
+  value-at : (f g : ℕ → A) (n k : ℕ) → values f n ≡ values g n → k < n → f k ≡ g k
+  value-at f g zero k e h = absurd (omega arith)
+  value-at f g (suc n) k e h = split (eq-or-lt-of-le {n = k} {m = n} (omega arith)) (value-at f g n k (cc))
+    where
+      first : f n ≡ g n
+      first = cc
 
-length-supplied : (f : ℕ → ℕ) (n : ℕ) → length (supplied f n) ≡ n
-length-supplied f zero = refl
-length-supplied f (suc n) = ap suc (length-supplied f n)
+      split : (k ≡ n) ⊎ (k < n) → (k < n → f k ≡ g k) → f k ≡ g k
+      split (inl q) on = rw q first
+      split (inr q) on = on q
 
-length-trade : (f : ℕ → ℕ) (g t : ℕ) (st : List ℕ) → length (supplied f g ++ drop t st) ≡ length st - t + g
-length-trade f g t st = simp (length-append, length-supplied, length-drop) (omega arith)
+  everywhere : (f g : ℕ → A) → values f 256 ≡ values g 256 → ((b : ℕ) → 255 < b → f b ≡ g b) → (b : ℕ) → f b ≡ g b
+  everywhere f g e past b = split (ltb b 256) refl
+    where
+      split : (t : Bool) → ltb b 256 ≡ t → f b ≡ g b
+      split true q = value-at f g 256 b e (ltb-true _ _ q)
+      split false q = past b (ltb-false _ _ q)
 
-pub length-does : (supply : ℕ → ℕ → ℕ) (i : Ins) (d : Does) (st : List ℕ) → takes i d ≤ length st
-    → length (does-to supply i d st) ≡ length st - takes i d + gives i d
-unfolding does-to
-length-does supply i pushes-value st h = omega arith
-length-does supply i pushes-pc st h = omega arith
-length-does supply i (dups n) st h = omega arith
-length-does supply i (swaps n) st h = simp (length-append, length-words, length-drop) (omega arith)
-length-does supply i ands st h = omega (arith, length-drop 2 st)
-length-does supply i adds st h = omega (arith, length-drop 2 st)
-length-does supply i jumps st h = omega (arith, length-drop 1 st)
-length-does supply i jumpis st h = omega (arith, length-drop 2 st)
-length-does supply i lands st h = omega arith
-length-does supply i halts st h = length-trade (supply (i .pc)) (row (i .op) .given) (row (i .op) .taken) st
-length-does supply i plain st h = length-trade (supply (i .pc)) (row (i .op) .given) (row (i .op) .taken) st
+-- ---- the words that an instruction takes and gives
 
--- The words that YP's instruction takes are those of the row.
-pub takes-row : (i : Ins) → takes i (does (i .op)) ≡ row (i .op) .taken
-takes-row i = counted i .taken
+-- by what it does; those of a plain byte b are the row's
+abbrev pub takes : ℕ → Does → ℕ
+takes b pushes-value = 0
+takes b pushes-pc = 0
+takes b (dups n) = suc n
+takes b (swaps n) = suc (suc n)
+takes b ands = 2
+takes b adds = 2
+takes b jumps = 1
+takes b jumpis = 2
+takes b lands = 0
+takes b halts = row b .taken
+takes b plain = row b .taken
 
--- It leaves the others, and those that the row gives.
-pub leaves : (supply : ℕ → ℕ → ℕ) (i : Ins) (st : List ℕ) → row (i .op) .taken ≤ length st
-    → length (does-to supply i (does (i .op)) st) ≡ length st - row (i .op) .taken + row (i .op) .given
-leaves supply i st h = let c = counted i in omega (arith, length-does supply i (does (i .op)) st (omega arith))
+abbrev pub gives : ℕ → Does → ℕ
+gives b pushes-value = 1
+gives b pushes-pc = 1
+gives b (dups n) = suc (suc n)
+gives b (swaps n) = suc (suc n)
+gives b ands = 1
+gives b adds = 1
+gives b jumps = 0
+gives b jumpis = 0
+gives b lands = 0
+gives b halts = row b .given
+gives b plain = row b .given
 
--- ---- the symbols' stack grows and shrinks by the same numbers
+pub takes-row : (b : ℕ) → takes b (does b) ≡ row b .taken
+unfolding does row if
+takes-row = everywhere (λ b. takes b (does b)) (λ b. row b .taken) refl (λ b h. rw (past-plain b h))
 
-length-span : (s : Stack) (i n : ℕ) → length (span s i n) ≡ n
-length-span s i zero = refl
-length-span s i (suc n) = ap suc (length-span s (suc i) n)
+pub gives-row : (b : ℕ) → gives b (does b) ≡ row b .given
+unfolding does row if
+gives-row = everywhere (λ b. gives b (does b)) (λ b. row b .given) refl (λ b h. rw (past-plain b h))
 
-pub height-act : (code : List ℕ) (i : Ins) (d : Does) (s : Stack)
-    → length (act code i d s .above) + s .base + takes i d ≡ length (s .above) + act code i d s .base + gives i d
-unfolding act
-height-act code i pushes-value s = omega arith
-height-act code i pushes-pc s = omega arith
-height-act code i (dups n) s = omega arith
-height-act code i (swaps n) s = simp (length-append, length-span, length-drop) (omega arith)
-height-act code i ands s = omega (arith, length-drop 2 (s .above))
-height-act code i adds s = omega (arith, length-drop 2 (s .above))
-height-act code i jumps s = omega (arith, length-drop 1 (s .above))
-height-act code i jumpis s = omega (arith, length-drop 2 (s .above))
-height-act code i lands s = omega arith
-height-act code i halts s = simp (length-append, length-replicate, length-drop) (omega arith)
-height-act code i plain s = simp (length-append, length-replicate, length-drop) (omega arith)
+few-test : (b : ℕ) → leb (row b .taken) 17 ≡ true
+unfolding row if
+few-test = everywhere (λ b. leb (row b .taken) 17) (λ _. true) refl (λ b h. rw (past-unknown b h))
+
+-- None takes more than 17.
+pub few : (b : ℕ) → row b .taken ≤ 17
+few b = leb-true _ _ (few-test b)
+
+-- ---- YP's step
+
+-- by what the instruction does; f are the words supplied to this one
+unfoldable pub does-to : (ℕ → ℕ) → Ins → Does → List ℕ → List ℕ
+does-to f i pushes-value st = i .arg ∷ st
+does-to f i pushes-pc st = i .pc ∷ st
+does-to f i (dups n) st = getD st n 0 ∷ st
+does-to f i (swaps n) st = exchanged (suc n) st
+does-to f i ands st = bitAnd (getD st 0 0) (getD st 1 0) ∷ drop 2 st
+does-to f i adds st = ((getD st 0 0 + getD st 1 0) % 2 ^ 256) ∷ drop 2 st
+does-to f i jumps st = drop 1 st
+does-to f i jumpis st = drop 2 st
+does-to f i lands st = st
+does-to f i halts st = supplied f (row (i .op) .given) ++ drop (row (i .op) .taken) st
+does-to f i plain st = supplied f (row (i .op) .given) ++ drop (row (i .op) .taken) st
+
+-- a PUSH's word is its argument, also where the symbol is an Other
+abbrev pub told : (ℕ → ℕ → ℕ) → Ins → ℕ → ℕ
+told supply i n = if (within 0x5F 0x7F (i .op)) (i .arg) (supply (i .pc) n)
+
+-- the instruction with the byte b
+abbrev with-byte : Ins → ℕ → Ins
+with-byte i b = record { pc = i .pc; op = b; arg = i .arg }
+
+pub yields-does : (supply : ℕ → ℕ → ℕ) (i : Ins) (st : List ℕ) → yields supply i st ≡ does-to (told supply i) i (does (i .op)) st
+unfolding yields does-to does row if
+yields-does supply i st =
+    everywhere (λ b. yields supply (with-byte i b) st) (λ b. does-to (told supply (with-byte i b)) (with-byte i b) (does b) st) refl
+    (λ b h. simp (differs b h, above b h, and-off, tt {0})) (i .op)
+
+-- ---- where a run ends, and where the mask rule may be used
+
+-- the cases, numbered
+abbrev case : Does → ℕ
+case pushes-value = 0
+case pushes-pc = 1
+case (dups n) = 2
+case (swaps n) = 3
+case ands = 4
+case adds = 5
+case jumps = 6
+case jumpis = 7
+case lands = 8
+case halts = 9
+case plain = 10
+
+abbrev pub jumps? : Does → Bool
+jumps? d = mem (case d) (6 ∷ 7 ∷ [])
+
+abbrev pub closes? : Does → Bool
+closes? d = mem (case d) (6 ∷ 7 ∷ 9 ∷ [])
+
+abbrev pub lands? : Does → Bool
+lands? d = eqb (case d) 8
+
+abbrev pub ands? : Does → Bool
+ands? d = eqb (case d) 4
+
+pub jumping-does : (b : ℕ) → jumping b ≡ jumps? (does b)
+unfolding does jumping if
+jumping-does = everywhere jumping (λ b. jumps? (does b)) refl (λ b h. simp (differs b h, above b h, and-off, tt {0}))
+
+pub closing-does : (b : ℕ) → closing b ≡ closes? (does b)
+unfolding does closing if
+closing-does = everywhere closing (λ b. closes? (does b)) refl (λ b h. simp (differs b h, above b h, and-off, tt {0}))
+
+pub landing-does : (b : ℕ) → eqb b 0x5B ≡ lands? (does b)
+unfolding does if
+landing-does = everywhere (λ b. eqb b 0x5B) (λ b. lands? (does b)) refl (λ b h. simp (differs b h, above b h, and-off, tt {0}))
+
+pub anding-does : (b : ℕ) → eqb b 0x16 ≡ ands? (does b)
+unfolding does if
+anding-does = everywhere (λ b. eqb b 0x16) (λ b. ands? (does b)) refl (λ b h. simp (differs b h, above b h, and-off, tt {0}))

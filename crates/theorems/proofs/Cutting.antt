@@ -7,16 +7,16 @@ use mathlib.Core.Bool.{Bool, true, false, _||_}
 use mathlib.Core.List.{List, [], _∷_, map}
 use mathlib.Core.Option.{Option, none}
 use lib.Dec.{eqb, leb}
-use lib.ListN.{length}
+use lib.ListN.{length, drop}
 use borrow.Author.Tests.{eqb-true, eqb-false, leb-true, leb-false}
 use Rattle.spec.specs.Lists.{if, mem}
-use Rattle.spec.specs.Opcodes.{Row, argument, row}
-use Rattle.spec.specs.Walk.{Ins, instructions}
+use Rattle.spec.specs.Opcodes.{argument, row}
+use Rattle.spec.specs.Walk.{Ins, walk, instructions, from}
 use Rattle.spec.specs.Blocks.{Kind, Block, block, with-kind, Mode, opened, waiting, pushed, Cut, JUMPDEST, JUMPI, JUMP, UNKNOWN, OTHER, ENDS, cut, closes, cuts, checked, starts, check-all, blocks}
 use Rattle.theorems.proofs.Branch.{both}
 use Rattle.theorems.proofs.Lists.{Rising, none-left, one-more, rising-from}
 use Rattle.theorems.proofs.Members.{In, here, there}
-use Rattle.theorems.proofs.Walking.{Stands, Walked, stops, steps, walked}
+use Rattle.theorems.proofs.Walking.{Walked, stops, steps, walks-from, walked, walked-once, from-here, from-in, from-behind}
 
 -- ---- what is proved
 
@@ -157,6 +157,24 @@ rise (then {b} l m r) = one-more l (rising-from (omega arith) (rise r))
 -- "`id` equals `start`; that is proved." And the rest of what is said above.
 pub made : (code : List ℕ) {b : Block} → In b (blocks code (instructions code)) → Made code b
 made code = made-in (ordered code)
+
+-- the walk of a place where a block may begin
+begins-walk : (code : List ℕ) {start : ℕ} → Begins (instructions code) start → Walked code start (from start (instructions code))
+begins-walk code at-zero = from-here (walked code)
+begins-walk code (at-jumpdest n e) = from-in (walked code) n
+begins-walk code (past-jumpi {i} n e) =
+    let w = from-behind (walked code) n in
+    let one : i .pc + suc (argument (i .op)) ≡ i .pc + 1 = omega (arith, jumpi-alone, ap argument e) in
+    rw one at w
+
+-- The walk of the whole code, from a block's start on, is a walk from there ..
+pub block-walk : (code : List ℕ) {b : Block} → In b (blocks code (instructions code)) → Walked code (b .start) (from (b .start) (instructions code))
+block-walk code n = begins-walk code (made code n .begins)
+
+-- .. and so what `iterate_code(code, start, None)` gives, which walks afresh.
+pub block-afresh : (code : List ℕ) {b : Block} → In b (blocks code (instructions code))
+    → from (b .start) (instructions code) ≡ walk (drop (b .start) code) (b .start) 0
+block-afresh code {b} n = walked-once (block-walk code n) (walks-from code (b .start))
 
 -- Starts rise, so no start stands twice.
 pub starts-rise : (code : List ℕ) → Rising 0 (starts (blocks code (instructions code)))

@@ -1,11 +1,11 @@
 -- The Rust's stack is a list whose bottom must be a Before; get_stack and resolve_with_parent panic where it is not. On the stored form of a stack they
 -- never do, and are `read` and `compose`. Assumes nothing.
-use Prim.Native.Nat.{ℕ, zero, suc, _+_, _-_, _≤_, _<_}
+use Prim.Native.Nat.{ℕ, zero, suc, _+_, _-_}
 use native.Mathlib.Omega.{arith}
 use native.Mathlib.Nat.{zero-sub, suc-sub-suc, add-zero, sub-zero}
 use mathlib.Core.Path.{_≡_, refl, sym, ap, ap₂, _∙_}
 use mathlib.Core.Option.{Option, none, some}
-use mathlib.Core.List.{List, [], _∷_, _++_, map, append-assoc}
+use mathlib.Core.List.{List, [], _∷_, _++_, map}
 use lib.ListN.{length, drop}
 use lib.Seq.{drop-nil}
 use Rattle.spec.specs.Stacks.{Sym, before, constant, jumpdest, other, Stack, cells, reads, read, through, compose}
@@ -116,7 +116,7 @@ resolves-stored p [] deeper = refl
 resolves-stored p (x ∷ xs) deeper = ap₂ cons (resolved-through p x) (resolves-stored p xs deeper)
 
 -- from the parent's position b down: its symbol there, and what lies deeper
-from-depth : (b : ℕ) (base : ℕ) (xs : List Sym) → reads xs base b ∷ drop (suc b) (xs ++ before base ∷ []) ≡ drop b xs ++ before (base + (b - length xs)) ∷ []
+pub from-depth : (b : ℕ) (base : ℕ) (xs : List Sym) → reads xs base b ∷ drop (suc b) (xs ++ before base ∷ []) ≡ drop b xs ++ before (base + (b - length xs)) ∷ []
 from-depth b base [] = rw drop-nil (ap (λ (n : ℕ). before (base + n) ∷ []) (sym (sub-zero b)))
 from-depth zero base (x ∷ xs) = rw zero-sub (ap (λ (n : ℕ). x ∷ xs ++ before n ∷ []) (sym (add-zero base)))
 from-depth (suc b) base (x ∷ xs) = rw suc-sub-suc (from-depth b base xs)

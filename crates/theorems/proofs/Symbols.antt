@@ -1,77 +1,26 @@
--- The symbols stay true: one instruction. Assumes nothing.
+-- Document 01, "Stacks": "Meaning to prove", of one instruction: symbols that are true of the words before it are so after it. Assumes nothing.
 use Prim.Native.Nat.{ℕ, zero, suc, _+_, _-_, _^_, _%_, _<_, _≤_}
 use native.Mathlib.Omega.{arith}
 use native.Mathlib.Bridge.{le-by-compare, IsLe}
 use native.Mathlib.Nat.{mod-eq-of-lt, le-trans}
-use mathlib.Core.Path.{_≡_, refl, sym, ap, subst, _∙_}
-use mathlib.Core.Bool.{Bool, true, false}
+use mathlib.Core.Path.{_≡_, refl, sym, ap, _∙_}
+use mathlib.Core.Bool.{true}
 use mathlib.Core.Option.{Option, none, some}
-use mathlib.Core.List.{List, [], _∷_, _++_}
+use mathlib.Core.List.{List, [], _∷_, _++_, append-assoc}
 use lib.Bits.{bitAnd, and-mask, and-comm}
 use lib.Dec.{eqb, ltb}
-use lib.ListN.{length, getD, drop, replicate, length-drop, length-append}
-use lib.Seq.{getD-drop}
+use lib.ListN.{length, getD, take, drop, set, replicate, length-append, length-drop, length-replicate, length-set}
+use lib.Seq.{drop-cons, getD-drop, set-split}
 use borrow.Author.Tests.{eqb-true, ltb-true}
-use Rattle.spec.specs.Lists.{if}
+use Rattle.spec.specs.Opcodes.{row}
 use Rattle.spec.specs.Walk.{Ins}
-use Rattle.spec.specs.Opcodes.{Row, row}
-use Rattle.spec.specs.Stacks.{Sym, before, constant, jumpdest, other, Stack, reads, read, pops, push, pushes, span, from-value, known-value, mask, is, anded, summed, swap, trade, Does, pushes-value, pushes-pc, dups, swaps, ands, adds, jumps, jumpis, lands, halts, plain, act}
-use Rattle.spec.specs.Meaning.{words, supplied, takes, does-to, Means, True, Small, MaskOk}
+use Rattle.spec.specs.Stacks.{Sym, before, constant, jumpdest, other, Stack, read, pops, push, pushes, span, from-value, known-value, mask, is, anded, summed, swap, trade, Does, pushes-value, pushes-pc, dups, swaps, ands, adds, jumps, jumpis, lands, halts, plain, does, act}
+use Rattle.spec.specs.Meaning.{supplied, exchanged, yields, Means, Tells, Holds, Deep, Small, Masked}
 use Rattle.theorems.proofs.Branch.{both}
+use Rattle.theorems.proofs.Counts.{takes, gives, takes-row, gives-row, does-to, told, yields-does, ands?, anding-does}
 use Rattle.theorems.proofs.Composing.{reads-drop}
 
-true-push : (entry : List ℕ) (x : Sym) (w : ℕ) (s : Stack) (st : List ℕ) → Means entry x w → True entry s st → True entry (push x s) (w ∷ st)
-unfolding read
-true-push entry x w s st m h = record { at = elim [ zero ↦ λ _. m | suc n ↦ λ l. h .at n (omega arith) ] }
-
-true-pops : (entry : List ℕ) (k : ℕ) (s : Stack) (st : List ℕ) → True entry s st → True entry (pops k s) (drop k st)
-unfolding read
-true-pops entry k s st h = record { at = λ n l. rw (reads-drop (s .above) (s .base) k n, getD-drop k st n 0) (h .at (k + n) (omega (arith, length-drop k st))) }
-
--- symbols and words side by side
-data Side (entry : List ℕ) : List Sym → List ℕ → Type 0 where
-  none-left : Side entry [] []
-  one-more : {x : Sym} {w : ℕ} {xs : List Sym} {ws : List ℕ} → Means entry x w → Side entry xs ws → Side entry (x ∷ xs) (w ∷ ws)
-
-true-pushes : (entry : List ℕ) {xs : List Sym} {ws : List ℕ} → Side entry xs ws → (s : Stack) (st : List ℕ) → True entry s st → True entry (pushes xs s) (ws ++ st)
-true-pushes entry none-left s st h = h
-true-pushes entry (one-more m r) s st h = true-push entry _ _ _ _ m (true-pushes entry r s st h)
-
-side-span : (entry : List ℕ) (s : Stack) (st : List ℕ) → True entry s st → (i n : ℕ) → i + n ≤ length st → Side entry (span s i n) (words st i n)
-side-span entry s st h i zero l = none-left
-side-span entry s st h i (suc n) l = one-more (h .at i (omega arith)) (side-span entry s st h (suc i) n (omega arith))
-
-side-supplied : (entry : List ℕ) (pc : ℕ) (f : ℕ → ℕ) (n : ℕ) → Side entry (replicate n (other pc)) (supplied f n)
-side-supplied entry pc f zero = none-left
-side-supplied entry pc f (suc n) = one-more tt (side-supplied entry pc f n)
-
-side-snoc : (entry : List ℕ) {xs : List Sym} {ws : List ℕ} → Side entry xs ws → (x : Sym) (w : ℕ) → Means entry x w → Side entry (xs ++ (x ∷ [])) (ws ++ (w ∷ []))
-side-snoc entry none-left x w m = one-more m none-left
-side-snoc entry (one-more k r) x w m = one-more k (side-snoc entry r x w m)
-
-means-from-value : (entry code : List ℕ) (v : ℕ) → Means entry (from-value code v) v
-means-from-value entry code v = both (λ (x : Sym). Means entry x v) (eqb (getD code v 0) 0x5B) (λ _. refl) (λ _. refl)
-
-means-known : (entry : List ℕ) (x : Sym) (w v : ℕ) → Means entry x w → known-value x ≡ some v → w ≡ v
-means-known entry (before n) w v m e = cc
-means-known entry (constant u) w v m e = cc
-means-known entry (jumpdest u) w v m e = cc
-means-known entry (other u) w v m e = cc
-
-word-wide : 2 ^ 64 ≤ 2 ^ 256
-unfolding IsLe
-word-wide = le-by-compare (2 ^ 64) (2 ^ 256) tt
-
-means-summed : (entry code : List ℕ) (pc : ℕ) (a b : Sym) (u w : ℕ) → Means entry a u → Means entry b w
-    → (p q : Option ℕ) → known-value a ≡ p → known-value b ≡ q → Means entry (summed code pc p q) ((u + w) % 2 ^ 256)
-means-summed entry code pc a b u w m k none none e f = tt
-means-summed entry code pc a b u w m k none (some y) e f = tt
-means-summed entry code pc a b u w m k (some x) none e f = tt
-means-summed entry code pc a b u w m k (some x) (some y) e f =
-    both (λ (z : Sym). Means entry z ((u + w) % 2 ^ 256)) (ltb (x + y) (2 ^ 64))
-    (λ on. let fits : x + y < 2 ^ 256 = le-trans (ltb-true (x + y) (2 ^ 64) on) word-wide in
-    rw (means-known entry a u x m e, means-known entry b w y k f, mod-eq-of-lt fits) (means-from-value entry code (x + y)))
-    (λ _. tt)
+-- ---- words that AND and ADD make
 
 is-known : (n : ℕ) (o : Option ℕ) → is n o ≡ true → o ≡ some n
 is-known n none e = cc
@@ -80,38 +29,174 @@ is-known n (some m) e = ap some (sym (eqb-true n m e))
 masked : (w : ℕ) → w < 2 ^ 32 → bitAnd w mask ≡ w
 masked w l = and-mask w 32 ∙ mod-eq-of-lt l
 
-means-anded : (entry : List ℕ) (pc : ℕ) (s : Stack) (st : List ℕ) → Small s st → Means entry (read s 0) (getD st 0 0) → Means entry (read s 1) (getD st 1 0)
-    → Means entry (anded pc (read s 0) (read s 1)) (bitAnd (getD st 0 0) (getD st 1 0))
-means-anded entry pc s st small m k =
-    both (λ (z : Sym). Means entry z (bitAnd (getD st 0 0) (getD st 1 0))) (is mask (known-value (read s 0)))
-    (λ on. rw (means-known entry (read s 0) _ mask m (is-known mask _ on), and-comm mask, masked (getD st 1 0) (small .top on)) k)
-    (λ off. both (λ (z : Sym). Means entry z (bitAnd (getD st 0 0) (getD st 1 0))) (is mask (known-value (read s 1)))
-    (λ on. rw (means-known entry (read s 1) _ mask k (is-known mask _ on), masked (getD st 0 0) (small .next off on)) m)
-    (λ _. tt))
+word-wide : 2 ^ 64 ≤ 2 ^ 256
+unfolding IsLe
+word-wide = le-by-compare (2 ^ 64) (2 ^ 256) tt
 
-true-trade : (entry : List ℕ) (supply : ℕ → ℕ → ℕ) (i : Ins) (s : Stack) (st : List ℕ) → True entry s st
-    → True entry (trade i s) (supplied (supply (i .pc)) (row (i .op) .given) ++ drop (row (i .op) .taken) st)
-true-trade entry supply i s st h =
-    true-pushes entry (side-supplied entry (i .pc) (supply (i .pc)) (row (i .op) .given)) (pops (row (i .op) .taken) s) (drop (row (i .op) .taken) st)
-    (true-pops entry (row (i .op) .taken) s st h)
+-- a list with a at the top and b at the place n + 1: those two, and what lies between and below
+pub changed : {A : Type 0} (n : ℕ) (xs : List A) (a b : A) → suc n < length xs
+    → set (set xs 0 a) (suc n) b ≡ (a ∷ take n (drop 1 xs) ++ (b ∷ [])) ++ drop (suc (suc n)) xs
+changed n [] a b l = absurd (omega arith)
+changed n (x ∷ xs) a b l = let h : n < length xs = omega arith in rw (set-split xs n b, append-assoc)
 
--- One instruction leaves true symbols true.
-pub true-act : (entry code : List ℕ) (supply : ℕ → ℕ → ℕ) (i : Ins) (d : Does) (s : Stack) (st : List ℕ) → True entry s st
-    → takes i d ≤ length st → MaskOk d s st → True entry (act code i d s) (does-to supply i d st)
-unfolding act does-to
-true-act entry code supply i pushes-value s st h l o = true-push entry _ _ s st (means-from-value entry code (i .arg)) h
-true-act entry code supply i pushes-pc s st h l o = true-push entry _ _ s st (means-from-value entry code (i .pc)) h
-true-act entry code supply i (dups n) s st h l o = true-push entry _ _ s st (h .at n l) h
-true-act entry code supply i (swaps n) s st h l o =
-    true-pushes entry (one-more (h .at (suc n) l) (side-snoc entry (side-span entry s st h 1 n (omega arith)) _ _ (h .at 0 (omega arith)))) (pops (suc (suc n)) s) (drop (suc (suc n)) st)
-    (true-pops entry (suc (suc n)) s st h)
-true-act entry code supply i ands s st h l o =
-    true-push entry _ _ (pops 2 s) (drop 2 st) (means-anded entry (i .pc) s st o (h .at 0 (omega arith)) (h .at 1 l)) (true-pops entry 2 s st h)
-true-act entry code supply i adds s st h l o =
-    true-push entry _ _ (pops 2 s) (drop 2 st)
-    (means-summed entry code (i .pc) (read s 0) (read s 1) (getD st 0 0) (getD st 1 0) (h .at 0 (omega arith)) (h .at 1 l) _ _ refl refl) (true-pops entry 2 s st h)
-true-act entry code supply i jumps s st h l o = true-pops entry 1 s st h
-true-act entry code supply i jumpis s st h l o = true-pops entry 2 s st h
-true-act entry code supply i lands s st h l o = h
-true-act entry code supply i halts s st h l o = true-trade entry supply i s st h
-true-act entry code supply i plain s st h l o = true-trade entry supply i s st h
+-- ws stood on entry
+module _ (ws : List ℕ) where
+  -- ---- words put on and taken off
+
+  tells-push : {x : Sym} {w : ℕ} {s : Stack} {st : List ℕ} → Means ws x w → Tells ws s st → Tells ws (push x s) (w ∷ st)
+  unfolding read
+  tells-push m h = record { at = elim [ zero ↦ λ _. m | suc n ↦ λ l. h .at n (omega arith) ] }
+
+  tells-pops : (k : ℕ) {s : Stack} {st : List ℕ} → Tells ws s st → Tells ws (pops k s) (drop k st)
+  unfolding read
+  tells-pops k {s} {st} h =
+      record { at = λ n l. rw (reads-drop (s .above) (s .base) k n, getD-drop k st n 0) (h .at (k + n) (omega (arith, length-drop k st))) }
+
+  -- symbols and words side by side
+  data Side : List Sym → List ℕ → Type 0 where
+    none-left : Side [] []
+    one-more : {x : Sym} {w : ℕ} {xs : List Sym} {vs : List ℕ} → Means ws x w → Side xs vs → Side (x ∷ xs) (w ∷ vs)
+
+  tells-pushes : {xs : List Sym} {vs : List ℕ} → Side xs vs → {s : Stack} {st : List ℕ} → Tells ws s st → Tells ws (pushes xs s) (vs ++ st)
+  tells-pushes none-left h = h
+  tells-pushes (one-more m r) h = tells-push m (tells-pushes r h)
+
+  side-span : {s : Stack} {st : List ℕ} → Tells ws s st → (i n : ℕ) → i + n ≤ length st → Side (span s i n) (take n (drop i st))
+  side-span h i zero l = none-left
+  side-span {st} h i (suc n) l =
+      let here : i < length st = omega arith in
+      rw (drop-cons st i 0) (one-more (h .at i here) (side-span h (suc i) n (omega arith)))
+
+  side-supplied : (pc : ℕ) (f : ℕ → ℕ) (n : ℕ) → Side (replicate n (other pc)) (supplied f n)
+  side-supplied pc f zero = none-left
+  side-supplied pc f (suc n) = one-more tt (side-supplied pc f n)
+
+  side-append : {xs ys : List Sym} {vs us : List ℕ} → Side xs vs → Side ys us → Side (xs ++ ys) (vs ++ us)
+  side-append none-left k = k
+  side-append (one-more m r) k = one-more m (side-append r k)
+
+  tells-trade : (f : ℕ → ℕ) (i : Ins) {s : Stack} {st : List ℕ} → Tells ws s st
+      → Tells ws (trade i s) (supplied f (row (i .op) .given) ++ drop (row (i .op) .taken) st)
+  tells-trade f i h = tells-pushes (side-supplied (i .pc) f (row (i .op) .given)) (tells-pops (row (i .op) .taken) h)
+
+  tells-swap : (n : ℕ) {s : Stack} {st : List ℕ} → suc n < length st → Tells ws s st → Tells ws (swap n s) (exchanged (suc n) st)
+  tells-swap n {st} l h =
+      let between = side-span h 1 n (omega arith) in
+      let top = one-more (h .at 0 (omega arith)) none-left in
+      rw (changed n st (getD st (suc n) 0) (getD st 0 0) l) (tells-pushes (one-more (h .at (suc n) l) (side-append between top)) (tells-pops (suc (suc n)) h))
+
+  -- ---- what is known of a word
+
+  means-from-value : (code : List ℕ) (v : ℕ) → Means ws (from-value code v) v
+  means-from-value code v = both (λ (x : Sym). Means ws x v) (eqb (getD code v 0) 0x5B) (λ _. refl) (λ _. refl)
+
+  means-known : (x : Sym) (w v : ℕ) → Means ws x w → known-value x ≡ some v → w ≡ v
+  means-known (before n) w v m e = cc
+  means-known (constant u) w v m e = cc
+  means-known (jumpdest u) w v m e = cc
+  means-known (other u) w v m e = cc
+
+  means-summed : (code : List ℕ) (pc : ℕ) (a b : Sym) (u w : ℕ) → Means ws a u → Means ws b w
+      → (p q : Option ℕ) → known-value a ≡ p → known-value b ≡ q → Means ws (summed code pc p q) ((u + w) % 2 ^ 256)
+  means-summed code pc a b u w m k none none e f = tt
+  means-summed code pc a b u w m k none (some y) e f = tt
+  means-summed code pc a b u w m k (some x) none e f = tt
+  means-summed code pc a b u w m k (some x) (some y) e f =
+      both (λ (z : Sym). Means ws z ((u + w) % 2 ^ 256)) (ltb (x + y) (2 ^ 64))
+      (λ on. let fits : x + y < 2 ^ 256 = le-trans (ltb-true (x + y) (2 ^ 64) on) word-wide in
+      rw (means-known a u x m e, means-known b w y k f, mod-eq-of-lt fits) (means-from-value code (x + y)))
+      (λ _. tt)
+
+  means-anded : (pc : ℕ) (s : Stack) (st : List ℕ) → Small s st → Means ws (read s 0) (getD st 0 0) → Means ws (read s 1) (getD st 1 0)
+      → Means ws (anded pc (read s 0) (read s 1)) (bitAnd (getD st 0 0) (getD st 1 0))
+  means-anded pc s st small m k =
+      both (λ (z : Sym). Means ws z (bitAnd (getD st 0 0) (getD st 1 0))) (is mask (known-value (read s 0)))
+      (λ on. rw (means-known (read s 0) _ mask m (is-known mask _ on), and-comm mask, masked (getD st 1 0) (small .top on)) k)
+      (λ off. both (λ (z : Sym). Means ws z (bitAnd (getD st 0 0) (getD st 1 0))) (is mask (known-value (read s 1)))
+      (λ on. rw (means-known (read s 1) _ mask k (is-known mask _ on), masked (getD st 0 0) (small .next off on)) m)
+      (λ _. tt))
+
+  -- ---- the instruction, by what it does
+
+  tells-act : (code : List ℕ) (f : ℕ → ℕ) (i : Ins) (d : Does) {s : Stack} {st : List ℕ} → Tells ws s st
+      → takes (i .op) d ≤ length st → (ands? d ≡ true → Small s st) → Tells ws (act code i d s) (does-to f i d st)
+  unfolding act does-to
+  tells-act code f i pushes-value h l o = tells-push (means-from-value code (i .arg)) h
+  tells-act code f i pushes-pc h l o = tells-push (means-from-value code (i .pc)) h
+  tells-act code f i (dups n) h l o = tells-push (h .at n l) h
+  tells-act code f i (swaps n) h l o = tells-swap n l h
+  tells-act code f i ands {s} {st} h l o = tells-push (means-anded (i .pc) s st (o refl) (h .at 0 (omega arith)) (h .at 1 l)) (tells-pops 2 h)
+  tells-act code f i adds {s} {st} h l o =
+      tells-push (means-summed code (i .pc) (read s 0) (read s 1) (getD st 0 0) (getD st 1 0) (h .at 0 (omega arith)) (h .at 1 l) _ _ refl refl)
+      (tells-pops 2 h)
+  tells-act code f i jumps h l o = tells-pops 1 h
+  tells-act code f i jumpis h l o = tells-pops 2 h
+  tells-act code f i lands h l o = h
+  tells-act code f i halts h l o = tells-trade f i h
+  tells-act code f i plain h l o = tells-trade f i h
+
+-- ---- the number of words
+
+length-supplied : (f : ℕ → ℕ) (n : ℕ) → length (supplied f n) ≡ n
+length-supplied f zero = refl
+length-supplied f (suc n) = ap suc (length-supplied f n)
+
+length-trade : (f : ℕ → ℕ) (g t : ℕ) (st : List ℕ) → length (supplied f g ++ drop t st) ≡ length st - t + g
+length-trade f g t st = simp (length-append, length-supplied, length-drop) (omega arith)
+
+length-does : (f : ℕ → ℕ) (i : Ins) (d : Does) (st : List ℕ) → takes (i .op) d ≤ length st
+    → length (does-to f i d st) ≡ length st - takes (i .op) d + gives (i .op) d
+unfolding does-to
+length-does f i pushes-value st h = omega arith
+length-does f i pushes-pc st h = omega arith
+length-does f i (dups n) st h = omega arith
+length-does f i (swaps n) st h = simp length-set (omega arith)
+length-does f i ands st h = omega (arith, length-drop 2 st)
+length-does f i adds st h = omega (arith, length-drop 2 st)
+length-does f i jumps st h = omega (arith, length-drop 1 st)
+length-does f i jumpis st h = omega (arith, length-drop 2 st)
+length-does f i lands st h = omega arith
+length-does f i halts st h = length-trade f (row (i .op) .given) (row (i .op) .taken) st
+length-does f i plain st h = length-trade f (row (i .op) .given) (row (i .op) .taken) st
+
+-- YP's instruction leaves the words that its row does not take, and those that the row gives.
+pub leaves : (supply : ℕ → ℕ → ℕ) (i : Ins) (st : List ℕ) → row (i .op) .taken ≤ length st
+    → length (yields supply i st) ≡ length st - row (i .op) .taken + row (i .op) .given
+leaves supply i st h =
+    rw (yields-does supply i st, ← takes-row (i .op), ← gives-row (i .op)) (length-does (told supply i) i (does (i .op)) st (rw (takes-row (i .op)) h))
+
+length-span : (s : Stack) (i n : ℕ) → length (span s i n) ≡ n
+length-span s i zero = refl
+length-span s i (suc n) = ap suc (length-span s (suc i) n)
+
+height-does : (code : List ℕ) (i : Ins) (d : Does) (s : Stack)
+    → length (act code i d s .above) + s .base + takes (i .op) d ≡ length (s .above) + act code i d s .base + gives (i .op) d
+unfolding act
+height-does code i pushes-value s = omega arith
+height-does code i pushes-pc s = omega arith
+height-does code i (dups n) s = omega arith
+height-does code i (swaps n) s = simp (length-append, length-span, length-drop) (omega arith)
+height-does code i ands s = omega (arith, length-drop 2 (s .above))
+height-does code i adds s = omega (arith, length-drop 2 (s .above))
+height-does code i jumps s = omega (arith, length-drop 1 (s .above))
+height-does code i jumpis s = omega (arith, length-drop 2 (s .above))
+height-does code i lands s = omega arith
+height-does code i halts s = simp (length-append, length-replicate, length-drop) (omega arith)
+height-does code i plain s = simp (length-append, length-replicate, length-drop) (omega arith)
+
+-- The symbols' stack stands for as many words more, and as many fewer.
+height-act : (code : List ℕ) (i : Ins) (s : Stack)
+    → length (act code i (does (i .op)) s .above) + s .base + row (i .op) .taken ≡ length (s .above) + act code i (does (i .op)) s .base + row (i .op) .given
+height-act code i s = rw (← takes-row (i .op), ← gives-row (i .op)) (height-does code i (does (i .op)) s)
+
+-- ---- the instruction
+
+-- "Meaning to prove", of one instruction
+pub holds-act : (code : List ℕ) (supply : ℕ → ℕ → ℕ) (i : Ins) {ws : List ℕ} {s : Stack} {st : List ℕ} → Holds ws s st → Deep i s st → Masked i s st
+    → Holds ws (act code i (does (i .op)) s) (yields supply i st)
+holds-act code supply i {ws} {s} {st} h deep mask-ok = record {
+  truth =
+      rw (yields-does supply i st)
+      (tells-act ws code (told supply i) i (does (i .op)) (h .truth) (rw (takes-row (i .op)) deep) (λ e. mask-ok (eqb-true _ _ (anding-does (i .op) ∙ e))));
+  size = omega (arith, leaves supply i st deep, height-act code i s);
+}
