@@ -1,0 +1,82 @@
+-- What a byte is to the cutting: a rule over a range of bytes is one computed test. Assumes nothing.
+use mathlib.Core.Path.{_≡_, refl, sym, ap, _∙_}
+use mathlib.Core.Bool.{Bool, true, false, _&&_, _||_, Bool·beq}
+use mathlib.Core.Logic.{_⊎_, inl, inr, ⊎-elim}
+use Prim.Native.Nat.{ℕ, zero, suc, _+_, _≤_, _<_}
+use native.Mathlib.Nat.{eq-or-lt-of-le}
+use native.Mathlib.Omega.{arith}
+use native.Mathlib.Decide.{decLt}
+use lib.Dec.{eqb}
+use borrow.Author.Tests.{ne-eqb}
+use Rattle.spec.specs.Lists.{if}
+use Rattle.spec.specs.Opcodes.{Row, row}
+use Rattle.spec.specs.Blocks as spec
+use Rattle.spec.specs.Blocks.{cut}
+use Rattle.theorems.proofs.Branch.{if-true, if-false}
+use Rattle.theorems.proofs.Members.{and-both}
+use Rattle.initial.specs.Turn.{cutOf}
+use Rattle.initial.specs.declared.turn.Cut.{Cut}
+use Rattle.initial.specs.declared.turn.Cut.the-variants.{Jumpdest, Jumpi, Jump, Ends, Unknown, Other}
+
+-- f holds of the n numbers from a on
+unfoldable pub all : (ℕ → Bool) → ℕ → ℕ → Bool
+all f a zero = true
+all f a (suc n) = f a && all f (suc a) n
+
+all-at : (f : ℕ → Bool) (a n x : ℕ) → all f a n ≡ true → a ≤ x → x < a + n → f x ≡ true
+unfolding all
+all-at f a zero x e h g = absurd (omega arith)
+all-at f a (suc n) x e h g = let p = and-both (f a) (all f (suc a) n) e in go (decLt a x) (all-at f (suc a) n x (p .1)) (p .0)
+  where
+    go : Dec (a < x) → (suc a ≤ x → x < suc a + n → f x ≡ true) → f a ≡ true → f x ≡ true
+    go (yes l) more now = more (omega arith) (omega arith)
+    go (no l) more now = let q : x ≡ a = omega arith in rw q now
+
+beq-true : (a b : Bool) → Bool·beq a b ≡ true → a ≡ b
+beq-true true true e = refl
+beq-true true false e = sym e
+beq-true false true e = e
+beq-true false false e = refl
+
+abbrev pub known-test : Bool → ℕ → Bool
+known-test v x = Bool·beq v (row x .known)
+
+-- ---- known and unknown bytes, a range each
+
+pub known-range : (v : Bool) (a n : ℕ) → all (known-test v) a n ≡ true → (x : ℕ) → a ≤ x → x < a + n → v ≡ row x .known
+known-range v a n e x h g = beq-true v (row x .known) (all-at (known-test v) a n x e h g)
+
+-- ---- the others, which no key of the decision fits
+
+module _ (x : ℕ) (rest : (((Unit {0} × (x ≡ 0x5B → ⊥)) × (x ≡ 0x57 → ⊥)) × (x ≡ 0x56 → ⊥)) × ((x ≡ 0x00) ⊎ ((x ≡ 0xF3) ⊎ (x ≡ 0xFF)) → ⊥)) where
+  pub cut-fails : 0xFD ≤ x → x < 256 → Ends false ≡ cutOf (cut x)
+  unfolding if
+  cut-fails h g =
+      let n : x ≡ 0xFF → ⊥ = λ e. rest .1 (inr (inr e)) in
+      ⊎-elim (λ (e : x ≡ 0xFE). rw e) (λ (k : x < 0xFE). let e : x ≡ 0xFD = omega arith in rw e) (eq-or-lt-of-le (omega arith))
+
+  cut-rest : x < 0xFD → cut x ≡ if (row x .known) spec.OTHER spec.UNKNOWN
+  cut-rest h =
+      rw (
+        ne-eqb x 0x5B (rest .0 .0 .0 .1),
+        ne-eqb x 0x57 (rest .0 .0 .1),
+        ne-eqb x 0x56 (rest .0 .1),
+        ne-eqb x 0x00 (λ e. rest .1 (inl e)),
+        ne-eqb x 0xF3 (λ e. rest .1 (inr (inl e))),
+        ne-eqb x 0xFF (λ e. rest .1 (inr (inr e))),
+        ne-eqb x 0xFD (λ e. omega arith),
+        ne-eqb x 0xFE (λ e. omega arith),
+      )
+      (if-false false _ _ refl ∙ if-false false _ _ refl ∙ if-false false _ _ refl ∙ if-false false _ _ refl ∙ if-false false _ _ refl)
+
+  pub cut-other : {k : Bool} → x < 0xFD → k ≡ row x .known → k ≡ true → Other ≡ cutOf (cut x)
+  cut-other h e t = sym (ap cutOf (cut-rest h ∙ if-true _ _ _ (sym e ∙ t)))
+
+  pub cut-unknown : {k : Bool} → x < 0xFD → k ≡ row x .known → k ≡ false → Unknown ≡ cutOf (cut x)
+  cut-unknown h e t = sym (ap cutOf (cut-rest h ∙ if-false _ _ _ (sym e ∙ t)))
+
+pub cut-success : (x : ℕ) → (x ≡ 0x00) ⊎ ((x ≡ 0xF3) ⊎ (x ≡ 0xFF)) → Ends true ≡ cutOf (cut x)
+unfolding if
+cut-success x (inl e) = rw e
+cut-success x (inr (inl e)) = rw e
+cut-success x (inr (inr e)) = rw e

@@ -1,0 +1,191 @@
+-- The checks afterwards: a destination is looked up in the rows, a row's block is checked, and all rows one after the other. Assumes nothing.
+use mathlib.Core.Path.{_≡_, refl, sym, ap, ap₂, _∙_, subst}
+use mathlib.Core.Bool.{Bool, true, false, not, _&&_, and-true}
+use mathlib.Core.List.{List, [], _∷_, _++_, map, map-append, append-nil, append-assoc}
+use Prim.Native.Nat.{ℕ, zero, suc, _+_, _*_, _-_, _≤_, _<_}
+use native.Mathlib.Nat.{zero-add, sub-self}
+use native.Mathlib.Numerals.{add-one}
+use native.Mathlib.Omega.{arith}
+use lib.Dec.{eqb}
+use lib.ListN.{length, getD, take, drop, List·getD-eq-default}
+use borrow.Author.Tests.{eqb-true, eqb-false, eq-eqb, ne-eqb}
+use Rattle.spec.specs.Lists.{if, mem}
+use Rattle.spec.specs.Blocks.{Kind, terminate, jump, jumpi, dynamic-jump, dynamic-jumpi, Block, block, with-kind, starts, lands, checked, check-all}
+use Rattle.lent.specs.Bytes.{numAt, Holds}
+use Rattle.lent.proofs.Parts.{drop-more}
+use Rattle.lent.proofs.Stored.{kept-take, kept-drop}
+use Rattle.theorems.proofs.Branch.{both, if-true, if-false, and-false}
+use Rattle.initial.specs.Rows.{typed, typeOf, kindOf, tagAt, typeAt, blockAt, rowBlocks, blocksFrom, blocksAt, Laid}
+use Rattle.initial.specs.Contracts.{Put, TypeIs, Beyond, Rows, rechecked, CheckedRow, Checked}
+use Rattle.initial.specs.declared.row.BlockType.{BlockType}
+use Rattle.initial.proofs.Types.{Good, kind-type, good-terminate, good-jump, good}
+use Rattle.initial.proofs.Rows.{here-suffix, from-prefix, from-suffix, from-split, here-block, by-row, start-at, start-past}
+use Rattle.initial.proofs.Writing.{put-here, put-laid, beyond-same}
+
+-- ---- a destination is looked up
+
+module _ (code w : List ℕ) (t : ℕ) where
+  pub starts-past : length code < t → false ≡ mem t (starts (blocksAt w (length code)))
+  starts-past h = sym (start-past w t (length code) h)
+
+  pub starts-tag : {k : ℕ} → t ≤ length code → Holds 1 w (20 * t) k → not (eqb k 0) ≡ mem t (starts (blocksAt w (length code)))
+  starts-tag h k = rw (k .is) (sym (start-at w t (length code) h))
+
+  pub lands-past : length code ≤ t → false ≡ lands code (starts (blocksAt w (length code))) t
+  lands-past h = sym (and-false (mem t (starts (blocksAt w (length code)))) (rw (List·getD-eq-default code 0 h)))
+
+  pub lands-other : (getD code t 0 ≡ 0x5B → ⊥) → false ≡ lands code (starts (blocksAt w (length code))) t
+  lands-other h = sym (and-false (mem t (starts (blocksAt w (length code)))) (ne-eqb _ _ h))
+
+  pub lands-tag : {k : ℕ} → t < length code → getD code t 0 ≡ 0x5B → Holds 1 w (20 * t) k → not (eqb k 0) ≡ lands code (starts (blocksAt w (length code))) t
+  lands-tag h e k = starts-tag (omega arith) k ∙ sym (rw (eq-eqb (getD code t 0) 0x5B e) (and-true _))
+
+-- ---- a type is checked, where the blocks start so
+
+module _ (code ss : List ℕ) where
+  pub jump-kept : {l : Bool} (to : ℕ) → l ≡ lands code ss to → l ≡ true → typed 3 to 0 ≡ typeOf (checked code ss (jump to))
+  jump-kept to e p = sym (ap typeOf (if-true _ _ _ (sym e ∙ p)))
+
+  pub jump-ends : {l : Bool} (to : ℕ) → l ≡ lands code ss to → l ≡ false → typed 1 0 0 ≡ typeOf (checked code ss (jump to))
+  jump-ends to e p = sym (ap typeOf (if-false _ _ _ (sym e ∙ p)))
+
+  pub jumpi-ends : {m : Bool} (to f : ℕ) → m ≡ mem f ss → m ≡ false → typed 1 0 0 ≡ typeOf (checked code ss (jumpi to f))
+  jumpi-ends to f d q = sym (ap typeOf (if-false _ _ _ (sym d ∙ q)))
+
+  pub jumpi-kept : {l m : Bool} (to f : ℕ) → m ≡ mem f ss → m ≡ true → l ≡ lands code ss to → l ≡ true → typed 4 to f ≡ typeOf (checked code ss (jumpi to f))
+  jumpi-kept to f d q e p = sym (ap typeOf (if-true _ _ _ (sym d ∙ q) ∙ if-true _ _ _ (sym e ∙ p)))
+
+  pub jumpi-falls : {l m : Bool} (to f : ℕ) → m ≡ mem f ss → m ≡ true → l ≡ lands code ss to → l ≡ false → typed 3 f 0 ≡ typeOf (checked code ss (jumpi to f))
+  jumpi-falls to f d q e p = sym (ap typeOf (if-true _ _ _ (sym d ∙ q) ∙ if-false _ _ _ (sym e ∙ p)))
+
+  abbrev Fits : Kind → Type 0
+  Fits k = Good (typeOf k)
+
+  good-checked-jump : (to : ℕ) → to < 65536 → Fits (checked code ss (jump to))
+  good-checked-jump to h = both Fits (lands code ss to) (λ _. good-jump to h) (λ _. good-terminate false)
+
+  good-checked-jumpi : (to f : ℕ) → to < 65536 → f < 65536 → Fits (checked code ss (jumpi to f))
+  good-checked-jumpi to f h g =
+      both Fits (mem f ss) (λ _. both Fits (lands code ss to) (λ _. good (jumpi to f) h g) (λ _. good-jump f g)) (λ _. good-terminate false)
+
+  module _ (t : BlockType) where
+    kind-jump : t .kind ≡ 3 → kindOf t ≡ jump (t .to)
+    unfolding kindOf if
+    kind-jump e = rw e
+
+    kind-jumpi : t .kind ≡ 4 → kindOf t ≡ jumpi (t .to) (t .other)
+    unfolding kindOf if
+    kind-jumpi e = rw e
+
+    Same : Kind → Type 0
+    Same k = checked code ss k ≡ k
+
+    kind-same : (t .kind ≡ 3 → ⊥) → (t .kind ≡ 4 → ⊥) → checked code ss (kindOf t) ≡ kindOf t
+    unfolding kindOf Same
+    kind-same h g =
+        both Same (eqb (t .kind) 1) (λ _. refl)
+        (λ _. both Same (eqb (t .kind) 2) (λ _. refl)
+        (λ _. both Same (eqb (t .kind) 3) (λ e. absurd (h (eqb-true _ _ e)))
+        (λ _. both Same (eqb (t .kind) 4) (λ e. absurd (g (eqb-true _ _ e)))
+        (λ _. both Same (eqb (t .kind) 5) (λ _. refl) (λ _. refl)))))
+
+-- ---- a row's block is checked
+
+module _ {code w : List ℕ} {a : ℕ} {t : BlockType} (r : Rows code w) (h : a ≤ length code) (y : TypeIs w a t) where
+  ss : List ℕ
+  ss = starts (blocksAt w (length code))
+
+  row-written : {w′ : List ℕ} {end : ℕ} {k : BlockType} → (t .kind ≡ 0 → ⊥) → Holds 2 w (20 * a + 2) end → kindOf k ≡ checked code ss (kindOf t) → Good k → Put w a end k w′
+      → CheckedRow code w a w′
+  unfolding ss
+  row-written {w′} {end} {k} z e q g p =
+      record {
+        same =
+            put-here p g (e .small)
+            ∙ rw (q, e .is, y .is)
+            (sym (ap (map (rechecked code (starts (blocksAt w (length code))))) (here-block w a (λ n. z (ap (λ (b : BlockType). b .kind) (y .is) ∙ n)))));
+        before = kept-take (p .stored) (20 * a) (omega arith);
+        after = kept-drop (p .stored) (20 * (a + 1)) (omega arith);
+        laid = put-laid p (length code) (r .laid) h g (e .small);
+        kept = p .stored .kept;
+      }
+
+  pub row-jump : {w′ : List ℕ} {end : ℕ} {k : BlockType} → t .kind ≡ 3 → Holds 2 w (20 * a + 2) end
+      → k ≡ typeOf (checked code (starts (blocksAt w (length code))) (jump (t .to))) → Put w a end k w′ → CheckedRow code w a w′
+  unfolding ss
+  row-jump c e q p =
+      row-written (λ n. omega arith) e (ap kindOf q ∙ kind-type _ ∙ ap (checked code ss) (sym (kind-jump code ss t c)))
+      (rw q (good-checked-jump code ss (t .to) (y .to))) p
+
+  pub row-jumpi : {w′ : List ℕ} {end : ℕ} {k : BlockType} → t .kind ≡ 4 → Holds 2 w (20 * a + 2) end
+      → k ≡ typeOf (checked code (starts (blocksAt w (length code))) (jumpi (t .to) (t .other))) → Put w a end k w′ → CheckedRow code w a w′
+  unfolding ss
+  row-jumpi c e q p =
+      row-written (λ n. omega arith) e (ap kindOf q ∙ kind-type _ ∙ ap (checked code ss) (sym (kind-jumpi code ss t c)))
+      (rw q (good-checked-jumpi code ss (t .to) (t .other) (y .to) (y .other))) p
+
+  pub row-same : (t .kind ≡ 3 → ⊥) → (t .kind ≡ 4 → ⊥) → CheckedRow code w a w
+  row-same c d =
+      record {
+        same =
+            by-row w a (λ (bs : List Block). bs ≡ map (rechecked code (starts (blocksAt w (length code)))) bs) (λ _. refl)
+            (λ _. ap {B = List Block} (λ (k : Kind). block a a (numAt 2 w (20 * a + 2)) k ∷ []) (sym (rw (y .is) at (kind-same code (starts (blocksAt w (length code))) t c d))));
+        before = refl;
+        after = refl;
+        laid = r .laid;
+        kept = refl;
+      }
+
+-- ---- all rows, one after the other
+
+-- the rows before a are checked, and the others are as they were
+pub record Checking (code w₀ w : List ℕ) (a : ℕ) : Type 0 where
+  pub front : blocksFrom w 0 a ≡ map (rechecked code (starts (blocksAt w₀ (length code)))) (blocksFrom w₀ 0 a)
+  pub back : drop (20 * a) w ≡ drop (20 * a) w₀
+  pub laid : Laid w (length code)
+  pub kept : length w ≡ length w₀
+  pub inside : a ≤ length code + 1
+
+starts-front : (f : Kind → Kind) (xs ys : List Block) → starts (map (λ (b : Block). with-kind (f (b .kind)) b) xs ++ ys) ≡ starts (xs ++ ys)
+starts-front f [] ys = refl
+starts-front f (x ∷ xs) ys = ap {B = List ℕ} (λ (ns : List ℕ). x .start ∷ ns) (starts-front f xs ys)
+
+from-snoc : (w : List ℕ) (a : ℕ) → blocksFrom w 0 (a + 1) ≡ blocksFrom w 0 a ++ rowBlocks w a
+unfolding blocksFrom
+from-snoc w a = from-split w a 1 0 ∙ rw (zero-add, append-nil)
+
+pub check-none : {code w : List ℕ} → Rows code w → Checking code w w 0
+unfolding blocksFrom
+check-none r = record { front = refl; back = refl; laid = r .laid; kept = refl; inside = omega arith }
+
+module _ {code w₀ w : List ℕ} {a : ℕ} (r : Rows code w₀) (g : Checking code w₀ w a) where
+  pub check-rows : Rows code w
+  check-rows = record { short = r .short; room = omega arith; laid = g .laid }
+
+  -- the checks keep where blocks start, so that each looks up what all look up
+  starts-kept : starts (blocksAt w (length code)) ≡ starts (blocksAt w₀ (length code))
+  starts-kept =
+      let k : ℕ = suc (length code) - a in
+      let e : suc (length code) ≡ a + k = omega (arith, g .inside) in
+      let rest : blocksFrom w a k ≡ blocksFrom w₀ a k = from-suffix w w₀ a k (20 * a) (g .back) (omega arith) in
+      rw (e, from-split w a k 0, from-split w₀ a k 0, zero-add, rest, g .front) (starts-front (checked code (starts (blocksAt w₀ (length code)))) (blocksFrom w₀ 0 a) (blocksFrom w₀ a k))
+
+  pub check-more : {w′ : List ℕ} → a ≤ length code → CheckedRow code w a w′ → Checking code w₀ w′ (a + 1)
+  check-more {w′} h c =
+      let old : rowBlocks w a ≡ rowBlocks w₀ a = here-suffix w w₀ a (20 * a) (g .back) (omega arith) in
+      record {
+        front =
+            from-snoc w′ a
+            ∙ ap₂ (λ (x y : List Block). x ++ y) (from-prefix w′ w 0 a (20 * a) (c .before) (omega arith) ∙ g .front) (rw (starts-kept, old) at (c .same))
+            ∙ sym (ap (map (rechecked code (starts (blocksAt w₀ (length code))))) (from-snoc w₀ a) ∙ map-append _ (blocksFrom w₀ 0 a) (rowBlocks w₀ a));
+        back = c .after ∙ drop-more w w₀ (20 * a) (g .back) (20 * (a + 1)) (omega arith);
+        laid = c .laid;
+        kept = c .kept ∙ g .kept;
+        inside = omega arith;
+      }
+
+  pub check-done : length code < a → Checked code w₀ w
+  check-done h =
+      let e : a ≡ suc (length code) = omega (arith, g .inside) in
+      let all : 20 * a ≡ 20 * (length code + 1) = omega arith in
+      record { blocks = rw e at (g .front); laid = g .laid; beyond = record { others = rw all at (g .back); kept = g .kept } }

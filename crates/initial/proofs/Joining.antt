@@ -1,0 +1,74 @@
+-- The cutting and the checks together are the blocks of document 01: a destination past any code lands nowhere, cut off or not. Assumes nothing.
+use mathlib.Core.Path.{_≡_, refl, sym, ap, ap₂, _∙_}
+use mathlib.Core.Bool.{Bool, true, false, _&&_}
+use mathlib.Core.List.{List, [], _∷_, map}
+use Prim.Native.Nat.{ℕ, _≤_, _<_, min}
+use native.Mathlib.Omega.{arith}
+use native.Mathlib.Decide.{decLe}
+use lib.ListN.{length}
+use Rattle.spec.specs.Lists.{if, mem}
+use Rattle.spec.specs.Walk.{instructions}
+use Rattle.spec.specs.Blocks.{Kind, terminate, jump, jumpi, dynamic-jump, dynamic-jumpi, Block, with-kind, lands, checked, starts, check-all, blocks}
+use Rattle.theorems.proofs.Branch.{both, if-true, if-false}
+use Rattle.initial.specs.Rows.{blocksAt}
+use Rattle.initial.specs.Turn.{clip, clipped}
+use Rattle.initial.specs.Contracts.{Lent, cutting, Cut, Checked, Initial}
+use Rattle.initial.proofs.Rows.{start-inside}
+use Rattle.initial.proofs.Writing.{beyond-more}
+
+-- a test that nothing past the code passes
+no-start : (n t : ℕ) (b : Bool) → (b ≡ true → t ≤ n) → n < t → b ≡ false
+no-start n t true h l = absurd (let k = h refl in omega arith)
+no-start n t false h l = refl
+
+module _ (code ss : List ℕ) (n : ℕ) (small : n < 0xFFFF) (inside : (t : ℕ) → mem t ss ≡ true → t ≤ n) where
+  nowhere : (t : ℕ) → n < t → lands code ss t ≡ false
+  nowhere t h = rw (no-start n t (mem t ss) (inside t) h)
+
+  -- the destination stays, or neither it nor what stands for it lands
+  by-clip : (F : ℕ → Type 0) (t : ℕ) → F t → (lands code ss t ≡ false → lands code ss 0xFFFF ≡ false → F 0xFFFF) → F (min t 0xFFFF)
+  by-clip F t f g = go (decLe t 0xFFFF)
+    where
+      go : Dec (t ≤ 0xFFFF) → F (min t 0xFFFF)
+      go (yes h) = let e : min t 0xFFFF ≡ t = omega arith in rw e f
+      go (no h) = let e : min t 0xFFFF ≡ 0xFFFF = omega arith in rw e (g (nowhere t (omega arith)) (nowhere 0xFFFF small))
+
+  clip-jump : (t : ℕ) → checked code ss (jump (min t 0xFFFF)) ≡ checked code ss (jump t)
+  clip-jump t =
+      by-clip (λ (v : ℕ). checked code ss (jump v) ≡ checked code ss (jump t)) t refl
+      (λ p q. if-false _ _ _ q ∙ sym (if-false _ _ _ p))
+
+  clip-checked : (k : Kind) → checked code ss (clip k) ≡ checked code ss k
+  clip-checked (terminate success) = refl
+  clip-checked (jump t) = clip-jump t
+  clip-checked (jumpi t f) =
+      by-clip (λ (v : ℕ). checked code ss (jumpi v f) ≡ checked code ss (jumpi t f)) t refl
+      (λ p q. ap (λ (k : Kind). if (mem f ss) k (terminate false)) (if-false _ _ _ q ∙ sym (if-false _ _ _ p)))
+  clip-checked dynamic-jump = refl
+  clip-checked (dynamic-jumpi f) = refl
+
+  clip-map : (bs : List Block) → map (λ (b : Block). with-kind (checked code ss (b .kind)) b) (map clipped bs) ≡ map (λ (b : Block). with-kind (checked code ss (b .kind)) b) bs
+  clip-map [] = refl
+  clip-map (b ∷ bs) = ap₂ {C = List Block} (λ (k : Kind) (cs : List Block). with-kind k b ∷ cs) (clip-checked (b .kind)) (clip-map bs)
+
+clip-starts : (bs : List Block) → starts (map clipped bs) ≡ starts bs
+clip-starts [] = refl
+clip-starts (b ∷ bs) = ap {B = List ℕ} (λ (ns : List ℕ). b .start ∷ ns) (clip-starts bs)
+
+clip-all : (code : List ℕ) (bs : List Block) (n : ℕ) → n < 0xFFFF → ((t : ℕ) → mem t (starts bs) ≡ true → t ≤ n) → check-all code (map clipped bs) ≡ check-all code bs
+clip-all code bs n h g = rw (clip-starts bs) (clip-map code (starts bs) n h g bs)
+
+blocks-checked : (code : List ℕ) → check-all code (cutting code) ≡ blocks code (instructions code)
+unfolding cutting blocks
+blocks-checked [] = refl
+blocks-checked (b ∷ code) = refl
+
+pub joined : {code w v u : List ℕ} → Lent code w → Cut code w v → Checked code v u → Initial code w u
+joined {code} {w} {v} {u} l c d =
+    let inside : (t : ℕ) → mem t (starts (cutting code)) ≡ true → t ≤ length code =
+    λ t e. start-inside v t (length code) (rw (c .blocks, clip-starts (cutting code)) e) in
+    record {
+      same = d .blocks ∙ ap (check-all code) (c .blocks) ∙ clip-all code (cutting code) (length code) (omega arith) inside ∙ blocks-checked code;
+      laid = d .laid;
+      beyond = beyond-more (c .beyond) (d .beyond);
+    }

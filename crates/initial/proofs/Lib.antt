@@ -1,0 +1,10 @@
+pub mod Bytes
+pub mod Types
+pub mod Jumping
+pub mod Rows
+pub mod Writing
+pub mod Turning
+pub mod Taking
+pub mod Cutting
+pub mod Checking
+pub mod Joining

@@ -1,0 +1,155 @@
+-- One instruction is taken: each way out of the code's turn keeps what is written and what is still to be cut together. Assumes nothing.
+use mathlib.Core.Path.{_≡_, refl, sym, ap, _∙_, subst}
+use mathlib.Core.Bool.{Bool, true, false}
+use mathlib.Core.List.{List, [], _∷_, _++_, append-nil, append-assoc}
+use mathlib.Core.Option.{Option}
+use Prim.Native.Nat.{ℕ, suc, _+_, _*_, _≤_, _<_}
+use native.Mathlib.Omega.{arith}
+use native.Mathlib.Decide.{decLt}
+use lib.Dec.{eqb}
+use lib.ListN.{length, getD}
+use borrow.Author.Tests.{eqb-false}
+use Rattle.spec.specs.Lists.{if}
+use Rattle.spec.specs.Opcodes.{argument}
+use Rattle.spec.specs.Blocks.{Block, block, cut}
+use Rattle.theorems.proofs.Branch.{both}
+use Rattle.initial.specs.Rows.{kindOf, blocksAt, Laid}
+use Rattle.initial.specs.Turn.{pushedAt, cutOf, turnOf, closed, then, ahead}
+use Rattle.initial.specs.Contracts.{Put, Beyond, Stands, Whole, Behind, lowest, Empty, Ready, Turned}
+use Rattle.initial.specs.declared.row.BlockType.{BlockType}
+use Rattle.initial.specs.declared.turn.Cut.{Cut}
+use Rattle.initial.specs.declared.turn.Cut.the-variants.{Jumpdest, Jumpi, Jump, Ends, Unknown, Other}
+use Rattle.initial.specs.declared.turn.Mode.{Mode}
+use Rattle.initial.specs.declared.turn.Mode.the-variants.{Opened, Waiting, Ended}
+use Rattle.initial.specs.declared.turn.Turn.{Turn}
+use Rattle.initial.specs.declared.turn.Turn.the-variants.{Goes, Closes}
+use Rattle.initial.proofs.Types.{Good, good-terminate, good-jump, good-jumping, good-branching}
+use Rattle.initial.proofs.Writing.{put-append, put-laid, put-empty, put-beyond, less-empty, beyond-same}
+use Rattle.initial.proofs.Turning.{ahead-open, ahead-found, ahead-waits, ahead-ended}
+
+-- ---- a turn fits the rows: what it closes can be written, and the next block starts past it
+
+-- the walk goes on at next, and no block that starts before lo is still to be written
+record Onward (lo next : ℕ) (m : Mode) : Type 0 where
+  past : lo ≤ lowest m next
+  low : lowest m next ≤ next
+
+record Closing (start next end : ℕ) (t : BlockType) (m : Mode) : Type 0 where
+  good : Good t
+  small : end < 65536
+  on : Onward (suc start) next m
+
+abbrev Fine : ℕ → ℕ → Turn → Type 0
+Fine start next (Goes m) = Onward start next m
+Fine start next (Closes end t m) = Closing start next end t m
+
+module _ (start prev : ℕ) (push : Option ℕ) (pc next : ℕ) (h : start ≤ pc) (p : prev ≤ pc) (f : pc < next) (s : pc < 0xFFFF) where
+  waits : (end : ℕ) {t : BlockType} → end ≤ pc → Good t → Closing start next end t Waiting
+  waits end e g = record { good = g; small = omega arith; on = record { past = omega arith; low = omega arith } }
+
+  opens : (end at : ℕ) {t : BlockType} → end ≤ pc → start < at → at ≤ next → Good t → Closing start next end t (Opened at)
+  opens end at e l k g = record { good = g; small = omega arith; on = record { past = l; low = k } }
+
+  goes : {m : Mode} → start ≤ lowest m next → lowest m next ≤ next → Onward start next m
+  goes l k = record { past = l; low = k }
+
+  fine : (c : Cut) → Fine start next (turnOf start prev push pc c)
+  unfolding turnOf
+  fine Jumpdest =
+      both (Fine start next) (eqb start pc) (λ _. goes (omega arith) (omega arith))
+      (λ e. let ne = eqb-false start pc e in opens prev pc p (omega arith) (omega arith) (good-jump pc (omega arith)))
+  fine Jumpi = opens pc (pc + 1) (omega arith) (omega arith) (omega arith) (good-branching push (pc + 1) (omega arith))
+  fine Jump = waits pc (omega arith) (good-jumping push)
+  fine (Ends success) = waits pc (omega arith) (good-terminate success)
+  fine Unknown =
+      let kept = waits prev p (good-terminate false) in
+      both (Fine start next) (eqb start 0) (λ _. record { good = kept .good; small = kept .small; on = record { past = omega arith; low = omega arith } })
+      (λ _. both (Fine start next) (eqb start pc) (λ _. goes (omega arith) (omega arith)) (λ _. kept))
+  fine Other = goes (omega arith) (omega arith)
+
+-- ---- the ways out of the turn
+
+module _ {code w : List ℕ} {mode : Mode} {prev pc op : ℕ} (r : Ready code w mode prev pc) (i : Stands code pc op) where
+  next : ℕ
+  next = pc + suc (argument op)
+
+  -- the instruction before stands whole, or is this one
+  before-whole : Whole code prev
+  before-whole = go (decLt prev pc)
+    where
+      go : Dec (prev < pc) → Whole code prev
+      go (yes l) = r .before l
+      go (no l) = let e : prev ≡ pc = omega arith in rw e (record { whole = rw (← i .byte) (i .whole) })
+
+  pub turn-asks : Behind code prev pc
+  turn-asks = record { before = before-whole; inside = omega (arith, i .whole) }
+
+  pub turn-room : {start : ℕ} → mode ≡ Opened start → 20 * start + 8 ≤ length w
+  turn-room o = omega (arith, rw o at (r .low), r .inside, r .room)
+
+  readied : {w′ : List ℕ} {m : Mode} → Beyond (length code) w w′ → Laid w′ (length code) → Empty w′ (lowest m (pc + suc (argument op))) (length code)
+      → lowest m (pc + suc (argument op)) ≤ pc + suc (argument op) → Ready code w′ m pc (pc + suc (argument op))
+  readied b l e k = record {
+    short = r .short;
+    room = omega arith;
+    laid = l;
+    empty = e;
+    low = k;
+    inside = omega (arith, i .whole);
+    back = omega arith;
+    before = λ _. record { whole = rw (← i .byte) (i .whole) };
+  }
+
+  pub turn-found : mode ≡ Waiting → op ≡ 0x5B → Turned code w mode prev pc op w (Opened pc)
+  turn-found o e = record {
+    same = rw o (ap (λ (bs : List Block). blocksAt w (length code) ++ bs) (sym (ahead-found code pc op i prev e)));
+    ready = readied (beyond-same _ w) (r .laid) (rw o at (r .empty)) (omega arith);
+    beyond = beyond-same _ w;
+  }
+
+  pub turn-waits : mode ≡ Waiting → (op ≡ 0x5B → ⊥) → Turned code w mode prev pc op w Waiting
+  turn-waits o e = record {
+    same = rw o (ap (λ (bs : List Block). blocksAt w (length code) ++ bs) (sym (ahead-waits code pc op i prev e)));
+    ready = readied (beyond-same _ w) (r .laid) (less-empty (rw o at (r .empty)) (omega arith)) (omega arith);
+    beyond = beyond-same _ w;
+  }
+
+  pub turn-ended : mode ≡ Ended → Turned code w mode prev pc op w Ended
+  turn-ended o = record {
+    same = rw o (simp ahead-ended);
+    ready = readied (beyond-same _ w) (r .laid) (less-empty (rw o at (r .empty)) (omega arith)) (omega arith);
+    beyond = beyond-same _ w;
+  }
+
+  module _ {start : ℕ} {c : Cut} {t : Turn} (o : mode ≡ Opened start) (d : c ≡ cutOf (cut op)) (e : t ≡ turnOf start prev (pushedAt code prev) pc c) where
+    turn-fine : Fine start next t
+    unfolding next
+    turn-fine = rw e (fine start prev (pushedAt code prev) pc (pc + suc (argument op)) (rw o at (r .low)) (r .back) (omega arith) (omega (arith, i .whole, r .short)) c)
+
+    turn-same : blocksAt w (length code) ++ ahead code pc mode prev ≡ (blocksAt w (length code) ++ closed start t) ++ ahead code (pc + suc (argument op)) (then t) pc
+    turn-same =
+        rw (o, ahead-open code pc op i prev start (omega (arith, i .whole, r .short)), e, d)
+        (sym (append-assoc (blocksAt w (length code)) _ _))
+
+    pub turn-goes : {m : Mode} → t ≡ Goes m → Turned code w mode prev pc op w m
+    unfolding next
+    turn-goes {m} g =
+        let f : Onward start next m = subst (Fine start next) g turn-fine in
+        record {
+          same = sym (rw (g, append-nil) at turn-same);
+          ready = readied (beyond-same _ w) (r .laid) (less-empty (rw o at (r .empty)) (f .past)) (f .low);
+          beyond = beyond-same _ w;
+        }
+
+    pub turn-closes : {w′ : List ℕ} {end : ℕ} {k : BlockType} {m : Mode} → t ≡ Closes end k m → Put w start end k w′ → Turned code w mode prev pc op w′ m
+    unfolding next
+    turn-closes {w′} {end} {k} {m} g p =
+        let f : Closing start next end k m = subst (Fine start next) g turn-fine in
+        let z : Empty w start (length code) = rw o at (r .empty) in
+        let h : start ≤ length code = omega (arith, rw o at (r .low), r .inside) in
+        let b = put-beyond p (length code) h in
+        record {
+          same = sym (turn-same ∙ rw (g, ← put-append p (length code) z h (f .good) (f .small)));
+          ready = readied b (put-laid p (length code) (r .laid) h (f .good) (f .small)) (put-empty p _ _ z (f .on .past)) (f .on .low);
+          beyond = b;
+        }

@@ -1,0 +1,66 @@
+-- Block types as a row has them: read back, and small enough for it. Assumes nothing.
+use mathlib.Core.Path.{_≡_, refl, ap}
+use mathlib.Core.Bool.{Bool, true, false}
+use mathlib.Core.Option.{Option, none, some}
+use Prim.Native.Nat.{ℕ, _≤_, _<_, min}
+use native.Mathlib.Nat.{min-le-right}
+use native.Mathlib.Omega.{arith}
+use Rattle.spec.specs.Lists.{if}
+use Rattle.spec.specs.Blocks.{Kind, terminate, jump, jumpi, dynamic-jump, dynamic-jumpi, jumping, branching}
+use Rattle.initial.specs.Rows.{typeOf, kindOf}
+use Rattle.initial.specs.Turn.{clip}
+use Rattle.initial.specs.declared.row.BlockType.{BlockType}
+
+pub kind-type : (k : Kind) → kindOf (typeOf k) ≡ k
+unfolding kindOf if
+kind-type (terminate false) = refl
+kind-type (terminate true) = refl
+kind-type (jump t) = refl
+kind-type (jumpi t f) = refl
+kind-type dynamic-jump = refl
+kind-type (dynamic-jumpi f) = refl
+
+-- a type that a row can hold
+pub record Good (t : BlockType) : Type 0 where
+  pub canon : typeOf (kindOf t) ≡ t
+  pub least : 0 < t .kind
+  pub most : t .kind < 256
+  pub to : t .to < 65536
+  pub other : t .other < 65536
+
+tag-most : (k : Kind) → typeOf k .kind < 256
+tag-most (terminate false) = omega arith
+tag-most (terminate true) = omega arith
+tag-most (jump t) = omega arith
+tag-most (jumpi t f) = omega arith
+tag-most dynamic-jump = omega arith
+tag-most (dynamic-jumpi f) = omega arith
+
+tag-least : (k : Kind) → 0 < typeOf k .kind
+tag-least (terminate false) = omega arith
+tag-least (terminate true) = omega arith
+tag-least (jump t) = omega arith
+tag-least (jumpi t f) = omega arith
+tag-least dynamic-jump = omega arith
+tag-least (dynamic-jumpi f) = omega arith
+
+pub good : (k : Kind) → typeOf k .to < 65536 → typeOf k .other < 65536 → Good (typeOf k)
+good k t f = record { canon = ap typeOf (kind-type k); least = tag-least k; most = tag-most k; to = t; other = f }
+
+cap : (v : ℕ) → min v 0xFFFF < 65536
+cap v = omega (arith, min-le-right v 0xFFFF)
+
+pub good-terminate : (success : Bool) → Good (typeOf (terminate success))
+good-terminate true = good (terminate true) (omega arith) (omega arith)
+good-terminate false = good (terminate false) (omega arith) (omega arith)
+
+pub good-jump : (t : ℕ) → t < 65536 → Good (typeOf (jump t))
+good-jump t h = good (jump t) h (omega arith)
+
+pub good-jumping : (push : Option ℕ) → Good (typeOf (clip (jumping push)))
+good-jumping none = good dynamic-jump (omega arith) (omega arith)
+good-jumping (some v) = good (jump (min v 0xFFFF)) (cap v) (omega arith)
+
+pub good-branching : (push : Option ℕ) (f : ℕ) → f < 65536 → Good (typeOf (clip (branching push f)))
+good-branching none f h = good (dynamic-jumpi f) (omega arith) h
+good-branching (some v) f h = good (jumpi (min v 0xFFFF) f) (cap v) h

@@ -1,0 +1,39 @@
+use borrow.Author.Needs.{needs}
+use Rattle.initial.proofs.Checking.{check-none, check-rows, check-more, check-done}
+use Prim.Native.Nat.{_+_, _-_}
+use lib.ListN.{length}
+use Rattle.initial.proofs.Checking.{Checking}
+use Rattle.initial.proofs.check.check.Statement.{statement}
+use Rattle.initial.proofs.check.check.Tie as tie
+
+abbrev Inv-loop : tie.InvT-loop
+Inv-loop code w₀ n a₀ w a = Checking code w₀ w a
+
+abbrev μ-loop : tie.MeasureT-loop
+μ-loop code w₀ n a₀ w a = length code + 1 - a
+
+loop-holds : tie.Need-loop-holds Inv-loop μ-loop
+loop-holds c = search check-none
+
+check-row-requires : tie.Need-check-row-requires Inv-loop μ-loop
+check-row-requires c κs = (search check-rows, search needs)
+
+loop-again : tie.Need-loop-again Inv-loop μ-loop
+loop-again c = search check-more
+
+returns : tie.Need-returns Inv-loop μ-loop
+returns c = search check-done
+
+pub check-spec : {M : Type 1} → statement M
+check-spec =
+    tie.close
+    (tie.spec
+    Inv-loop
+    μ-loop
+    loop-holds
+    check-row-requires
+    (λ c. search needs)
+    (λ c. search needs)
+    loop-again
+    (λ c. search needs)
+    returns)

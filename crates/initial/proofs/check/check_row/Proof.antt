@@ -1,0 +1,35 @@
+use Rattle.initial.proofs.Checking.{row-jump, row-jumpi, row-same}
+use borrow.Author.Needs.{needs}
+use Rattle.initial.proofs.check.check_row.Statement.{statement}
+use Rattle.initial.proofs.check.check_row.Tie as tie
+
+returns : tie.Need-returns
+returns c = search row-jump
+
+returns-2 : tie.Need-returns-2
+returns-2 c = search row-jumpi
+
+returns-3 : tie.Need-returns-3
+returns-3 c = search row-same
+
+pub check-row-spec : {M : Type 1} → statement M
+check-row-spec =
+    tie.close
+    (tie.spec
+    (λ c κs. search needs)
+    (λ c. search needs)
+    (λ c. search needs)
+    (λ c κs. search needs)
+    (λ c κs. search needs)
+    (λ c κs. search needs)
+    (λ c. search needs)
+    returns
+    (λ c. search needs)
+    (λ c. search needs)
+    (λ c κs. search needs)
+    (λ c κs. search needs)
+    (λ c κs. search needs)
+    (λ c. search needs)
+    returns-2
+    (λ c. search needs)
+    returns-3)

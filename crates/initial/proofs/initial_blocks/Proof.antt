@@ -1,0 +1,10 @@
+use Rattle.initial.proofs.Joining.{joined}
+use borrow.Author.Needs.{needs}
+use Rattle.initial.proofs.initial_blocks.Statement.{statement}
+use Rattle.initial.proofs.initial_blocks.Tie as tie
+
+returns : tie.Need-returns
+returns c = search joined
+
+pub initial-blocks-spec : {M : Type 1} → statement M
+initial-blocks-spec = tie.close (tie.spec (λ c κs. search needs) (λ c κs. search needs) (λ c. search needs) returns)

@@ -1,0 +1,130 @@
+-- What each function asks and promises, a record each. Assumes nothing.
+use mathlib.Core.Path.{_≡_}
+use mathlib.Core.Bool.{Bool, true, false}
+use mathlib.Core.List.{List, [], _∷_, _++_, map}
+use mathlib.Core.Option.{none}
+use Prim.Native.Nat.{ℕ, suc, _+_, _*_, _≤_, _<_}
+use lib.ListN.{length, getD, take, drop}
+use Rattle.spec.specs.Lists.{mem}
+use Rattle.spec.specs.Opcodes.{argument}
+use Rattle.spec.specs.Walk.{instructions}
+use Rattle.spec.specs.Blocks.{Kind, Block, with-kind, opened, cuts, checked, starts, check-all, blocks}
+use Rattle.lent.specs.Bytes.{Stored}
+use Rattle.initial.specs.Rows.{tagAt, typeAt, rowBlocks, blocksAt, headOf, Laid}
+use Rattle.initial.specs.Turn.{clipped, rest, ahead}
+use Rattle.initial.specs.declared.row.BlockType.{BlockType}
+use Rattle.initial.specs.declared.turn.Mode.{Mode}
+use Rattle.initial.specs.declared.turn.Mode.the-variants.{Opened, Waiting, Ended}
+
+-- ---- what the callers of the whole lend: "code over 24,576 bytes" is refused, and W short of "64 × code length + 256 bytes"
+
+pub record Lent (code w : List ℕ) : Type 0 where
+  pub short : length code ≤ 24576
+  pub room : 64 * length code + 256 ≤ length w
+
+-- only the rows changed
+pub record Beyond (n : ℕ) (w w′ : List ℕ) : Type 0 where
+  pub others : drop (20 * (n + 1)) w′ ≡ drop (20 * (n + 1)) w
+  pub kept : length w′ ≡ length w
+
+-- ---- one row
+
+-- the block from a to end was written
+pub record Put (w : List ℕ) (a end : ℕ) (t : BlockType) (w′ : List ℕ) : Type 0 where
+  pub stored : Stored 8 w (20 * a) (headOf end t) w′
+
+-- t is the type that stands in the row of a
+pub record TypeIs (w : List ℕ) (a : ℕ) (t : BlockType) : Type 0 where
+  pub is : t ≡ typeAt w a
+  pub to : t .to < 65536
+  pub other : t .other < 65536
+
+-- ---- the cutting
+
+-- the instruction op stands whole at pc
+pub record Stands (code : List ℕ) (pc op : ℕ) : Type 0 where
+  pub byte : op ≡ getD code pc 0
+  pub whole : pc + argument op < length code
+
+-- the instruction at a place stands whole
+pub record Whole (code : List ℕ) (at : ℕ) : Type 0 where
+  pub whole : at + argument (getD code at 0) < length code
+
+-- so does the instruction before the one at pc
+pub record Behind (code : List ℕ) (prev pc : ℕ) : Type 0 where
+  pub before : Whole code prev
+  pub inside : pc < length code
+
+-- no block that starts before this address is still to be written
+abbrev pub lowest : Mode → ℕ → ℕ
+lowest (Opened start) at = start
+lowest Waiting at = at
+lowest Ended at = at
+
+-- no block is written at or past lo
+pub record Empty (w : List ℕ) (lo n : ℕ) : Type 0 where
+  pub none : (a : ℕ) → lo ≤ a → a ≤ n → tagAt w a ≡ 0
+
+-- how the rows stand before the instruction at a place
+pub record Ready (code w : List ℕ) (m : Mode) (prev at : ℕ) : Type 0 where
+  pub short : length code ≤ 24576
+  pub room : 20 * (length code + 1) ≤ length w
+  pub laid : Laid w (length code)
+  pub empty : Empty w (lowest m at) (length code)
+  pub low : lowest m at ≤ at
+  pub inside : at ≤ length code
+  pub back : prev ≤ at
+  pub before : prev < at → Whole code prev
+
+-- One instruction was taken: what is written and what is still to be cut are together what they were.
+pub record Turned (code w : List ℕ) (m : Mode) (prev pc op : ℕ) (w′ : List ℕ) (m′ : Mode) : Type 0 where
+  pub same : blocksAt w′ (length code) ++ ahead code (pc + suc (argument op)) m′ pc ≡ blocksAt w (length code) ++ ahead code pc m prev
+  pub ready : Ready code w′ m′ pc (pc + suc (argument op))
+  pub beyond : Beyond (length code) w w′
+
+-- The walk has ended: a last open block was written.
+pub record Last (code w : List ℕ) (m : Mode) (prev : ℕ) (w′ : List ℕ) : Type 0 where
+  pub blocks : blocksAt w′ (length code) ≡ blocksAt w (length code) ++ map clipped (rest [] m prev none)
+  pub laid : Laid w′ (length code)
+  pub beyond : Beyond (length code) w w′
+
+-- the code's blocks before the checks
+unfoldable pub cutting : List ℕ → List Block
+cutting [] = []
+cutting (b ∷ code) = cuts (instructions (b ∷ code)) (opened 0 0) 0 none
+
+pub record Cut (code w w′ : List ℕ) : Type 0 where
+  pub blocks : blocksAt w′ (length code) ≡ map clipped (cutting code)
+  pub laid : Laid w′ (length code)
+  pub beyond : Beyond (length code) w w′
+
+-- ---- the checks afterwards
+
+pub record Rows (code w : List ℕ) : Type 0 where
+  pub short : length code ≤ 24576
+  pub room : 64 * length code + 256 ≤ length w
+  pub laid : Laid w (length code)
+
+-- a block with its kind checked, where the blocks start so
+abbrev pub rechecked : List ℕ → List ℕ → Block → Block
+rechecked code ss b = with-kind (checked code ss (b .kind)) b
+
+-- the row of one address was checked
+pub record CheckedRow (code w : List ℕ) (a : ℕ) (w′ : List ℕ) : Type 0 where
+  pub same : rowBlocks w′ a ≡ map (rechecked code (starts (blocksAt w (length code)))) (rowBlocks w a)
+  pub before : take (20 * a) w′ ≡ take (20 * a) w
+  pub after : drop (20 * (a + 1)) w′ ≡ drop (20 * (a + 1)) w
+  pub laid : Laid w′ (length code)
+  pub kept : length w′ ≡ length w
+
+pub record Checked (code w w′ : List ℕ) : Type 0 where
+  pub blocks : blocksAt w′ (length code) ≡ check-all code (blocksAt w (length code))
+  pub laid : Laid w′ (length code)
+  pub beyond : Beyond (length code) w w′
+
+-- ---- both
+
+pub record Initial (code w w′ : List ℕ) : Type 0 where
+  pub same : blocksAt w′ (length code) ≡ blocks code (instructions code)
+  pub laid : Laid w′ (length code)
+  pub beyond : Beyond (length code) w w′

@@ -1,0 +1,122 @@
+// The checks afterwards, one row a turn.
+use crate::op::JUMPDEST;
+use crate::row::BlockType;
+use crate::row::END;
+use crate::row::JUMP;
+use crate::row::JUMPI;
+use crate::row::ROW;
+use crate::row::TERMINATE;
+use crate::row::put_block;
+use crate::row::type_at;
+use lent::get8;
+use lent::get16;
+ghost use mathlib.Core.Path.{_≡_};
+ghost use Prim.Native.Nat.{_+_, _*_, _≤_};
+ghost use lib.ListN.{length};
+ghost use Rattle.spec.specs.Lists.{mem};
+ghost use Rattle.spec.specs.Blocks.{jump, jumpi, starts, lands, checked};
+ghost use Rattle.initial.specs.Rows.{typeOf, blocksAt};
+ghost use Rattle.initial.specs.Contracts.{Rows, Checked, CheckedRow};
+
+// The checks of every block.
+pub fn check(code: &[u8], w: &mut [u8])
+    requires { ⌜ Rows (now code) (now w) ⌝ }
+    ensures { λ _. ⌜ Checked (now (code .entry)) (now (w .entry)) (now (w .exit)) ⌝ }
+{
+    let n = code.len();
+    let mut a = 0;
+    while a <= n {
+        check_row(code, w, a);
+        a += 1;
+    }
+}
+
+// The checks of the block that starts at a, if one does.
+fn check_row(code: &[u8], w: &mut [u8], a: usize)
+    requires { ⌜ Rows (now code) (now w) ⌝ }
+    requires { ⌜ a ≤ length (now code) ⌝ }
+    ensures { λ _. ⌜ CheckedRow (now (code .entry)) (now (w .entry)) a (now (w .exit)) ⌝ }
+{
+    let t = type_at(w, a);
+    if t.kind == JUMP {
+        let end = get16(w, ROW * a + END);
+        let to = checked_jump(code, w, t.to);
+        put_block(w, a, end, to);
+        return;
+    }
+    if t.kind == JUMPI {
+        let end = get16(w, ROW * a + END);
+        let to = checked_jumpi(code, w, t.to, t.other);
+        put_block(w, a, end, to);
+    }
+}
+
+// A Jump to no block, or to one without a JUMPDEST, becomes Terminate false.
+fn checked_jump(code: &[u8], w: &[u8], to: usize) -> BlockType
+    requires { ⌜ 20 * (length (now code) + 1) ≤ length (now w) ⌝ }
+    ensures { λ r. ⌜ r ≡ typeOf (checked (now (code .entry)) (starts (blocksAt (now (w .entry)) (length (now (code .entry))))) (jump to)) ⌝ }
+{
+    if lands(code, w, to) {
+        return BlockType {
+            kind: JUMP,
+            to,
+            other: 0,
+        };
+    }
+    BlockType {
+        kind: TERMINATE,
+        to: 0,
+        other: 0,
+    }
+}
+
+// A Jumpi whose false side starts no block becomes Terminate false; otherwise, if its true side does not land, a Jump to its false side.
+fn checked_jumpi(code: &[u8], w: &[u8], to: usize, other: usize) -> BlockType
+    requires { ⌜ 20 * (length (now code) + 1) ≤ length (now w) ⌝ }
+    ensures { λ r. ⌜ r ≡ typeOf (checked (now (code .entry)) (starts (blocksAt (now (w .entry)) (length (now (code .entry))))) (jumpi to other)) ⌝ }
+{
+    if starts(code, w, other) {
+        if lands(code, w, to) {
+            return BlockType {
+                kind: JUMPI,
+                to,
+                other,
+            };
+        }
+        return BlockType {
+            kind: JUMP,
+            to: other,
+            other: 0,
+        };
+    }
+    BlockType {
+        kind: TERMINATE,
+        to: 0,
+        other: 0,
+    }
+}
+
+// Does a block start at t?
+fn starts(code: &[u8], w: &[u8], t: usize) -> bool
+    requires { ⌜ 20 * (length (now code) + 1) ≤ length (now w) ⌝ }
+    ensures { λ r. ⌜ r ≡ mem t (starts (blocksAt (now (w .entry)) (length (now (code .entry))))) ⌝ }
+{
+    if code.len() < t {
+        return false;
+    }
+    get8(w, ROW * t) != 0
+}
+
+// Does a block start at t, with a JUMPDEST?
+fn lands(code: &[u8], w: &[u8], t: usize) -> bool
+    requires { ⌜ 20 * (length (now code) + 1) ≤ length (now w) ⌝ }
+    ensures { λ r. ⌜ r ≡ lands (now (code .entry)) (starts (blocksAt (now (w .entry)) (length (now (code .entry))))) t ⌝ }
+{
+    if code.len() <= t {
+        return false;
+    }
+    if code[t] != JUMPDEST {
+        return false;
+    }
+    get8(w, ROW * t) != 0
+}

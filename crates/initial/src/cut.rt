@@ -1,0 +1,88 @@
+// Cutting code into blocks, one instruction a turn.
+use crate::op::JUMPDEST;
+use crate::row::ROW;
+use crate::row::put_block;
+use crate::turn::Mode;
+use crate::turn::Turn;
+use crate::turn::closes;
+use crate::turn::cut_of;
+use crate::turn::terminate;
+use evm::walk::Step;
+use evm::walk::step_at;
+use lent::wipe_part;
+ghost use mathlib.Core.Path.{_≡_};
+ghost use Prim.Native.Nat.{_+_, _*_, _≤_};
+ghost use lib.ListN.{length};
+ghost use Rattle.initial.specs.Contracts.{Lent, Stands, Ready, Turned, Last, Cut};
+
+// The blocks of the code before the checks.
+pub fn cut(code: &[u8], w: &mut [u8])
+    requires { ⌜ Lent (now code) (now w) ⌝ }
+    ensures { λ _. ⌜ Cut (now (code .entry)) (now (w .entry)) (now (w .exit)) ⌝ }
+{
+    let n = code.len();
+    wipe_part(w, 0, ROW * (n + 1));
+    if n == 0 {
+        return;
+    }
+    let mut mode = Mode::Opened(0);
+    let mut prev = 0;
+    let mut at = 0;
+    loop {
+        match step_at(code, at) {
+            Step::End => {
+                last(code, w, mode, prev, at);
+                return;
+            }
+            Step::Whole { pc, op, next } => {
+                mode = turn(code, w, mode, prev, pc, op);
+                if let Mode::Ended = mode {
+                    return;
+                }
+                prev = pc;
+                at = next;
+            }
+        }
+    }
+}
+
+// One instruction, at pc: the block that it closes is written.
+fn turn(code: &[u8], w: &mut [u8], mode: Mode, prev: usize, pc: usize, op: u8) -> Mode
+    requires { ⌜ Ready (now code) (now w) mode prev pc ⌝ }
+    requires { ⌜ Stands (now code) pc op ⌝ }
+    ensures { λ r. ⌜ Turned (now (code .entry)) (now (w .entry)) mode prev pc op (now (w .exit)) r ⌝ }
+{
+    match mode {
+        Mode::Opened(start) => match closes(code, start, prev, pc, cut_of(op)) {
+            Turn::Goes(m) => m,
+            Turn::Closes { end, kind, then } => {
+                put_block(w, start, end, kind);
+                then
+            }
+        },
+        Mode::Waiting => {
+            if op == JUMPDEST {
+                Mode::Opened(pc)
+            } else {
+                Mode::Waiting
+            }
+        }
+        Mode::Ended => Mode::Ended,
+    }
+}
+
+// A last open block is kept if its start is not beyond the last instruction.
+fn last(code: &[u8], w: &mut [u8], mode: Mode, prev: usize, at: usize)
+    requires { ⌜ Ready (now code) (now w) mode prev at ⌝ }
+    ensures { λ _. ⌜ Last (now (code .entry)) (now (w .entry)) mode prev (now (w .exit)) ⌝ }
+{
+    match mode {
+        Mode::Opened(start) => {
+            if start <= prev {
+                put_block(w, start, prev, terminate(false));
+            }
+        }
+        Mode::Waiting => {}
+        Mode::Ended => {}
+    }
+}

@@ -1,0 +1,145 @@
+// One instruction of the cutting: what it is, the block that it closes, and how the walk goes on.
+use crate::jump::branching;
+use crate::jump::jumping;
+use crate::op;
+use crate::row::BlockType;
+use crate::row::JUMP;
+use crate::row::SUCCESS;
+use crate::row::TERMINATE;
+ghost use mathlib.Core.Path.{_≡_};
+ghost use Rattle.spec.specs.Opcodes.{row};
+ghost use Rattle.spec.specs.Blocks.{cut, terminate};
+ghost use Rattle.initial.specs.Rows.{typeOf};
+ghost use Rattle.initial.specs.Turn.{pushedAt, cutOf, turnOf};
+ghost use Rattle.initial.specs.Contracts.{Behind};
+ghost use Rattle.initial.specs.declared.turn.Cut.the-variants.{Jumpdest, Unknown};
+ghost use mathlib.Core.Option.{none};
+
+// What an instruction is to the cutting; what ends a block for good does so with success or without.
+pub enum Cut {
+    Jumpdest,
+    Jumpi,
+    Jump,
+    Ends(bool),
+    Unknown,
+    Other,
+}
+
+// How the walk stands: a block is open from its start on, a JUMPDEST is waited for, or cutting has ended for the whole code.
+pub enum Mode {
+    Opened(usize),
+    Waiting,
+    Ended,
+}
+
+// What an instruction does in the open block: it goes on, or closes the block, whose last instruction is at end.
+pub enum Turn {
+    Goes(Mode),
+    Closes {
+        end: usize,
+        kind: BlockType,
+        then: Mode,
+    },
+}
+
+// What the instruction is.
+pub fn cut_of(op: u8) -> Cut
+    ensures { λ r. ⌜ r ≡ cutOf (cut op) ⌝ }
+{
+    match op {
+        op::JUMPDEST => Cut::Jumpdest,
+        op::JUMPI => Cut::Jumpi,
+        op::JUMP => Cut::Jump,
+        op::STOP | op::RETURN | op::SELFDESTRUCT => Cut::Ends(true),
+        op::REVERT | op::INVALID => Cut::Ends(false),
+        _ => { if known(op) { Cut::Other } else { Cut::Unknown } }
+    }
+}
+
+// Is the byte known? By its range, since to read evm's constant rows is to write all of them out first.
+fn known(op: u8) -> bool
+    ensures { λ r. ⌜ r ≡ row op .known ⌝ }
+{
+    match op {
+        0x0c..=0x0f | 0x1e..=0x1f | 0x21..=0x2f | 0x4b..=0x4f => false,
+        0xa5..=0xef | 0xf6..=0xf9 | 0xfb..=0xfc => false,
+        _ => true,
+    }
+}
+
+// A block that just ends, with success or without.
+pub fn terminate(success: bool) -> BlockType
+    ensures { λ r. ⌜ r ≡ typeOf (terminate success) ⌝ }
+{
+    BlockType {
+        kind: if success { SUCCESS } else { TERMINATE },
+        to: 0,
+        other: 0,
+    }
+}
+
+// A JUMPDEST past its block's start ends the block before it, as a Jump to it.
+fn at_jumpdest(start: usize, prev: usize, pc: usize) -> Turn
+    ensures { λ r. ⌜ r ≡ turnOf start prev none pc Jumpdest ⌝ }
+{
+    if start == pc {
+        return Turn::Goes(Mode::Opened(start));
+    }
+    Turn::Closes {
+        end: prev,
+        kind: BlockType {
+            kind: JUMP,
+            to: pc,
+            other: 0,
+        },
+        then: Mode::Opened(pc),
+    }
+}
+
+// An unknown byte ends the block before it, which is kept unless it starts there; from start 0 on it is kept, and cutting ends.
+fn at_unknown(start: usize, prev: usize, pc: usize) -> Turn
+    ensures { λ r. ⌜ r ≡ turnOf start prev none pc Unknown ⌝ }
+{
+    if start == 0 {
+        return Turn::Closes {
+            end: prev,
+            kind: terminate(false),
+            then: Mode::Ended,
+        };
+    }
+    if start == pc {
+        return Turn::Goes(Mode::Waiting);
+    }
+    Turn::Closes {
+        end: prev,
+        kind: terminate(false),
+        then: Mode::Waiting,
+    }
+}
+
+// One instruction at pc, in the block that is open from start on; prev is the instruction before.
+pub fn closes(code: &[u8], start: usize, prev: usize, pc: usize, c: Cut) -> Turn
+    requires { ⌜ Behind (now code) prev pc ⌝ }
+    ensures { λ r. ⌜ r ≡ turnOf start prev (pushedAt (now (code .entry)) prev) pc c ⌝ }
+{
+    match c {
+        Cut::Jumpdest => at_jumpdest(start, prev, pc),
+        Cut::Jumpi => Turn::Closes {
+            end: pc,
+            kind: branching(code, prev, pc + 1),
+            then: Mode::Opened(pc + 1),
+        },
+        Cut::Jump => Turn::Closes {
+            end: pc,
+            kind: jumping(code, prev),
+            then: Mode::Waiting,
+        },
+        Cut::Ends(success) => Turn::Closes {
+            end: pc,
+            kind: terminate(success),
+            then: Mode::Waiting,
+        },
+        Cut::Unknown => at_unknown(start, prev, pc),
+        Cut::Other => Turn::Goes(Mode::Opened(start)),
+    }
+}
