@@ -10,6 +10,7 @@ use borrow.Author.Tests.{eqb-true, eq-eqb}
 use Rattle.spec.specs.Lists.{mem, keep, gather}
 use Rattle.theorems.proofs.Branch.{both}
 
+-- by its place in the list, so that a clause can match on it; the library's `List·Memᴰ` carries an equation instead
 pub data In {A : Type 0} (x : A) : List A → Type 0 where
   here : {xs : List A} → In x (x ∷ xs)
   there : {y : A} {xs : List A} → In x xs → In x (y ∷ xs)
