@@ -9,7 +9,7 @@ use lib.Bits.{bitAnd}
 use lib.Dec.{eqb}
 use lib.ListN.{length, getD, drop, set}
 use Rattle.spec.specs.Lists.{if, within, mem}
-use Rattle.spec.specs.Opcodes.{row}
+use Rattle.spec.specs.Opcodes.{argument, row}
 use Rattle.spec.specs.Walk.{Ins}
 use Rattle.spec.specs.Stacks.{Sym, before, constant, jumpdest, other, known-value, Stack, entry, read, does, mask, is, act, Ran}
 
@@ -61,6 +61,13 @@ executes supply start (i ∷ is) st =
     let on = executes supply start is after in
     if (last start i) (record { words = after; popped = if (jumping (i .op)) (some (getD st 0 0)) none }) on
 
+-- "An unknown byte ends the block at the previous instruction", here the one at `end`, which does not end it itself; or the block is that byte, at 0
+abbrev pub cut-short : List ℕ → ℕ → Bool
+cut-short code end =
+    let byte = getD code end 0 in
+    let behind = getD code (end + suc (argument byte)) 0 in
+    not (row byte .known) || (not (closing byte) && not (row behind .known))
+
 -- ---- what is asked of it
 
 -- P holds at each instruction that is run, of the symbols and the words before it
@@ -69,7 +76,7 @@ Throughout code supply start P [] s st = Unit {0}
 Throughout code supply start P (i ∷ is) s st =
     P i s st × (last start i ≡ false → Throughout code supply start P is (act code i (does (i .op)) s) (yields supply i st))
 
--- "for blocks not cut at an unknown byte": past one, YP has no run
+-- YP has the instruction: past an unknown byte it has no run
 abbrev pub Known : Ins → Stack → List ℕ → Type 0
 Known i s st = row (i .op) .known ≡ true
 
@@ -87,7 +94,6 @@ Masked i s st = i .op ≡ 0x16 → Small s st
 
 -- what is asked of a block's run from the words st on entry
 pub record Asked (code : List ℕ) (supply : ℕ → ℕ → ℕ) (start : ℕ) (is : List Ins) (st : List ℕ) : Type 0 where
-  pub known : Throughout code supply start Known is entry st
   pub deep : Throughout code supply start Deep is entry st
   pub masked : Throughout code supply start Masked is entry st
 

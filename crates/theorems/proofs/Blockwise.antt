@@ -2,8 +2,8 @@
 use Prim.Native.Nat.{ℕ, zero, suc, _+_, _-_, _*_, _≤_}
 use native.Mathlib.Omega.{arith}
 use native.Mathlib.Nat.{zero-add}
-use mathlib.Core.Path.{_≡_, refl, ap, _∙_}
-use mathlib.Core.Bool.{Bool, true, false, _&&_, _||_, not}
+use mathlib.Core.Path.{_≡_, refl, sym, ap, _∙_}
+use mathlib.Core.Bool.{Bool, true, false, _&&_, _||_, not, true≢false}
 use mathlib.Core.Option.{none, some}
 use mathlib.Core.List.{List, [], _∷_}
 use lib.Dec.{eqb}
@@ -12,10 +12,12 @@ use borrow.Author.Tests.{eqb-true}
 use Rattle.spec.specs.Lists.{if}
 use Rattle.spec.specs.Opcodes.{row}
 use Rattle.spec.specs.Walk.{Ins, from, instructions}
+use Rattle.spec.specs.Blocks.{Block, blocks}
 use Rattle.spec.specs.Stacks.{Sym, before, constant, jumpdest, other, Stack, entry, reads, read, joins, settle, trims, trim, Does, pushes-value, pushes-pc, dups, swaps, ands, adds, jumps, jumpis, lands, halts, plain, does, act, Ran, after, runs, trimmed, run}
-use Rattle.spec.specs.Meaning.{last, Ended, executes, Throughout, Known, Deep, Masked, Asked, no-jump, jumps-to, Holds, Faithful}
+use Rattle.spec.specs.Meaning.{last, cut-short, Ended, executes, Throughout, Known, Deep, Masked, Asked, no-jump, jumps-to, Holds, Faithful}
 use Rattle.theorems.proofs.Branch.{both}
-use Rattle.theorems.proofs.Members.{In, here, there}
+use Rattle.theorems.proofs.Members.{In}
+use Rattle.theorems.proofs.Cutting.{Whole, Passes, walk-over, ends-before, ends-with, goes-past, is-short, is-whole, block-whole}
 use Rattle.theorems.proofs.Counts.{takes, takes-row, few, jumps?, closes?, lands?, jumping-does, closing-does, landing-does}
 use Rattle.theorems.proofs.Symbols.{leaves, holds-act}
 
@@ -121,6 +123,26 @@ pub faithful-run : (code : List ℕ) (supply : ℕ → ℕ → ℕ) (start : ℕ
 unfolding run
 faithful-run code supply start = faithful-block code supply start (from start (instructions code))
 
+-- ---- the block of the cut
+
+module _ (code : List ℕ) (supply : ℕ → ℕ → ℕ) where
+  passes-known : {start end p : ℕ} {is : List Ins} → Passes start end p is → (s : Stack) (st : List ℕ) → Throughout code supply start Known is s st
+  passes-known walk-over s st = tt
+  passes-known (ends-before k l e) s st = (k, λ off. absurd (true≢false (sym l ∙ off)))
+  passes-known (ends-with k l e) s st = (k, λ off. absurd (true≢false (sym l ∙ off)))
+  passes-known (goes-past k l r) s st = (k, λ _. passes-known r _ _)
+
+-- "Meaning to prove", of a block that is "not cut at an unknown byte": its bytes are known, so that YP has its run, and the symbols tell the truth of it.
+pub meaning : (code : List ℕ) (supply : ℕ → ℕ → ℕ) {b : Block} → In b (blocks code (instructions code)) → cut-short code (b .end) ≡ false
+    → (st : List ℕ) → Asked code supply (b .start) (from (b .start) (instructions code)) st
+    → Throughout code supply (b .start) Known (from (b .start) (instructions code)) entry st
+    × Faithful st (run code (instructions code) (b .start)) (executes supply (b .start) (from (b .start) (instructions code)) st)
+meaning code supply {b} n uncut st a = (passes-known code supply (passes (block-whole code n)) entry st, faithful-run code supply (b .start) st a)
+  where
+    passes : Whole code b → Passes (b .start) (b .end) (b .start) (from (b .start) (instructions code))
+    passes (is-short c k) = absurd (true≢false (sym c ∙ uncut))
+    passes (is-whole c r) = r
+
 -- ---- the premise can be met
 
 module _ (code : List ℕ) (supply : ℕ → ℕ → ℕ) (start : ℕ) where
@@ -131,8 +153,3 @@ module _ (code : List ℕ) (supply : ℕ → ℕ → ℕ) (start : ℕ) where
       let c = few (i .op) in
       let here : row (i .op) .taken ≤ length st = omega arith in
       (here, λ _. deep-enough is _ _ (omega (arith, leaves supply i st here)))
-
-  -- Where every byte is known, none that is run is unknown.
-  pub all-known : (is : List Ins) (s : Stack) (st : List ℕ) → ((i : Ins) → In i is → row (i .op) .known ≡ true) → Throughout code supply start Known is s st
-  all-known [] s st h = tt
-  all-known (i ∷ is) s st h = (h i here, λ _. all-known is _ _ (λ j n. h j (there n)))

@@ -20,21 +20,21 @@ use Rattle.theorems.proofs.Branch.{and-false}
 
 -- ---- a number past 255, which is no byte, is plain and unknown
 
-and-off : (a : Bool) → a && false ≡ false
+pub and-off : (a : Bool) → a && false ≡ false
 and-off a = and-false a refl
 
 module _ (b : ℕ) (past : 255 < b) where
-  differs : (n : ℕ) → T (leb n 255) → eqb b n ≡ false
+  pub differs : (n : ℕ) → T (leb n 255) → eqb b n ≡ false
   differs n t = ne-eqb b n (omega (arith, leb→le))
 
-  above : (n : ℕ) → T (leb n 255) → leb b n ≡ false
+  pub above : (n : ℕ) → T (leb n 255) → leb b n ≡ false
   above n t = lt-leb b n (omega (arith, leb→le))
 
   past-plain : does b ≡ plain
   unfolding does if
   past-plain = simp (differs, above, and-off, tt {0})
 
-  past-unknown : row b ≡ unknown
+  pub past-unknown : row b ≡ unknown
   unfolding row if
   past-unknown = simp (above, and-off, tt {0})
 
@@ -57,7 +57,7 @@ module _ {A : Type 0} where
       split (inl q) on = rw q first
       split (inr q) on = on q
 
-  everywhere : (f g : ℕ → A) → values f 256 ≡ values g 256 → ((b : ℕ) → 255 < b → f b ≡ g b) → (b : ℕ) → f b ≡ g b
+  pub everywhere : (f g : ℕ → A) → values f 256 ≡ values g 256 → ((b : ℕ) → 255 < b → f b ≡ g b) → (b : ℕ) → f b ≡ g b
   everywhere f g e past b = split (ltb b 256) refl
     where
       split : (t : Bool) → ltb b 256 ≡ t → f b ≡ g b

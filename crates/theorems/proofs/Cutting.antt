@@ -1,22 +1,25 @@
--- Laws of the blocks (document 01, "Cutting into blocks"). Assumes nothing.
+-- Document 01, "Cutting into blocks": where blocks begin and end, their order, what their runs pass, and that a code has a block at 0. Assumes nothing.
 use Prim.Native.Nat.{ℕ, suc, _+_, _≤_, _<_}
 use native.Mathlib.Omega.{arith}
 use native.Mathlib.Nat.{le-refl, le-trans}
-use mathlib.Core.Path.{_≡_, refl, ap, _∙_}
+use mathlib.Core.Path.{_≡_, refl, sym, ap, _∙_}
+use mathlib.Core.Logic.{_⊎_, inl, inr}
 use mathlib.Core.Bool.{Bool, true, false, _||_}
 use mathlib.Core.List.{List, [], _∷_, map}
 use mathlib.Core.Option.{Option, none}
 use lib.Dec.{eqb, leb}
-use lib.ListN.{length, drop}
-use borrow.Author.Tests.{eqb-true, eqb-false, leb-true, leb-false}
+use lib.ListN.{length, getD, drop, List·getD-eq-default}
+use borrow.Author.Tests.{eqb-true, eqb-false, eq-eqb, ne-eqb, leb-true, leb-false}
 use Rattle.spec.specs.Lists.{if, mem}
 use Rattle.spec.specs.Opcodes.{argument, row}
 use Rattle.spec.specs.Walk.{Ins, walk, instructions, from}
-use Rattle.spec.specs.Blocks.{Kind, Block, block, with-kind, Mode, opened, waiting, pushed, Cut, JUMPDEST, JUMPI, JUMP, UNKNOWN, OTHER, ENDS, cut, closes, cuts, checked, starts, check-all, blocks}
+use Rattle.spec.specs.Meaning.{closing, last, cut-short}
+use Rattle.spec.specs.Blocks.{Kind, terminate, jump, Block, block, with-kind, Mode, opened, waiting, pushed, Cut, JUMPDEST, JUMPI, JUMP, UNKNOWN, OTHER, ENDS, cut, closes, cuts, checked, starts, check-all, blocks}
 use Rattle.theorems.proofs.Branch.{both}
 use Rattle.theorems.proofs.Lists.{Rising, none-left, one-more, rising-from}
-use Rattle.theorems.proofs.Members.{In, here, there}
-use Rattle.theorems.proofs.Walking.{Walked, stops, steps, walks-from, walked, walked-once, from-here, from-in, from-behind}
+use Rattle.theorems.proofs.Members.{In, here, there, or-cases}
+use Rattle.theorems.proofs.Counts.{and-off, differs, above, everywhere}
+use Rattle.theorems.proofs.Walking.{Stands, Walked, stops, steps, walks-from, walked, walked-once, from-here, from-in, from-behind}
 
 -- ---- what is proved
 
@@ -26,6 +29,13 @@ pub data Begins (is : List Ins) : ℕ → Type 0 where
   at-jumpdest : {i : Ins} → In i is → i .op ≡ 0x5B → Begins is (i .pc)
   past-jumpi : {i : Ins} → In i is → i .op ≡ 0x57 → Begins is (i .pc + 1)
 
+-- The block's run, from the place p on: the bytes that it passes are known, and it ends with the instruction at `end` or right behind it.
+pub data Passes (start end : ℕ) : ℕ → List Ins → Type 0 where
+  walk-over : Passes start end end []
+  ends-before : {i : Ins} {is : List Ins} → row (i .op) .known ≡ true → last start i ≡ true → i .op ≡ 0x5B → Passes start end end (i ∷ is)
+  ends-with : {p : ℕ} {i : Ins} {is : List Ins} → row (i .op) .known ≡ true → last start i ≡ true → i .pc ≡ end → Passes start end p (i ∷ is)
+  goes-past : {p : ℕ} {i : Ins} {is : List Ins} → row (i .op) .known ≡ true → last start i ≡ false → Passes start end (i .pc) is → Passes start end p (i ∷ is)
+
 -- "`id` equals `start`", and the block ends no earlier than it starts, within the code
 pub record Made (code : List ℕ) (b : Block) : Type 0 where
   pub id-start : b .id ≡ b .start
@@ -34,10 +44,16 @@ pub record Made (code : List ℕ) (b : Block) : Type 0 where
   pub start-inside : b .start < length code
   pub end-inside : b .end < length code
 
+-- a block is cut at an unknown byte, "Terminate false", or its run is as said
+pub data Whole (code : List ℕ) (b : Block) : Type 0 where
+  is-short : cut-short code (b .end) ≡ true → b .kind ≡ terminate false → Whole code b
+  is-whole : cut-short code (b .end) ≡ false → Passes (b .start) (b .end) (b .start) (from (b .start) (instructions code)) → Whole code b
+
 -- blocks from lo on, each behind the end of the one before
 pub data Ordered (code : List ℕ) : ℕ → List Block → Type 0 where
   no-more : {lo : ℕ} → Ordered code lo []
-  then : {lo : ℕ} {b : Block} {bs : List Block} → lo ≤ b .start → Made code b → Ordered code (suc (b .end)) bs → Ordered code lo (b ∷ bs)
+  then : {lo : ℕ} {b : Block} {bs : List Block} → lo ≤ b .start → Made code b → Whole code b → Ordered code (suc (b .end)) bs
+      → Ordered code lo (b ∷ bs)
 
 -- ---- the cutting
 
@@ -56,108 +72,6 @@ jumpi-alone : argument 0x57 ≡ 0
 unfolding if
 jumpi-alone = refl
 
-module _ (code : List ℕ) where
-  -- the open block, before the instruction at `at`: it begins there, or holds the instruction before, at `prev`
-  record Open (id start prev at : ℕ) : Type 0 where
-    same : id ≡ start
-    begins : Begins (instructions code) start
-    low : start ≤ at
-    held : ¬ (start ≡ at) → (start ≤ prev) × (prev < at)
-
-  abbrev Ready : Mode → ℕ → ℕ → Type 0
-  Ready (opened id start) prev at = Open id start prev at
-  Ready waiting prev at = Unit {0}
-
-  -- no block begins before
-  abbrev lowest : Mode → ℕ → ℕ
-  lowest (opened id start) at = start
-  lowest waiting at = at
-
-  ordered-from : {lo at : ℕ} {bs : List Block} → lo ≤ at → Ordered code at bs → Ordered code lo bs
-  ordered-from h no-more = no-more
-  ordered-from h (then k m r) = then (le-trans h k) m r
-
-  -- a block is closed at `end`
-  closed : {id start prev at : ℕ} → Open id start prev at → (end : ℕ) (k : Kind) {bs : List Block} → start ≤ end → end < length code → Ordered code (suc end) bs
-      → Ordered code start (block id start end k ∷ bs)
-  closed o end k f e r = then (le-refl _) (record { id-start = o .same; begins = o .begins; forward = f; start-inside = omega arith; end-inside = e }) r
-
-  begun : {start prev at : ℕ} → Begins (instructions code) start → start ≤ prev → prev < at → Open start start prev at
-  begun b h l = record { same = refl; begins = b; low = omega arith; held = λ _. (h, l) }
-
-  -- one instruction of the walk, and how the cutting goes on at the next
-  module _ (i : Ins) (member : In i (instructions code)) (whole : i .pc < length code) (next : ℕ) (size : next ≡ i .pc + suc (argument (i .op)))
-      (on : Mode → List Block) (rest : (m : Mode) → Ready m (i .pc) next → Ordered code (lowest m next) (on m)) where
-    closes-ordered : {id start prev : ℕ} (push : Option ℕ) → Open id start prev (i .pc) → prev < length code
-        → Ordered code start (closes id start prev push (i .pc) on (cut (i .op)))
-    closes-ordered {id} {start} {prev} push o p =
-        by-cut (λ (c : Cut). Ordered code start (closes id start prev push (i .pc) on c)) (i .op)
-        (λ dest. both (Ordered code start) (eqb start (i .pc)) (λ _. go-on)
-        (λ ne. let h = o .held (eqb-false _ _ ne) in
-        closed o prev _ (h .0) p (ordered-from (h .1) (rest (opened (i .pc) (i .pc)) (begun (at-jumpdest member dest) (le-refl _) ahead)))))
-        (λ jumpi. closed o (i .pc) _ (o .low) whole (ordered-from (omega arith) (rest (opened (i .pc + 1) (i .pc + 1)) (past jumpi))))
-        last (λ success. last) go-on
-        (both (Ordered code start) (eqb start 0) (λ first. closed o prev _ (omega (arith, eqb-true)) p no-more)
-        (λ _. both (Ordered code start) (eqb start (i .pc)) (λ _. ordered-from (omega (arith, o .low)) (rest waiting tt))
-        (λ ne. let h = o .held (eqb-false _ _ ne) in closed o prev _ (h .0) p (ordered-from (omega arith) (rest waiting tt)))))
-      where
-        ahead : i .pc < next
-        ahead = omega arith
-
-        go-on : Ordered code start (on (opened id start))
-        go-on = rest (opened id start) (record { same = o .same; begins = o .begins; low = omega (arith, o .low); held = λ _. (o .low, ahead) })
-
-        past : i .op ≡ 0x57 → Open (i .pc + 1) (i .pc + 1) (i .pc) next
-        past e = record { same = refl; begins = past-jumpi member e; low = omega arith; held = λ ne. absurd (ne (omega (arith, jumpi-alone, ap argument e))) }
-
-        last : {k : Kind} → Ordered code start (block id start (i .pc) k ∷ on waiting)
-        last {k} = closed o (i .pc) k (o .low) whole (ordered-from ahead (rest waiting tt))
-
-  cuts-ordered : {at : ℕ} {is : List Ins} → Walked code at is → ((i : Ins) → In i is → In i (instructions code))
-      → (m : Mode) (prev : ℕ) (push : Option ℕ) → prev < length code → Ready m prev at → Ordered code (lowest m at) (cuts is m prev push)
-  unfolding cuts
-  cuts-ordered (stops _) sub waiting prev push p r = no-more
-  cuts-ordered (stops _) sub (opened id start) prev push p o =
-      both (Ordered code start) (leb start prev) (λ l. closed o prev _ (leb-true _ _ l) p no-more) (λ _. no-more)
-  cuts-ordered (steps {i} s w) sub waiting prev push p r =
-      both (Ordered code (i .pc)) (eqb (i .op) 0x5B)
-      (λ e. cuts-ordered w (λ j n. sub j (there n)) (opened (i .pc) (i .pc)) (i .pc) _ (omega arith)
-      (begun (at-jumpdest (sub i here) (eqb-true _ _ e)) (le-refl _) (omega arith)))
-      (λ _. ordered-from (omega arith) (cuts-ordered w (λ j n. sub j (there n)) waiting (i .pc) _ (omega arith) tt))
-  cuts-ordered (steps {i} s w) sub (opened id start) prev push p o =
-      closes-ordered i (sub i here) (omega arith) _ refl _ (λ m r. cuts-ordered w (λ j n. sub j (there n)) m (i .pc) _ (omega arith) r) push o p
-
-  -- "Afterwards" only kinds change.
-  made-kind : (k : Kind) {b : Block} → Made code b → Made code (with-kind k b)
-  made-kind k m = record { id-start = m .id-start; begins = m .begins; forward = m .forward; start-inside = m .start-inside; end-inside = m .end-inside }
-
-  check-ordered : (f : Kind → Kind) {lo : ℕ} {bs : List Block} → Ordered code lo bs → Ordered code lo (map (λ (b : Block). with-kind (f (b .kind)) b) bs)
-  check-ordered f no-more = no-more
-  check-ordered f (then l m r) = then l (made-kind _ m) (check-ordered f r)
-
--- The blocks stand in address order, each behind the end of the one before, and each is made as said.
-pub ordered : (code : List ℕ) → Ordered code 0 (blocks code (instructions code))
-unfolding blocks
-ordered [] = no-more
-ordered (b ∷ code) =
-    check-ordered (b ∷ code) _
-    (cuts-ordered (b ∷ code) (walked (b ∷ code)) (λ i n. n) (opened 0 0) 0 none (omega arith)
-    (record { same = refl; begins = at-zero; low = omega arith; held = λ ne. absurd (ne refl) }))
-
--- ---- what follows
-
-made-in : {code : List ℕ} {lo : ℕ} {bs : List Block} {b : Block} → Ordered code lo bs → In b bs → Made code b
-made-in (then l m r) here = m
-made-in (then l m r) (there n) = made-in r n
-
-rise : {code : List ℕ} {lo : ℕ} {bs : List Block} → Ordered code lo bs → Rising lo (starts bs)
-rise no-more = none-left
-rise (then {b} l m r) = one-more l (rising-from (omega arith) (rise r))
-
--- "`id` equals `start`; that is proved." And the rest of what is said above.
-pub made : (code : List ℕ) {b : Block} → In b (blocks code (instructions code)) → Made code b
-made code = made-in (ordered code)
-
 -- the walk of a place where a block may begin
 begins-walk : (code : List ℕ) {start : ℕ} → Begins (instructions code) start → Walked code start (from start (instructions code))
 begins-walk code at-zero = from-here (walked code)
@@ -166,6 +80,309 @@ begins-walk code (past-jumpi {i} n e) =
     let w = from-behind (walked code) n in
     let one : i .pc + suc (argument (i .op)) ≡ i .pc + 1 = omega (arith, jumpi-alone, ap argument e) in
     rw one at w
+
+-- ---- what the byte is to a run, by what it is to the cutting
+
+-- it ends the run; it is a JUMPDEST; it is known
+abbrev closes-run : Cut → Bool
+closes-run JUMPDEST = false
+closes-run JUMPI = true
+closes-run JUMP = true
+closes-run UNKNOWN = false
+closes-run OTHER = false
+closes-run (ENDS success) = true
+
+abbrev lands-there : Cut → Bool
+lands-there JUMPDEST = true
+lands-there JUMPI = false
+lands-there JUMP = false
+lands-there UNKNOWN = false
+lands-there OTHER = false
+lands-there (ENDS success) = false
+
+abbrev has-row : Cut → Bool
+has-row JUMPDEST = true
+has-row JUMPI = true
+has-row JUMP = true
+has-row UNKNOWN = false
+has-row OTHER = true
+has-row (ENDS success) = true
+
+record Says (b : ℕ) (c : Cut) : Type 0 where
+  closes : closing b ≡ closes-run c
+  lands : eqb b 0x5B ≡ lands-there c
+  known : row b .known ≡ has-row c
+
+says : (b : ℕ) → Says b (cut b)
+unfolding closing row if
+says b = record {
+  closes = everywhere closing (λ b. closes-run (cut b)) refl (λ b h. simp (differs b h, above b h, and-off, tt {0})) b;
+  lands = everywhere (λ b. eqb b 0x5B) (λ b. lands-there (cut b)) refl (λ b h. simp (differs b h, above b h, and-off, tt {0})) b;
+  known = everywhere (λ b. row b .known) (λ b. has-row (cut b)) refl (λ b h. simp (differs b h, above b h, and-off, tt {0})) b;
+}
+
+-- an instruction with an argument is known
+pushes-known : (b : ℕ) → eqb (argument b) 0 || row b .known ≡ true
+unfolding row if
+pushes-known = everywhere (λ b. eqb (argument b) 0 || row b .known) (λ _. true) refl (λ b h. simp (above b h, and-off, tt {0}))
+
+-- where the walk stops, no unknown byte stands; past the end a byte reads as STOP
+past-known : (code : List ℕ) (at : ℕ) → length code ≤ at → row (getD code at 0) .known ≡ true
+unfolding row if
+past-known code at h = rw (List·getD-eq-default code 0 h)
+
+stop-known : (code : List ℕ) (at : ℕ) → length code ≤ at + argument (getD code at 0) → row (getD code at 0) .known ≡ true
+stop-known code at h = split (or-cases _ _ (pushes-known (getD code at 0)))
+  where
+    split : (eqb (argument (getD code at 0)) 0 ≡ true) ⊎ (row (getD code at 0) .known ≡ true) → row (getD code at 0) .known ≡ true
+    split (inl e) = past-known code at (omega (arith, eqb-true (argument (getD code at 0)) 0 e))
+    split (inr e) = e
+
+-- ---- a block that ends at `end`, before the byte at `next`
+
+module _ (code : List ℕ) (end : ℕ) where
+  cut-there : row (getD code end 0) .known ≡ false → cut-short code end ≡ true
+  cut-there p = rw p
+
+  uncut-closing : row (getD code end 0) .known ≡ true → closing (getD code end 0) ≡ true → cut-short code end ≡ false
+  uncut-closing p c = rw (p, c)
+
+  module _ {next : ℕ} (e : next ≡ end + suc (argument (getD code end 0))) (p : row (getD code end 0) .known ≡ true) where
+    uncut-known : row (getD code next 0) .known ≡ true → cut-short code end ≡ false
+    uncut-known q = rw (← e, p, q, and-off)
+
+    cut-behind : closing (getD code end 0) ≡ false → row (getD code next 0) .known ≡ false → cut-short code end ≡ true
+    cut-behind c q = rw (← e, p, c, q)
+
+jumpdest-known : row 0x5B .known ≡ true
+unfolding row if
+jumpdest-known = refl
+
+jumpdest-open : closing 0x5B ≡ false
+unfolding closing
+jumpdest-open = refl
+
+-- a JUMPDEST ends the block's run, but not at the block's start
+past-start : (start : ℕ) (i : Ins) → i .op ≡ 0x5B → ¬ (i .pc ≡ start) → last start i ≡ true
+past-start start i e ne = rw (e, jumpdest-open, ne-eqb (i .pc) start ne)
+
+passed-start : (start : ℕ) (i : Ins) → closing (i .op) ≡ false → i .pc ≡ start → last start i ≡ false
+passed-start start i c e = rw (c, eq-eqb (i .pc) start e, and-off)
+
+from-place : {start end p q : ℕ} {is : List Ins} → p < end → Passes start end p is → Passes start end q is
+from-place h walk-over = absurd (omega arith)
+from-place h (ends-before k l e) = absurd (omega arith)
+from-place h (ends-with k l e) = ends-with k l e
+from-place h (goes-past k l r) = goes-past k l r
+
+module _ (code : List ℕ) where
+  -- the block at `start` holds the instruction before `at`, at `prev`, which is known and does not end it
+  record Held (start prev at : ℕ) : Type 0 where
+    low : start ≤ prev
+    next : at ≡ prev + suc (argument (getD code prev 0))
+    known : row (getD code prev 0) .known ≡ true
+    unclosed : closing (getD code prev 0) ≡ false
+
+  -- the open block, before the instructions `is` at `at`: it begins there, or holds the instruction before; the block's run goes on with theirs
+  record Open (id start prev at : ℕ) (is : List Ins) : Type 0 where
+    same : id ≡ start
+    begins : Begins (instructions code) start
+    low : start ≤ at
+    behind : prev ≤ at
+    held : ¬ (start ≡ at) → Held start prev at
+    runs-on : (end : ℕ) → start ≤ end → Passes start end prev is → Passes start end start (from start (instructions code))
+
+  abbrev Ready : Mode → ℕ → ℕ → List Ins → Type 0
+  Ready (opened id start) prev at is = Open id start prev at is
+  Ready waiting prev at is = Unit {0}
+
+  -- no block begins before
+  abbrev lowest : Mode → ℕ → ℕ
+  lowest (opened id start) at = start
+  lowest waiting at = at
+
+  ordered-from : {lo at : ℕ} {bs : List Block} → lo ≤ at → Ordered code at bs → Ordered code lo bs
+  ordered-from h no-more = no-more
+  ordered-from h (then k m w r) = then (le-trans h k) m w r
+
+  -- a block is closed at `end`
+  closed : {id start prev at : ℕ} {is : List Ins} → Open id start prev at is → (end : ℕ) (k : Kind) {bs : List Block} → start ≤ end → end < length code
+      → Whole code (block id start end k) → Ordered code (suc end) bs → Ordered code start (block id start end k ∷ bs)
+  closed o end k f e h r = then (le-refl _) (record { id-start = o .same; begins = o .begins; forward = f; start-inside = omega arith; end-inside = e }) h r
+
+  -- one instruction of the walk, and how the cutting goes on at the next
+  module _ {i : Ins} {is : List Ins} (stands : Stands code i) (member : In i (instructions code)) {next : ℕ} (size : next ≡ i .pc + suc (argument (i .op)))
+      (w : Walked code next is) where
+    ahead : i .pc < next
+    ahead = omega arith
+
+    -- the instruction is known and does not end the run
+    held-here : {start : ℕ} → start ≤ i .pc → row (i .op) .known ≡ true → closing (i .op) ≡ false → Held start (i .pc) next
+    held-here l k c = let b = stands .byte in record { low = l; next = rw (← b) size; known = rw (← b) k; unclosed = rw (← b) c }
+
+    goes-on : {id start prev : ℕ} → Open id start prev (i .pc) (i ∷ is) → row (i .op) .known ≡ true → closing (i .op) ≡ false → last start i ≡ false
+        → Open id start (i .pc) next is
+    goes-on o k c l = record {
+      same = o .same;
+      begins = o .begins;
+      low = omega (arith, o .low);
+      behind = omega arith;
+      held = λ _. held-here (o .low) k c;
+      runs-on = λ end h r. o .runs-on end h (goes-past k l r);
+    }
+
+    -- a block that begins with it
+    begun : i .op ≡ 0x5B → Open (i .pc) (i .pc) (i .pc) next is
+    begun e =
+        let k : row (i .op) .known ≡ true = rw e jumpdest-known in
+        let c : closing (i .op) ≡ false = rw e jumpdest-open in
+        let here = walked-once (from-in (walked code) member) (steps stands (rw size at w)) in
+        record {
+          same = refl;
+          begins = at-jumpdest member e;
+          low = omega arith;
+          behind = omega arith;
+          held = λ _. held-here (le-refl (i .pc)) k c;
+          runs-on = λ end h r. rw here (goes-past k (passed-start (i .pc) i c refl) r);
+        }
+
+    -- a block that begins one past it
+    past : i .op ≡ 0x57 → Open (i .pc + 1) (i .pc + 1) (i .pc) next is
+    past e =
+        let one : next ≡ i .pc + 1 = omega (arith, jumpi-alone, ap argument e) in
+        let here = walked-once (begins-walk code (past-jumpi member e)) (rw one at w) in
+        record {
+          same = refl;
+          begins = past-jumpi member e;
+          low = omega arith;
+          behind = omega arith;
+          held = λ ne. absurd (ne (omega arith));
+          runs-on = λ end h r. rw here (from-place (omega arith) r);
+        }
+
+    module _ (on : Mode → List Block) (rest : (m : Mode) → Ready m (i .pc) next is → Ordered code (lowest m next) (on m))
+        {id start prev : ℕ} (push : Option ℕ) (o : Open id start prev (i .pc) (i ∷ is)) (inside : prev < length code) where
+      -- the block ends with the instruction
+      ends : row (i .op) .known ≡ true → closing (i .op) ≡ true → {k : Kind} {bs : List Block} → Ordered code (suc (i .pc)) bs
+          → Ordered code start (block id start (i .pc) k ∷ bs)
+      ends k c =
+          let b = stands .byte in
+          closed o (i .pc) _ (o .low) (omega (arith, stands .whole))
+          (is-whole (uncut-closing code (i .pc) (rw (← b) k) (rw (← b) c)) (o .runs-on (i .pc) (o .low) (ends-with k (rw c) refl)))
+
+      -- it ends before the instruction, a JUMPDEST
+      ends-at-jumpdest : i .op ≡ 0x5B → ¬ (start ≡ i .pc) → Ordered code start (block id start prev (jump (i .pc)) ∷ on (opened (i .pc) (i .pc)))
+      ends-at-jumpdest e ne =
+          let h = o .held ne in
+          let k : row (i .op) .known ≡ true = rw e jumpdest-known in
+          let l : last start i ≡ true = past-start start i e (λ q. ne (sym q)) in
+          let uncut = uncut-known code prev (h .next) (h .known) (rw (← stands .byte) k) in
+          closed o prev _ (h .low) inside (is-whole uncut (o .runs-on prev (h .low) (ends-before k l e)))
+          (ordered-from (omega (arith, h .next)) (rest (opened (i .pc) (i .pc)) (begun e)))
+
+      -- it is cut at the instruction, an unknown byte
+      short : row (i .op) .known ≡ false → ¬ (start ≡ i .pc) → cut-short code prev ≡ true
+      short u ne = let h = o .held ne in cut-behind code prev (h .next) (h .known) (h .unclosed) (rw (← stands .byte) u)
+
+      short-zero : row (i .op) .known ≡ false → start ≡ 0 → cut-short code prev ≡ true
+      short-zero u z = split (eqb start (i .pc)) refl
+        where
+          split : (t : Bool) → eqb start (i .pc) ≡ t → cut-short code prev ≡ true
+          split true e = let here : prev ≡ i .pc = omega (arith, eqb-true start (i .pc) e, o .behind) in cut-there code prev (rw (here, ← stands .byte) u)
+          split false e = short u (eqb-false _ _ e)
+
+      closes-ordered : Ordered code start (closes id start prev push (i .pc) on (cut (i .op)))
+      closes-ordered =
+          by-cut (λ (c : Cut). Says (i .op) c → Ordered code start (closes id start prev push (i .pc) on c)) (i .op)
+          (λ e s. both (Ordered code start) (eqb start (i .pc))
+          (λ at. rest (opened id start) (goes-on o (s .known) (s .closes) (passed-start start i (s .closes) (sym (eqb-true _ _ at)))))
+          (λ ne. ends-at-jumpdest e (eqb-false _ _ ne)))
+          (λ e s. ends (s .known) (s .closes) (ordered-from (omega arith) (rest (opened (i .pc + 1) (i .pc + 1)) (past e))))
+          (λ s. ends (s .known) (s .closes) (ordered-from ahead (rest waiting tt)))
+          (λ success s. ends (s .known) (s .closes) (ordered-from ahead (rest waiting tt)))
+          (λ s. rest (opened id start) (goes-on o (s .known) (s .closes) (rw (s .closes, s .lands))))
+          (λ s. both (Ordered code start) (eqb start 0)
+          (λ z. closed o prev _ (omega (arith, eqb-true)) inside (is-short (short-zero (s .known) (eqb-true _ _ z)) refl) no-more)
+          (λ _. both (Ordered code start) (eqb start (i .pc)) (λ _. ordered-from (omega (arith, o .low)) (rest waiting tt))
+          (λ ne. let h = o .held (eqb-false _ _ ne) in
+          closed o prev _ (h .low) inside (is-short (short (s .known) (eqb-false _ _ ne)) refl) (ordered-from (omega (arith, h .next)) (rest waiting tt)))))
+          (says (i .op))
+
+  -- the walk is over
+  over : {id start prev at : ℕ} → Open id start prev at [] → length code ≤ at + argument (getD code at 0) → start ≤ prev
+      → Whole code (block id start prev (terminate false))
+  over {start} {prev} {at} o stop l = is-whole (split (eqb start at) refl) (o .runs-on prev l walk-over)
+    where
+      split : (t : Bool) → eqb start at ≡ t → cut-short code prev ≡ false
+      split true e =
+          let here : prev ≡ at = omega (arith, eqb-true start at e, o .behind) in
+          rw here (uncut-known code at refl (stop-known code at stop) (past-known code (at + suc (argument (getD code at 0))) (omega arith)))
+      split false e = let h = o .held (eqb-false _ _ e) in uncut-known code prev (h .next) (h .known) (stop-known code at stop)
+
+  cuts-ordered : {at : ℕ} {is : List Ins} → Walked code at is → ((i : Ins) → In i is → In i (instructions code))
+      → (m : Mode) (prev : ℕ) (push : Option ℕ) → prev < length code → Ready m prev at is → Ordered code (lowest m at) (cuts is m prev push)
+  unfolding cuts
+  cuts-ordered (stops stop) sub waiting prev push p r = no-more
+  cuts-ordered (stops stop) sub (opened id start) prev push p o =
+      both (Ordered code start) (leb start prev)
+      (λ l. closed o prev _ (leb-true _ _ l) p (over o stop (leb-true _ _ l)) no-more) (λ _. no-more)
+  cuts-ordered (steps {i} s w) sub waiting prev push p r =
+      both (Ordered code (i .pc)) (eqb (i .op) 0x5B)
+      (λ e. cuts-ordered w (λ j n. sub j (there n)) (opened (i .pc) (i .pc)) (i .pc) _ (omega arith) (begun s (sub i here) refl w (eqb-true _ _ e)))
+      (λ _. ordered-from (omega arith) (cuts-ordered w (λ j n. sub j (there n)) waiting (i .pc) _ (omega arith) tt))
+  cuts-ordered (steps {i} s w) sub (opened id start) prev push p o =
+      closes-ordered s (sub i here) refl w _ (λ m r. cuts-ordered w (λ j n. sub j (there n)) m (i .pc) _ (omega arith) r) push o p
+
+  -- "Afterwards" only kinds change, and no Terminate does.
+  made-kind : (k : Kind) {b : Block} → Made code b → Made code (with-kind k b)
+  made-kind k m = record { id-start = m .id-start; begins = m .begins; forward = m .forward; start-inside = m .start-inside; end-inside = m .end-inside }
+
+  whole-kind : (f : Kind → Kind) → f (terminate false) ≡ terminate false → {b : Block} → Whole code b → Whole code (with-kind (f (b .kind)) b)
+  whole-kind f e (is-short c k) = is-short c (ap f k ∙ e)
+  whole-kind f e (is-whole c r) = is-whole c r
+
+  check-ordered : (f : Kind → Kind) → f (terminate false) ≡ terminate false → {lo : ℕ} {bs : List Block} → Ordered code lo bs
+      → Ordered code lo (map (λ (b : Block). with-kind (f (b .kind)) b) bs)
+  check-ordered f e no-more = no-more
+  check-ordered f e (then l m h r) = then l (made-kind _ m) (whole-kind f e h) (check-ordered f e r)
+
+-- The blocks stand in address order, each behind the end of the one before, and each is made as said.
+pub ordered : (code : List ℕ) → Ordered code 0 (blocks code (instructions code))
+unfolding blocks
+ordered [] = no-more
+ordered (b ∷ code) =
+    check-ordered (b ∷ code) _ refl
+    (cuts-ordered (b ∷ code) (walked (b ∷ code)) (λ i n. n) (opened 0 0) 0 none (omega arith)
+    (record {
+      same = refl;
+      begins = at-zero;
+      low = omega arith;
+      behind = omega arith;
+      held = λ ne. absurd (ne refl);
+      runs-on = λ end l r. rw (walked-once (from-here (walked (b ∷ code))) (walked (b ∷ code))) r;
+    }))
+
+-- ---- what follows
+
+made-in : {code : List ℕ} {lo : ℕ} {bs : List Block} {b : Block} → Ordered code lo bs → In b bs → Made code b
+made-in (then l m h r) here = m
+made-in (then l m h r) (there n) = made-in r n
+
+whole-in : {code : List ℕ} {lo : ℕ} {bs : List Block} {b : Block} → Ordered code lo bs → In b bs → Whole code b
+whole-in (then l m h r) here = h
+whole-in (then l m h r) (there n) = whole-in r n
+
+rise : {code : List ℕ} {lo : ℕ} {bs : List Block} → Ordered code lo bs → Rising lo (starts bs)
+rise no-more = none-left
+rise (then {b} l m h r) = one-more l (rising-from (omega arith) (rise r))
+
+-- "`id` equals `start`; that is proved." And the rest of what is said above.
+pub made : (code : List ℕ) {b : Block} → In b (blocks code (instructions code)) → Made code b
+made code = made-in (ordered code)
+
+-- A block is cut at an unknown byte, or its run passes known bytes alone and ends at its end.
+pub block-whole : (code : List ℕ) {b : Block} → In b (blocks code (instructions code)) → Whole code b
+block-whole code = whole-in (ordered code)
 
 -- The walk of the whole code, from a block's start on, is a walk from there ..
 pub block-walk : (code : List ℕ) {b : Block} → In b (blocks code (instructions code)) → Walked code (b .start) (from (b .start) (instructions code))
@@ -181,14 +398,14 @@ pub starts-rise : (code : List ℕ) → Rising 0 (starts (blocks code (instructi
 starts-rise code = rise (ordered code)
 
 from-lo : {code : List ℕ} {lo : ℕ} {bs : List Block} {b : Block} → Ordered code lo bs → In b bs → lo ≤ b .start
-from-lo (then l m r) here = l
-from-lo (then l m r) (there n) = let h = from-lo r n in omega arith
+from-lo (then l m h r) here = l
+from-lo (then l m h r) (there n) = let k = from-lo r n in omega arith
 
 once : {code : List ℕ} {lo : ℕ} {bs : List Block} {b c : Block} → Ordered code lo bs → In b bs → In c bs → b .start ≡ c .start → b ≡ c
-once (then l m r) here here e = refl
-once (then l m r) here (there n) e = absurd (let h = from-lo r n in omega arith)
-once (then l m r) (there n) here e = absurd (let h = from-lo r n in omega arith)
-once (then l m r) (there n) (there k) e = once r n k e
+once (then l m h r) here here e = refl
+once (then l m h r) here (there n) e = absurd (let k = from-lo r n in omega arith)
+once (then l m h r) (there n) here e = absurd (let k = from-lo r n in omega arith)
+once (then l m h r) (there n) (there k) e = once r n k e
 
 pub one-start : (code : List ℕ) {b c : Block} → In b (blocks code (instructions code)) → In c (blocks code (instructions code)) → b .start ≡ c .start → b ≡ c
 one-start code = once (ordered code)

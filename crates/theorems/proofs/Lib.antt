@@ -7,6 +7,7 @@ pub mod Cutting
 pub mod Composing
 pub mod Stored
 pub mod Trimming
+pub mod Exec
 pub mod Symbols
 pub mod Counts
 pub mod Blockwise

@@ -1,4 +1,5 @@
--- Document 01, "Stacks": "Meaning to prove", of one instruction: symbols that are true of the words before it are so after it. Assumes nothing.
+-- Document 01, "Stacks": "Meaning to prove", of one instruction: symbols that are true of the words before it are so after it, and say how many there are.
+-- Assumes nothing.
 use Prim.Native.Nat.{ℕ, zero, suc, _+_, _-_, _^_, _%_, _<_, _≤_}
 use native.Mathlib.Omega.{arith}
 use native.Mathlib.Bridge.{le-by-compare, IsLe}
@@ -32,6 +33,8 @@ masked w l = and-mask w 32 ∙ mod-eq-of-lt l
 word-wide : 2 ^ 64 ≤ 2 ^ 256
 unfolding IsLe
 word-wide = le-by-compare (2 ^ 64) (2 ^ 256) tt
+
+-- ---- two cells that change places
 
 -- a list with a at the top and b at the place n + 1: those two, and what lies between and below
 pub changed : {A : Type 0} (n : ℕ) (xs : List A) (a b : A) → suc n < length xs

@@ -65,7 +65,7 @@ same-span h i (suc n) = ap₂ {C = List Sym} (λ (x : Sym) (xs : List Sym). x �
 same-trade : (i : Ins) {s t : Stack} → Same s t → Same (trade i s) (trade i t)
 same-trade i h = same-pushes (replicate (row (i .op) .given) (other (i .pc))) (same-pops (row (i .op) .taken) h)
 
-same-act : (code : List ℕ) (i : Ins) (d : Does) {s t : Stack} → Same s t → Same (act code i d s) (act code i d t)
+pub same-act : (code : List ℕ) (i : Ins) (d : Does) {s t : Stack} → Same s t → Same (act code i d s) (act code i d t)
 unfolding act
 same-act code i pushes-value h = same-push _ h
 same-act code i pushes-pc h = same-push _ h

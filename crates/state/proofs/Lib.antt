@@ -1,0 +1,16 @@
+-- States and Reach are what a crate above cites of stored states; Cells, Syms and Symbols of their cells and symbols.
+pub mod States
+pub mod Reach
+pub mod Syms
+pub mod Cells
+pub mod Symbols
+mod Sums
+mod Puts
+mod Working
+mod Swaps
+mod Acts
+mod Decides
+mod Turns
+mod Bounds
+mod Trims
+mod Owns

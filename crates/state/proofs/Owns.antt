@@ -1,0 +1,277 @@
+-- A block's own run, one instruction after the other: what is left to run from here ends where the whole run ends. Assumes nothing.
+use mathlib.Core.Path.{_≡_, refl, sym, ap, ap₂, _∙_}
+use mathlib.Core.Bool.{Bool, true, false}
+use mathlib.Core.Option.{none, some}
+use mathlib.Core.List.{List, [], _∷_}
+use Prim.Native.Nat.{ℕ, suc, _+_, _-_, _*_, _≤_, _<_}
+use native.Mathlib.Omega.{arith}
+use lib.Dec.{eqb}
+use lib.ListN.{length, take, drop}
+use Rattle.spec.specs.Lists.{if}
+use Rattle.spec.specs.Opcodes.{argument}
+use Rattle.spec.specs.Walk.{Ins, ins, walk, instructions, from}
+use Rattle.spec.specs.Stacks.{Sym, Stack, entry, read, Does, pushes-value, pushes-pc, dups, swaps, ands, adds, jumps, jumpis, lands, halts, plain, does, act, Ran, still, after, runs, before, trims, trim, run}
+use Rattle.lent.proofs.Parts.{take-less}
+use Rattle.lent.proofs.Stored.{kept-take, kept-drop}
+use Rattle.evm.specs.Step.{stepAt}
+use Rattle.evm.specs.declared.walk.Step.{Step}
+use Rattle.evm.specs.declared.walk.Step.the-variants as step
+use Rattle.evm.proofs.Steps.{Took, took, ended}
+use Rattle.state.specs.Symbols.{symOf}
+use Rattle.state.specs.Cells.{symsAt, Put, reach, Lies}
+use Rattle.state.specs.Working.{stackOf, endOf, Held}
+use Rattle.state.specs.Steps.{Next, on, ends, leaps, turn, next, goOn, nextOf, topOf, Steps, Turns}
+use Rattle.state.specs.Bounds.{Bounded}
+use Rattle.state.specs.Owns.{goesOf, roomOf, Runs, Inside, ranOf, Ended, Trims, Owned}
+use Rattle.state.specs.declared.sym.StackSym.{StackSym}
+use Rattle.state.specs.declared.top.Top.{Top}
+use Rattle.state.specs.declared.step.Turn.{Turn}
+use Rattle.state.specs.declared.step.Turn.the-variants.{On, Ends, Jumps}
+use Rattle.state.specs.declared.run.Goes.the-variants.{To, Nowhere}
+use Rattle.state.specs.declared.run.End.{End}
+use Rattle.state.proofs.Syms.{length-syms, syms-none, cells-none}
+use Rattle.state.proofs.Bounds.{bounded-entry, bounded-later, bounded-reach, bounded-act}
+use Rattle.state.proofs.Reach.{reach-trim}
+use Rattle.state.proofs.States.{lies-count}
+use Rattle.state.proofs.Puts.{put-syms, after-cells}
+use Rattle.state.proofs.Trims.{fewer-trims}
+
+-- ---- one instruction of the run
+
+module _ (code : List ℕ) (start : ℕ) (i : Ins) (is : List Ins) (s : Stack) where
+  either : (b : Bool) (t : Stack) → if b (runs code start is t) (still s) ≡ goOn (runs code start is) (if b (on t) (ends s))
+  unfolding if
+  either true t = refl
+  either false t = refl
+
+  after-turn : (d : Does) (t : Stack) → after start i s t (runs code start is t) d ≡ goOn (runs code start is) (turn start i s t d)
+  after-turn pushes-value t = refl
+  after-turn pushes-pc t = refl
+  after-turn (dups n) t = refl
+  after-turn (swaps n) t = refl
+  after-turn ands t = refl
+  after-turn adds t = refl
+  after-turn jumps t = refl
+  after-turn jumpis t = refl
+  after-turn lands t = either (eqb (i .pc) start) t
+  after-turn halts t = refl
+  after-turn plain t = refl
+
+  runs-next : runs code start (i ∷ is) s ≡ goOn (runs code start is) (next code start i s)
+  unfolding next
+  runs-next = after-turn (does (i .op)) (act code i (does (i .op)) s)
+
+-- the stack that is left
+stackIn : Next → Stack
+stackIn (on s) = s
+stackIn (ends s) = s
+stackIn (leaps s x) = s
+
+stack-in : (w : List ℕ) (r : Turn) → stackIn (nextOf w r) ≡ stackOf w (topOf r)
+unfolding stackIn
+stack-in w (On t) = refl
+stack-in w (Ends t) = refl
+stack-in w (Jumps t x) = refl
+
+module _ {k : ℕ} {s : Stack} (b : Bounded k s) (code : List ℕ) (start : ℕ) (i : Ins) where
+  bounded-if : (c : Bool) (t : Stack) → Bounded (suc k) t → Bounded (suc k) (stackIn (if c (on t) (ends s)))
+  unfolding if stackIn
+  bounded-if true t h = h
+  bounded-if false t h = bounded-later (omega arith) b
+
+  bounded-turn : (d : Does) (t : Stack) → Bounded (suc k) t → Bounded (suc k) (stackIn (turn start i s t d))
+  unfolding stackIn
+  bounded-turn pushes-value t h = h
+  bounded-turn pushes-pc t h = h
+  bounded-turn (dups n) t h = h
+  bounded-turn (swaps n) t h = h
+  bounded-turn ands t h = h
+  bounded-turn adds t h = h
+  bounded-turn jumps t h = h
+  bounded-turn jumpis t h = h
+  bounded-turn lands t h = bounded-if (eqb (i .pc) start) t h
+  bounded-turn halts t h = h
+  bounded-turn plain t h = h
+
+  bounded-next : i .op < 0x100 → Bounded (suc k) (stackIn (next code start i s))
+  unfolding next
+  bounded-next h = bounded-turn (does (i .op)) _ (bounded-act b code i (does (i .op)) h refl)
+
+-- ---- the loop
+
+pub record Running (code : List ℕ) (start : ℕ) (w₀ : List ℕ) (end : ℕ) (w : List ℕ) (at : ℕ) (t : Top) : Type 0 where
+  pub rest : runs code start (walk (drop at code) at 0) (stackOf w t) ≡ runs code start (from start (instructions code)) entry
+  pub passed : start ≤ at
+  pub within : at - start ≤ length code
+  pub bounded : Bounded (at - start) (stackOf w t)
+  pub held : Held w t
+  pub ends : endOf t ≡ end
+  pub inside : Inside code w₀ end w
+
+module _ {code : List ℕ} {start : ℕ} {w₀ : List ℕ} {end : ℕ} (q : Runs code start w₀ end) where
+  pub running-start : Running code start w₀ end w₀ start (record { at = end - 9; n = 0; base = 0 })
+  unfolding stackOf
+  running-start =
+      let none : symsAt w₀ (end - 9) 0 ≡ [] = syms-none w₀ (end - 9) in
+      let z : start - start ≡ 0 = omega arith in
+      record {
+        rest = rw (none, q .stands);
+        passed = omega arith;
+        within = omega arith;
+        bounded = rw (none, z) bounded-entry;
+        held = record { inside = omega (arith, q .inside, q .room); cells = cells-none (omega (arith, q .inside)) };
+        ends = omega (arith, q .room);
+        inside = record { front = refl; back = refl; kept = refl };
+      }
+
+  module _ {w : List ℕ} {at : ℕ} {t : Top} (l : Running code start w₀ end w at t) where
+    -- at the end of the code
+    pub ended-none : {r : Step} → r ≡ stepAt code at → r ≡ step.End → Ended code start w₀ end w (record { top = t; goes = Nowhere })
+    ended-none e f =
+        record {
+          is = rw (ended code at e f) at (l .rest);
+          bounded = bounded-later (l .within) (l .bounded);
+          held = l .held;
+          ends = l .ends;
+          inside = l .inside;
+        }
+
+    module _ {pc op to : ℕ} {r : Step} (e : r ≡ stepAt code at) (f : r ≡ step.Whole pc op to) where
+      took-here : Took code at pc op to
+      took-here = took code at e f
+
+      pub running-steps : Steps code pc op w t
+      unfolding stackOf
+      running-steps =
+          let k = took-here in
+          record {
+            whole = omega (arith, k .size, k .inside, k .here);
+            short = q .short;
+            room = omega (arith, q .room, l .ends);
+            held = l .held;
+            few = omega (arith, l .bounded .few, length-syms w (t .at) (t .n), k .here);
+            low = omega (arith, l .bounded .low, k .here);
+          }
+
+      pub running-less : length code - to < length code - at
+      running-less = let k = took-here in omega (arith, k .size, k .inside)
+
+      -- after one more
+      module _ {w′ : List ℕ} {x : Turn} (small : op < 0x100) (d : Turns w t (next code start (ins pc op (drop (pc + 1) code)) (stackOf w t)) w′ x) (kept : length w′ ≡ length w) where
+        i : Ins
+        i = ins at op (drop (at + 1) code)
+
+        due : nextOf w′ x ≡ next code start i (stackOf w t)
+        unfolding i
+        due = rw (took-here .here) at (d .is)
+
+        rest : goOn (runs code start (walk (drop to code) to 0)) (nextOf w′ x) ≡ runs code start (from start (instructions code)) entry
+        unfolding i
+        rest =
+            ap (goOn (runs code start (walk (drop to code) to 0))) due
+            ∙ sym (runs-next code start i (walk (drop to code) to 0) (stackOf w t))
+            ∙ ap (λ (is : List Ins). runs code start is (stackOf w t)) (sym (took-here .walks))
+            ∙ l .rest
+
+        later : Bounded (to - start) (stackOf w′ (topOf x))
+        unfolding i
+        later =
+            let k = took-here in
+            let b = bounded-next (l .bounded) code start i small in
+            let m : suc (at - start) ≤ to - start = omega (arith, k .size, l .passed) in
+            rw (← stack-in w′ x, due) (bounded-later m b)
+
+        within : to - start ≤ length code
+        within = omega (arith, took-here .inside)
+
+        inside : Inside code w₀ end w′
+        unfolding stackOf
+        inside =
+            let m = d .moves in
+            let long = length-syms w′ (topOf x .at) (topOf x .n) in
+            let lo : end - roomOf code ≤ topOf x .at = omega (arith, later .few, long, m .ends, l .ends, within) in
+            record {
+              front = take-less w′ w (topOf x .at) (m .front) (end - roomOf code) lo ∙ l .inside .front;
+              back = rw (l .ends) at (m .back) ∙ l .inside .back;
+              kept = kept ∙ l .inside .kept;
+            }
+
+        pub running-on : {u : Top} → x ≡ On u → Running code start w₀ end w′ to u
+        running-on {u} g =
+            record {
+              rest = rw g at rest;
+              passed = omega (arith, l .passed, took-here .size);
+              within = within;
+              bounded = rw g at later;
+              held = rw g at (d .moves .held);
+              ends = rw g at (d .moves .ends) ∙ l .ends;
+              inside = inside;
+            }
+
+        ended-by : (y : End) → topOf x ≡ y .top → goOn (runs code start (walk (drop to code) to 0)) (nextOf w′ x) ≡ ranOf w′ y → Ended code start w₀ end w′ y
+        ended-by y g h =
+            record {
+              is = sym h ∙ rest;
+              bounded = rw g at (bounded-later within later);
+              held = rw g at (d .moves .held);
+              ends = rw g at (d .moves .ends) ∙ l .ends;
+              inside = inside;
+            }
+
+        pub ended-ends : {u : Top} → x ≡ Ends u → Ended code start w₀ end w′ (record { top = u; goes = Nowhere })
+        ended-ends g = ended-by _ (rw g) (rw g)
+
+        pub ended-jumps : {u : Top} {y : StackSym} → x ≡ Jumps u y → Ended code start w₀ end w′ (record { top = u; goes = To y })
+        ended-jumps g = ended-by _ (rw g) (rw g)
+
+-- ---- the whole run: the bottom's cell is put, and what the numbering gives is left to it
+
+module _ {code : List ℕ} {start : ℕ} {w : List ℕ} {end : ℕ} {w₁ w₂ : List ℕ} {r : End} (q : Runs code start w end) (d : Ended code start w end w₁ r)
+    (p : Put w₁ (end - 9) (before (r .top .base)) w₂) where
+  at : ℕ
+  at = r .top .at
+
+  n : ℕ
+  n = r .top .n
+
+  place : end - 9 ≡ at + 9 * n
+  unfolding at n
+  place = omega (arith, d .ends)
+
+  put : Put w₁ (at + 9 * n) (before (r .top .base)) w₂
+  unfolding at n
+  put = rw place at p
+
+  pub owned-trims : Trims w₂ (r .top .at) (r .top .n) (r .top .base)
+  unfolding at n
+  owned-trims = record { cells = after-cells at n put (d .held .cells); bottom = put .reads }
+
+  own-stack : trims (symsAt w₂ at n) (r .top .base) ≡ run code (instructions code) start .stack
+  unfolding at n run trim stackOf
+  own-stack =
+      ap (λ (xs : List Sym). trims xs (r .top .base)) (put-syms put at n (λ h. omega arith))
+      ∙ ap (λ (x : Ran). trim (x .stack)) (d .is)
+
+  module _ {m : ℕ} (l : Lies w₂ (r .top .at) m (trims (symsAt w₂ (r .top .at) (r .top .n)) (r .top .base))) where
+    few : m ≤ n + 1
+    unfolding at n
+    few = omega (arith, lies-count l, fewer-trims (symsAt w₂ at n) (r .top .base), length-syms w₂ at n)
+
+    pub owned : Owned code start w end w₂ (record { at = r .top .at; n = m; goes = r .goes })
+    unfolding at n run trim stackOf
+    owned =
+        let b = bounded-reach (d .bounded) in
+        let s : Stack = stackOf w₁ (r .top) in
+        let x : run code (instructions code) start .stack ≡ trim s = ap (λ (x : Ran). trim (x .stack)) (sym (d .is)) in
+        record {
+          lies = rw own-stack at l;
+          goes = ap (λ (x : Ran). x .goes) (d .is);
+          reach = rw x (omega (arith, reach-trim s, b));
+          low = omega (arith, d .bounded .few, length-syms w₁ at n, d .ends);
+          high = omega (arith, few, d .ends);
+          inside = record {
+            front = kept-take (p .stored) (end - roomOf code) (omega (arith, q .room)) ∙ d .inside .front;
+            back = kept-drop (p .stored) end (omega (arith, q .room)) ∙ d .inside .back;
+            kept = p .stored .kept ∙ d .inside .kept;
+          };
+        }

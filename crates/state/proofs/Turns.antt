@@ -1,0 +1,116 @@
+-- The laws of the step: what its leaves ask follows from where the run stands, and what each arm leaves is what document 01 says of the byte.
+-- Assumes nothing.
+use mathlib.Core.Path.{_≡_, refl, sym, ap, ap₂, _∙_}
+use mathlib.Core.List.{List}
+use Prim.Native.Nat.{ℕ, _+_, _-_, _*_, _^_, _≤_, _<_}
+use native.Mathlib.Omega.{arith}
+use lib.ListN.{length, take, drop}
+use borrow.Author.Tests.{eq-eqb, ne-eqb}
+use Rattle.spec.specs.Lists.{if}
+use Rattle.spec.specs.Opcodes.{argument}
+use Rattle.spec.specs.Walk.{Ins, big, ins}
+use Rattle.spec.specs.Stacks.{Sym, from-value, Stack, read, pops, push, swap, Does, pushes-value, pushes-pc, dups, swaps, ands, adds, jumps, jumpis, lands, halts, plain, does, act}
+use Rattle.evm.proofs.Arguments.{argument-push}
+use Rattle.state.specs.Symbols.{symOf}
+use Rattle.state.specs.Working.{stackOf, endOf, after-and, after-add, after-trade, popped, Held, Ready, Near, Deepens, Moves, Becomes}
+use Rattle.state.specs.Steps.{Next, on, ends, leaps, turn, next, nextOf, topOf, spelt, Pushes, Steps, Turns}
+use Rattle.state.specs.declared.sym.StackSym.{StackSym}
+use Rattle.state.specs.declared.top.Top.{Top}
+use Rattle.state.specs.declared.step.Turn.{Turn}
+use Rattle.state.specs.declared.step.Turn.the-variants.{On, Ends, Jumps}
+use Rattle.state.proofs.Working.{becomes-pops}
+use Rattle.state.proofs.Decides.{does-value, does-dups, does-swaps}
+
+-- ---- what the leaves ask
+
+module _ {code w : List ℕ} {pc op : ℕ} {t : Top} (p : Steps code pc op w t) where
+  pub steps-ready : Ready w t
+  steps-ready = record { free = record { held = p .held; free = omega (arith, p .room, p .few, p .whole) }; small = omega (arith, p .low, p .whole, p .short) }
+
+  pub steps-dups : {k : ℕ} → k ≡ op - 0x80 → 0x80 ≤ op → op < 0x90 → Near w t k
+  steps-dups e h g = record { ready = steps-ready; near = omega arith }
+
+  pub steps-deepens : {k : ℕ} → k ≡ op - 0x90 → 0x90 ≤ op → op < 0xA0 → Deepens w t (k + 2)
+  steps-deepens e h g = record { held = p .held; fits = omega (arith, p .room); small = omega (arith, p .low, p .whole, p .short) }
+
+  pub steps-pushes : {n : ℕ} → n ≡ op - 0x5F → 0x60 ≤ op → op < 0x64 → Pushes w t code pc n
+  steps-pushes e h g = record { free = steps-ready .free; few = omega arith; inside = omega (arith, p .whole, argument-push op h (omega arith)) }
+
+-- ---- the leaves
+
+pub becomes-value : {w w′ : List ℕ} {t r : Top} (x : Sym) (s : Stack) (code : List ℕ) (v u : ℕ) → x ≡ from-value code v → v ≡ u → Becomes w t (push x s) w′ r
+    → Becomes w t (push (from-value code u) s) w′ r
+becomes-value x s code v u e f b = rw (← f, ← e) b
+
+pub jumps-by : {w : List ℕ} {t u : Top} (k : ℕ) (x : StackSym) → Held w t → u ≡ popped k t → symOf x ≡ read (stackOf w t) 0
+    → Turns w t (leaps (pops k (stackOf w t)) (read (stackOf w t) 0)) w (Jumps u x)
+jumps-by {w} {t} k x h e f = rw e (let p = becomes-pops t k h in record { is = ap₂ leaps (p .is) f; moves = p .moves })
+
+-- ---- the arms
+
+module _ (code : List ℕ) (start pc op : ℕ) (w : List ℕ) (t : Top) where
+  abbrev i : Ins
+  i = ins pc op (drop (pc + 1) code)
+
+  abbrev s : Stack
+  s = stackOf w t
+
+  module _ (w′ : List ℕ) where
+    turned : (d : Does) (r : Turn) → does op ≡ d → nextOf w′ r ≡ turn start i s (act code i d s) d → Moves w t w′ (topOf r) → Turns w t (next code start i s) w′ r
+    unfolding next
+    turned d r e f m = rw e (record { is = f; moves = m })
+
+    module _ (u : Top) where
+      pub on-value : (n : ℕ) → n ≡ op - 0x5F → 0x60 ≤ op → op < 0x64 → Becomes w t (push (from-value code (spelt code pc n)) s) w′ u → Turns w t (next code start i s) w′ (On u)
+      unfolding act
+      on-value n e h g b =
+          let l : op < 0x80 = omega arith in
+          let a : argument op ≡ n = argument-push op h l ∙ sym e in
+          turned pushes-value (On u) (does-value op h g) (rw a (ap on (b .is))) (b .moves)
+
+      pub on-pc : op ≡ 0x58 → Becomes w t (push (from-value code pc) s) w′ u → Turns w t (next code start i s) w′ (On u)
+      unfolding act does if
+      on-pc d b = turned pushes-pc (On u) (ap does d) (ap on (b .is)) (b .moves)
+
+      pub on-dup : (k : ℕ) → k ≡ op - 0x80 → 0x80 ≤ op → op < 0x90 → Becomes w t (push (read s k) s) w′ u → Turns w t (next code start i s) w′ (On u)
+      unfolding act
+      on-dup k e h g b = turned (dups (op - 0x80)) (On u) (does-dups op h g) (rw (← e) (ap on (b .is))) (b .moves)
+
+      pub on-swap : (k : ℕ) → k ≡ op - 0x90 → 0x90 ≤ op → op < 0xA0 → Becomes w t (swap k s) w′ u → Turns w t (next code start i s) w′ (On u)
+      unfolding act
+      on-swap k e h g b = turned (swaps (op - 0x90)) (On u) (does-swaps op h g) (rw (← e) (ap on (b .is))) (b .moves)
+
+      pub on-and : op ≡ 0x16 → Becomes w t (after-and pc s) w′ u → Turns w t (next code start i s) w′ (On u)
+      unfolding act does if
+      on-and d b = turned ands (On u) (ap does d) (ap on (b .is)) (b .moves)
+
+      pub on-add : op ≡ 0x01 → Becomes w t (after-add code pc s) w′ u → Turns w t (next code start i s) w′ (On u)
+      unfolding act does if
+      on-add d b = turned adds (On u) (ap does d) (ap on (b .is)) (b .moves)
+
+      pub on-plain : does op ≡ plain → Becomes w t (after-trade op pc s) w′ u → Turns w t (next code start i s) w′ (On u)
+      unfolding act
+      on-plain d b = turned plain (On u) d (ap on (b .is)) (b .moves)
+
+      pub ends-halts : does op ≡ halts → Becomes w t (after-trade op pc s) w′ u → Turns w t (next code start i s) w′ (Ends u)
+      unfolding act
+      ends-halts d b = turned halts (Ends u) d (ap ends (b .is)) (b .moves)
+
+    pub leaps-jump : (r : Turn) → op ≡ 0x56 → Turns w t (leaps (pops 1 s) (read s 0)) w′ r → Turns w t (next code start i s) w′ r
+    unfolding act does if
+    leaps-jump r d b = turned jumps r (ap does d) (b .is) (b .moves)
+
+    pub leaps-jumpi : (r : Turn) → op ≡ 0x57 → Turns w t (leaps (pops 2 s) (read s 0)) w′ r → Turns w t (next code start i s) w′ r
+    unfolding act does if
+    leaps-jumpi r d b = turned jumpis r (ap does d) (b .is) (b .moves)
+
+  stays : Held w t → Moves w t w t
+  stays h = record { held = h; ends = refl; front = refl; back = refl }
+
+  pub on-lands : op ≡ 0x5B → pc ≡ start → Held w t → Turns w t (next code start i s) w (On t)
+  unfolding act does if
+  on-lands d e h = turned w lands (On t) (ap does d) (rw (eq-eqb pc start e)) (stays h)
+
+  pub ends-lands : op ≡ 0x5B → (pc ≡ start → ⊥) → Held w t → Turns w t (next code start i s) w (Ends t)
+  unfolding act does if
+  ends-lands d e h = turned w lands (Ends t) (ap does d) (rw (ne-eqb pc start e)) (stays h)

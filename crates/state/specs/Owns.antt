@@ -1,0 +1,61 @@
+-- A block's own run: the contracts of its functions. Assumes nothing.
+use mathlib.Core.Path.{_≡_}
+use Prim.Native.Nat.{ℕ, _+_, _-_, _*_, _≤_, _<_}
+use mathlib.Core.Option.{Option, none, some}
+use mathlib.Core.List.{List}
+use lib.ListN.{length, take, drop}
+use Rattle.spec.specs.Walk.{walk, instructions, from}
+use Rattle.spec.specs.Stacks.{Sym, before, Stack, entry, Ran, runs, run}
+use Rattle.state.specs.Symbols.{symOf}
+use Rattle.state.specs.Cells.{symAt, Cells, reach, Lies}
+use Rattle.state.specs.Bounds.{Bounded}
+use Rattle.state.specs.Working.{stackOf, endOf, Held}
+use Rattle.state.specs.declared.run.Goes.{Goes}
+use Rattle.state.specs.declared.run.Goes.the-variants.{To, Nowhere}
+use Rattle.state.specs.declared.run.End.{End}
+use Rattle.state.specs.declared.run.Own.{Own}
+
+abbrev pub goesOf : Goes → Option Sym
+goesOf (To x) = some (symOf x)
+goesOf Nowhere = none
+
+-- the length of the part of w for the run of a block: no block puts more cells
+abbrev pub roomOf : List ℕ → ℕ
+roomOf code = 9 * (length code + 17)
+
+-- the walk of the code comes to `start`, so that what is left of it is the walk from there; and the part of w is there
+pub record Runs (code : List ℕ) (start : ℕ) (w : List ℕ) (end : ℕ) : Type 0 where
+  pub stands : from start (instructions code) ≡ walk (drop start code) start 0
+  pub short : length code ≤ 24576
+  pub inside : end ≤ length w
+  pub room : roomOf code ≤ end
+
+-- w became w′, in its part alone
+pub record Inside (code w : List ℕ) (end : ℕ) (w′ : List ℕ) : Type 0 where
+  pub front : take (end - roomOf code) w′ ≡ take (end - roomOf code) w
+  pub back : drop end w′ ≡ drop end w
+  pub kept : length w′ ≡ length w
+
+abbrev pub ranOf : List ℕ → End → Ran
+ranOf w r = record { stack = stackOf w (r .top); goes = goesOf (r .goes) }
+
+pub record Ended (code : List ℕ) (start : ℕ) (w : List ℕ) (end : ℕ) (w′ : List ℕ) (r : End) : Type 0 where
+  pub is : ranOf w′ r ≡ runs code start (from start (instructions code)) entry
+  pub bounded : Bounded (length code) (stackOf w′ (r .top))
+  pub held : Held w′ (r .top)
+  pub ends : endOf (r .top) ≡ end
+  pub inside : Inside code w end w′
+
+-- the cells of a stack and of Before base below it
+pub record Trims (w : List ℕ) (at n base : ℕ) : Type 0 where
+  pub cells : Cells w at (n + 1)
+  pub bottom : symAt w (at + 9 * n) ≡ before base
+
+-- the state is the block's own, as document 01 has it; it reaches some 2^19 words deep at most; and it lies within the part
+pub record Owned (code : List ℕ) (start : ℕ) (w : List ℕ) (end : ℕ) (w′ : List ℕ) (r : Own) : Type 0 where
+  pub lies : Lies w′ (r .at) (r .n) (run code (instructions code) start .stack)
+  pub goes : goesOf (r .goes) ≡ run code (instructions code) start .goes
+  pub reach : reach (run code (instructions code) start .stack) ≤ 17 * length code + 16
+  pub low : end - roomOf code ≤ r .at
+  pub high : r .at + 9 * r .n ≤ end
+  pub inside : Inside code w end w′

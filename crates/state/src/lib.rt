@@ -1,0 +1,10 @@
+// The symbolic stack of a block, and composing it with a parent, over lent bytes.
+mod cell;
+pub mod read;
+pub mod run;
+mod step;
+mod swap;
+pub mod sym;
+mod top;
+mod trade;
+mod words;

@@ -1,0 +1,22 @@
+// Reading a stored state.
+use crate::cell::get_cell;
+use crate::sym::StackSym;
+use lent::get64;
+ghost use mathlib.Core.Path.{_≡_};
+ghost use Rattle.spec.specs.Stacks.{read};
+ghost use Rattle.state.specs.Symbols.{symOf};
+ghost use Rattle.state.specs.Cells.{stackAt};
+ghost use Rattle.state.specs.Stored.{Readable};
+
+// The symbol at a position of the state in the n cells from `at` on; below the cells the numbering goes on. The bottom is always a Before, since a
+// State is asked for: there is nothing to panic at.
+pub fn symbol_at(b: &[u8], at: usize, n: usize, position: usize) -> StackSym
+    requires { ⌜ Readable (now b) at n position ⌝ }
+    ensures { λ r. ⌜ symOf r ≡ read (stackAt (now (b .entry)) at n) position ⌝ }
+{
+    if position < n {
+        return get_cell(b, at + 9 * position);
+    }
+    let base = get64(b, at + 9 * (n - 1) + 1);
+    StackSym::Before(base + (position - (n - 1)))
+}

@@ -1,0 +1,121 @@
+// A block's own run: from its start to its end, its stack trimmed and stored, and the symbol that its jump takes.
+use crate::cell::get_cell;
+use crate::cell::put_cell;
+use crate::step::Turn;
+use crate::step::step;
+use crate::sym::StackSym;
+use crate::top::Top;
+use evm::walk::Step;
+use evm::walk::step_at;
+ghost use mathlib.Core.Path.{_≡_};
+ghost use Rattle.spec.specs.Stacks.{joins, trims};
+ghost use Rattle.state.specs.Symbols.{symOf};
+ghost use Rattle.state.specs.Cells.{symsAt, Lies};
+ghost use Rattle.state.specs.Owns.{Runs, Ended, Trims, Owned};
+
+// The symbol that the run's jump takes, if it ends with one.
+pub enum Goes {
+    To(StackSym),
+    Nowhere,
+}
+
+// Where a run ended: the stack in hand, and where it goes.
+struct End {
+    top: Top,
+    goes: Goes,
+}
+
+// A block's own state, in n cells from `at` on, and where it goes.
+pub struct Own {
+    pub at: usize,
+    pub n: usize,
+    pub goes: Goes,
+}
+
+// Runs the block at `start` to its end, with its stack in the part of w that ends at `end`.
+fn to_end(code: &[u8], start: usize, w: &mut [u8], end: usize) -> End
+    requires { ⌜ Runs (now code) start (now w) end ⌝ }
+    ensures { λ r. ⌜ Ended (now (code .entry)) start (now (w .entry)) end (now (w .exit)) r ⌝ }
+{
+    let mut at = start;
+    let mut t = Top {
+        at: end - 9,
+        n: 0,
+        base: 0,
+    };
+    loop {
+        match step_at(code, at) {
+            Step::End => {
+                return End {
+                    top: t,
+                    goes: Goes::Nowhere,
+                };
+            }
+            Step::Whole { pc, op, next } => match step(code, start, pc, op, w, t) {
+                Turn::On(u) => {
+                    t = u;
+                    at = next;
+                }
+                Turn::Ends(u) => {
+                    return End {
+                        top: u,
+                        goes: Goes::Nowhere,
+                    };
+                }
+                Turn::Jumps(u, x) => {
+                    return End {
+                        top: u,
+                        goes: Goes::To(x),
+                    };
+                }
+            },
+        }
+    }
+}
+
+// Whether a symbol is the Before that the numbering gives next above Before(base).
+fn joined(x: StackSym, base: usize) -> bool
+    ensures { λ r. ⌜ r ≡ joins (symOf x) base ⌝ }
+{
+    if base == 0 {
+        return false;
+    }
+    match x {
+        StackSym::Before(n) => n == base - 1,
+        StackSym::Constant(_) => false,
+        StackSym::Jumpdest(_) => false,
+        StackSym::Other(_) => false,
+    }
+}
+
+// How many of the n + 1 cells from `at` on are left where the symbols that the numbering gives anyway are left to it. No cell moves: the state ends
+// with the uppermost of them, which is the Before that it has to end with.
+fn trimmed(w: &[u8], at: usize, n: usize, base: usize) -> usize
+    requires { ⌜ Trims (now w) at n base ⌝ }
+    ensures { λ r. ⌜ Lies (now (w .entry)) at r (trims (symsAt (now (w .entry)) at n) base) ⌝ }
+{
+    let mut m = n;
+    let mut low = base;
+    while m != 0 {
+        if joined(get_cell(w, at + 9 * (m - 1)), low) {
+            m -= 1;
+            low -= 1;
+        } else {
+            return m + 1;
+        }
+    }
+    m + 1
+}
+
+// Runs the block at `start` and stores its state in the part of w that ends at `end`, which has a cell for each byte of code, and seventeen.
+pub fn run(code: &[u8], start: usize, w: &mut [u8], end: usize) -> Own
+    requires { ⌜ Runs (now code) start (now w) end ⌝ }
+    ensures { λ r. ⌜ Owned (now (code .entry)) start (now (w .entry)) end (now (w .exit)) r ⌝ }
+{
+    let r = to_end(code, start, w, end);
+    let t = r.top;
+    let goes = r.goes;
+    put_cell(w, end - 9, StackSym::Before(t.base));
+    let n = trimmed(w, t.at, t.n, t.base);
+    Own { at: t.at, n, goes }
+}

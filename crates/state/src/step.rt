@@ -1,0 +1,117 @@
+// One instruction of a block's run: one decision over its byte and the ranges of bytes.
+use crate::swap::swapped;
+use crate::sym::StackSym;
+use crate::top::Top;
+use crate::trade::trade;
+use crate::words::add;
+use crate::words::and;
+use evm::walk::argument_at;
+ghost use mathlib.Core.Path.{_≡_};
+ghost use Prim.Native.Nat.{_+_, _-_, _≤_};
+ghost use lib.ListN.{drop};
+ghost use Rattle.spec.specs.Walk.{ins};
+ghost use Rattle.spec.specs.Stacks.{read, pops, push, from-value};
+ghost use Rattle.state.specs.Working.{stackOf, Ready, Near, Becomes};
+ghost use Rattle.state.specs.Steps.{leaps, next, spelt, Pushes, Steps, Turns};
+
+const STOP: u8 = 0x00;
+
+const ADD: u8 = 0x01;
+
+const AND: u8 = 0x16;
+
+const JUMP: u8 = 0x56;
+
+const JUMPI: u8 = 0x57;
+
+const PC: u8 = 0x58;
+
+const JUMPDEST: u8 = 0x5b;
+
+const PUSH0: u8 = 0x5f;
+
+const PUSH1: u8 = 0x60;
+
+const PUSH4: u8 = 0x63;
+
+const DUP1: u8 = 0x80;
+
+const DUP16: u8 = 0x8f;
+
+const SWAP1: u8 = 0x90;
+
+const SWAP16: u8 = 0x9f;
+
+const RETURN: u8 = 0xf3;
+
+const REVERT: u8 = 0xfd;
+
+const INVALID: u8 = 0xfe;
+
+const SELFDESTRUCT: u8 = 0xff;
+
+// What an instruction leaves: the run goes on, ends, or jumps to where a symbol says.
+pub enum Turn {
+    On(Top),
+    Ends(Top),
+    Jumps(Top, StackSym),
+}
+
+// How far a byte lies past another.
+fn past(first: u8, op: u8) -> usize
+    requires { ⌜ first ≤ op ⌝ }
+    ensures { λ r. ⌜ r ≡ op - first ⌝ }
+{
+    (op - first) as usize
+}
+
+// PUSH1 to PUSH4: the n bytes after pc, as a value.
+fn push_value(t: Top, w: &mut [u8], code: &[u8], pc: usize, n: usize) -> Top
+    requires { ⌜ Pushes (now w) t (now code) pc n ⌝ }
+    ensures { λ r. ⌜ Becomes (now (w .entry)) t (push (from-value (now (code .entry)) (spelt (now (code .entry)) pc n)) (stackOf (now (w .entry)) t)) (now (w .exit)) r ⌝ }
+{
+    let value = argument_at(code, pc, n) as usize;
+    t.push(w, StackSym::from_value(value, code))
+}
+
+// PC: the instruction's own place, as a value.
+fn push_pc(t: Top, w: &mut [u8], code: &[u8], pc: usize) -> Top
+    requires { ⌜ Ready (now w) t ⌝ }
+    ensures { λ r. ⌜ Becomes (now (w .entry)) t (push (from-value (now (code .entry)) pc) (stackOf (now (w .entry)) t)) (now (w .exit)) r ⌝ }
+{
+    t.push(w, StackSym::from_value(pc, code))
+}
+
+// JUMP and JUMPI: to the top word; k words are taken.
+fn jumped(t: Top, w: &[u8], k: usize) -> Turn
+    requires { ⌜ Near (now w) t k ⌝ }
+    ensures { λ r. ⌜ Turns (now (w .entry)) t (leaps (pops k (stackOf (now (w .entry)) t)) (read (stackOf (now (w .entry)) t) 0)) (now (w .entry)) r ⌝ }
+{
+    let to = t.read(w, 0);
+    Turn::Jumps(t.pops(k), to)
+}
+
+// The step at the instruction op, which stands at pc, of the block that starts at `start`.
+pub fn step(code: &[u8], start: usize, pc: usize, op: u8, w: &mut [u8], t: Top) -> Turn
+    requires { ⌜ Steps (now code) pc op (now w) t ⌝ }
+    ensures { λ r. ⌜ Turns (now (w .entry)) t (next (now (code .entry)) start (ins pc op (drop (pc + 1) (now (code .entry)))) (stackOf (now (w .entry)) t)) (now (w .exit)) r ⌝ }
+{
+    match op {
+        PUSH1..=PUSH4 => Turn::On(push_value(t, w, code, pc, past(PUSH0, op))),
+        PC => Turn::On(push_pc(t, w, code, pc)),
+        DUP1..=DUP16 => Turn::On(t.dup(w, past(DUP1, op))),
+        SWAP1..=SWAP16 => Turn::On(swapped(t, w, past(SWAP1, op))),
+        AND => Turn::On(and(t, w, pc)),
+        ADD => Turn::On(add(t, w, code, pc)),
+        JUMP => jumped(t, w, 1),
+        JUMPI => jumped(t, w, 2),
+        JUMPDEST => {
+            if pc == start {
+                return Turn::On(t);
+            }
+            Turn::Ends(t)
+        }
+        STOP | RETURN | REVERT | INVALID | SELFDESTRUCT => Turn::Ends(trade(t, w, op, pc)),
+        _ => Turn::On(trade(t, w, op, pc)),
+    }
+}
