@@ -1,22 +1,20 @@
 -- What a byte is to the cutting: a rule over a range of bytes is one computed test. Assumes nothing.
 use mathlib.Core.Path.{_≡_, refl, sym, ap, _∙_}
-use mathlib.Core.Bool.{Bool, true, false, _&&_, _||_, Bool·beq}
+use mathlib.Core.Bool.{Bool, true, false, _&&_, Bool·beq}
 use mathlib.Core.Logic.{_⊎_, inl, inr, ⊎-elim}
 use Prim.Native.Nat.{ℕ, zero, suc, _+_, _≤_, _<_}
 use native.Mathlib.Nat.{eq-or-lt-of-le}
 use native.Mathlib.Omega.{arith}
 use native.Mathlib.Decide.{decLt}
-use lib.Dec.{eqb}
 use borrow.Author.Tests.{ne-eqb}
 use Rattle.spec.specs.Lists.{if}
-use Rattle.spec.specs.Opcodes.{Row, row}
+use Rattle.spec.specs.Opcodes.{row}
 use Rattle.spec.specs.Blocks as spec
 use Rattle.spec.specs.Blocks.{cut}
 use Rattle.theorems.proofs.Branch.{if-true, if-false}
 use Rattle.theorems.proofs.Members.{and-both}
 use Rattle.initial.specs.Turn.{cutOf}
-use Rattle.initial.specs.declared.turn.Cut.{Cut}
-use Rattle.initial.specs.declared.turn.Cut.the-variants.{Jumpdest, Jumpi, Jump, Ends, Unknown, Other}
+use Rattle.initial.specs.declared.turn.Cut.the-variants.{Ends, Unknown, Other}
 
 -- f holds of the n numbers from a on
 unfoldable pub all : (ℕ → Bool) → ℕ → ℕ → Bool

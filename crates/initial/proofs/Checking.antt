@@ -1,26 +1,25 @@
 -- The checks afterwards: a destination is looked up in the rows, a row's block is checked, and all rows one after the other. Assumes nothing.
-use mathlib.Core.Path.{_≡_, refl, sym, ap, ap₂, _∙_, subst}
-use mathlib.Core.Bool.{Bool, true, false, not, _&&_, and-true}
-use mathlib.Core.List.{List, [], _∷_, _++_, map, map-append, append-nil, append-assoc}
-use Prim.Native.Nat.{ℕ, zero, suc, _+_, _*_, _-_, _≤_, _<_}
-use native.Mathlib.Nat.{zero-add, sub-self}
-use native.Mathlib.Numerals.{add-one}
+use mathlib.Core.Path.{_≡_, refl, sym, ap, ap₂, _∙_}
+use mathlib.Core.Bool.{Bool, true, false, not, and-true}
+use mathlib.Core.List.{List, [], _∷_, _++_, map, map-append, append-nil}
+use Prim.Native.Nat.{ℕ, suc, _+_, _*_, _-_, _≤_, _<_}
+use native.Mathlib.Nat.{zero-add}
 use native.Mathlib.Omega.{arith}
 use lib.Dec.{eqb}
-use lib.ListN.{length, getD, take, drop, List·getD-eq-default}
-use borrow.Author.Tests.{eqb-true, eqb-false, eq-eqb, ne-eqb}
-use Rattle.spec.specs.Lists.{if, mem}
-use Rattle.spec.specs.Blocks.{Kind, terminate, jump, jumpi, dynamic-jump, dynamic-jumpi, Block, block, with-kind, starts, lands, checked, check-all}
+use lib.ListN.{length, getD, drop, List·getD-eq-default}
+use borrow.Author.Tests.{eqb-true, eq-eqb, ne-eqb}
+use Rattle.spec.specs.Lists.{mem}
+use Rattle.spec.specs.Blocks.{Kind, jump, jumpi, Block, block, with-kind, starts, lands, checked, check-all}
 use Rattle.lent.specs.Bytes.{numAt, Holds}
 use Rattle.lent.proofs.Parts.{drop-more}
 use Rattle.lent.proofs.Stored.{kept-take, kept-drop}
 use Rattle.theorems.proofs.Branch.{both, if-true, if-false, and-false}
-use Rattle.initial.specs.Rows.{typed, typeOf, kindOf, tagAt, typeAt, blockAt, rowBlocks, blocksFrom, blocksAt, Laid}
-use Rattle.initial.specs.Contracts.{Put, TypeIs, Beyond, Rows, rechecked, CheckedRow, Checked}
+use Rattle.initial.specs.Rows.{typed, typeOf, kindOf, rowBlocks, blocksFrom, blocksAt, Laid}
+use Rattle.initial.specs.Contracts.{Written, Put, TypeIs, Rows, rechecked, CheckedRow}
 use Rattle.initial.specs.declared.row.BlockType.{BlockType}
-use Rattle.initial.proofs.Types.{Good, kind-type, good-terminate, good-jump, good}
+use Rattle.initial.proofs.Types.{Good, kind-type, kind-jump, kind-jumpi, good-terminate, good-jump, good}
 use Rattle.initial.proofs.Rows.{here-suffix, from-prefix, from-suffix, from-split, here-block, by-row, start-at, start-past}
-use Rattle.initial.proofs.Writing.{put-here, put-laid, beyond-same}
+use Rattle.initial.proofs.Writing.{put-here, put-laid}
 
 -- ---- a destination is looked up
 
@@ -37,8 +36,8 @@ module _ (code w : List ℕ) (t : ℕ) where
   pub lands-other : (getD code t 0 ≡ 0x5B → ⊥) → false ≡ lands code (starts (blocksAt w (length code))) t
   lands-other h = sym (and-false (mem t (starts (blocksAt w (length code)))) (ne-eqb _ _ h))
 
-  pub lands-tag : {k : ℕ} → t < length code → getD code t 0 ≡ 0x5B → Holds 1 w (20 * t) k → not (eqb k 0) ≡ lands code (starts (blocksAt w (length code))) t
-  lands-tag h e k = starts-tag (omega arith) k ∙ sym (rw (eq-eqb (getD code t 0) 0x5B e) (and-true _))
+  pub lands-starts : {b : Bool} → getD code t 0 ≡ 0x5B → b ≡ mem t (starts (blocksAt w (length code))) → b ≡ lands code (starts (blocksAt w (length code))) t
+  lands-starts e q = q ∙ sym (rw (eq-eqb (getD code t 0) 0x5B e) (and-true _))
 
 -- ---- a type is checked, where the blocks start so
 
@@ -69,14 +68,6 @@ module _ (code ss : List ℕ) where
       both Fits (mem f ss) (λ _. both Fits (lands code ss to) (λ _. good (jumpi to f) h g) (λ _. good-jump f g)) (λ _. good-terminate false)
 
   module _ (t : BlockType) where
-    kind-jump : t .kind ≡ 3 → kindOf t ≡ jump (t .to)
-    unfolding kindOf if
-    kind-jump e = rw e
-
-    kind-jumpi : t .kind ≡ 4 → kindOf t ≡ jumpi (t .to) (t .other)
-    unfolding kindOf if
-    kind-jumpi e = rw e
-
     Same : Kind → Type 0
     Same k = checked code ss k ≡ k
 
@@ -105,7 +96,7 @@ module _ {code w : List ℕ} {a : ℕ} {t : BlockType} (r : Rows code w) (h : a 
             ∙ rw (q, e .is, y .is)
             (sym (ap (map (rechecked code (starts (blocksAt w (length code))))) (here-block w a (λ n. z (ap (λ (b : BlockType). b .kind) (y .is) ∙ n)))));
         before = kept-take (p .stored) (20 * a) (omega arith);
-        after = kept-drop (p .stored) (20 * (a + 1)) (omega arith);
+        past = kept-drop (p .stored) (20 * (a + 1)) (omega arith);
         laid = put-laid p (length code) (r .laid) h g (e .small);
         kept = p .stored .kept;
       }
@@ -114,14 +105,14 @@ module _ {code w : List ℕ} {a : ℕ} {t : BlockType} (r : Rows code w) (h : a 
       → k ≡ typeOf (checked code (starts (blocksAt w (length code))) (jump (t .to))) → Put w a end k w′ → CheckedRow code w a w′
   unfolding ss
   row-jump c e q p =
-      row-written (λ n. omega arith) e (ap kindOf q ∙ kind-type _ ∙ ap (checked code ss) (sym (kind-jump code ss t c)))
+      row-written (λ n. omega arith) e (ap kindOf q ∙ kind-type _ ∙ ap (checked code ss) (sym (kind-jump t c)))
       (rw q (good-checked-jump code ss (t .to) (y .to))) p
 
   pub row-jumpi : {w′ : List ℕ} {end : ℕ} {k : BlockType} → t .kind ≡ 4 → Holds 2 w (20 * a + 2) end
       → k ≡ typeOf (checked code (starts (blocksAt w (length code))) (jumpi (t .to) (t .other))) → Put w a end k w′ → CheckedRow code w a w′
   unfolding ss
   row-jumpi c e q p =
-      row-written (λ n. omega arith) e (ap kindOf q ∙ kind-type _ ∙ ap (checked code ss) (sym (kind-jumpi code ss t c)))
+      row-written (λ n. omega arith) e (ap kindOf q ∙ kind-type _ ∙ ap (checked code ss) (sym (kind-jumpi t c)))
       (rw q (good-checked-jumpi code ss (t .to) (t .other) (y .to) (y .other))) p
 
   pub row-same : (t .kind ≡ 3 → ⊥) → (t .kind ≡ 4 → ⊥) → CheckedRow code w a w
@@ -131,7 +122,7 @@ module _ {code w : List ℕ} {a : ℕ} {t : BlockType} (r : Rows code w) (h : a 
             by-row w a (λ (bs : List Block). bs ≡ map (rechecked code (starts (blocksAt w (length code)))) bs) (λ _. refl)
             (λ _. ap {B = List Block} (λ (k : Kind). block a a (numAt 2 w (20 * a + 2)) k ∷ []) (sym (rw (y .is) at (kind-same code (starts (blocksAt w (length code))) t c d))));
         before = refl;
-        after = refl;
+        past = refl;
         laid = r .laid;
         kept = refl;
       }
@@ -160,7 +151,7 @@ check-none r = record { front = refl; back = refl; laid = r .laid; kept = refl; 
 
 module _ {code w₀ w : List ℕ} {a : ℕ} (r : Rows code w₀) (g : Checking code w₀ w a) where
   pub check-rows : Rows code w
-  check-rows = record { short = r .short; room = omega arith; laid = g .laid }
+  check-rows = record { lent = record { short = r .lent .short; room = omega arith }; laid = g .laid }
 
   -- the checks keep where blocks start, so that each looks up what all look up
   starts-kept : starts (blocksAt w (length code)) ≡ starts (blocksAt w₀ (length code))
@@ -178,13 +169,13 @@ module _ {code w₀ w : List ℕ} {a : ℕ} (r : Rows code w₀) (g : Checking c
             from-snoc w′ a
             ∙ ap₂ (λ (x y : List Block). x ++ y) (from-prefix w′ w 0 a (20 * a) (c .before) (omega arith) ∙ g .front) (rw (starts-kept, old) at (c .same))
             ∙ sym (ap (map (rechecked code (starts (blocksAt w₀ (length code))))) (from-snoc w₀ a) ∙ map-append _ (blocksFrom w₀ 0 a) (rowBlocks w₀ a));
-        back = c .after ∙ drop-more w w₀ (20 * a) (g .back) (20 * (a + 1)) (omega arith);
+        back = c .past ∙ drop-more w w₀ (20 * a) (g .back) (20 * (a + 1)) (omega arith);
         laid = c .laid;
         kept = c .kept ∙ g .kept;
         inside = omega arith;
       }
 
-  pub check-done : length code < a → Checked code w₀ w
+  pub check-done : length code < a → Written (length code) (check-all code (blocksAt w₀ (length code))) w₀ w
   check-done h =
       let e : a ≡ suc (length code) = omega (arith, g .inside) in
       let all : 20 * a ≡ 20 * (length code + 1) = omega arith in

@@ -1,19 +1,18 @@
 -- The cutting loop: before the first instruction, from one to the next, and its three ways out. Assumes nothing.
-use mathlib.Core.Path.{_≡_, refl, sym, ap, _∙_, subst}
+use mathlib.Core.Path.{_≡_, refl, sym, ap, _∙_}
 use mathlib.Core.Bool.{Bool, true, false, _||_}
 use mathlib.Core.List.{List, [], _∷_, _++_, map, append-nil}
 use mathlib.Core.Option.{Option, none}
-use Prim.Native.Nat.{ℕ, suc, _+_, _*_, _-_, _≤_, _<_}
+use Prim.Native.Nat.{ℕ, _+_, _*_, _-_, _≤_, _<_}
 use native.Mathlib.Omega.{arith}
 use native.Mathlib.Decide.{decLe}
-use lib.Dec.{eqb, leb}
+use lib.Dec.{eqb}
 use lib.ListN.{length, getD, drop, replicate}
 use borrow.Author.Tests.{eqb-true, le-leb, lt-leb}
-use Rattle.spec.specs.Lists.{if}
-use Rattle.spec.specs.Opcodes.{Row, row, argument}
+use Rattle.spec.specs.Opcodes.{row}
 use Rattle.spec.specs.Walk.{Ins, walk}
 use Rattle.spec.specs.Blocks as spec
-use Rattle.spec.specs.Blocks.{terminate, Block, block, opened, waiting, JUMPDEST, JUMPI, JUMP, UNKNOWN, OTHER, ENDS, cut, closes, cuts}
+use Rattle.spec.specs.Blocks.{terminate, Block, block, opened, JUMPDEST, JUMPI, JUMP, UNKNOWN, OTHER, ENDS, cut, closes, cuts}
 use Rattle.lent.specs.Bytes.{Stored}
 use Rattle.evm.specs.Step.{stepAt}
 use Rattle.evm.specs.declared.walk.Step.{Step}
@@ -21,14 +20,14 @@ use Rattle.evm.specs.declared.walk.Step.the-variants as step
 use Rattle.evm.proofs.Walks.{next, walk-whole, walk-end, instructions-walk}
 use Rattle.evm.proofs.Steps.{Took, took, ended}
 use Rattle.theorems.proofs.Branch.{both, if-true, if-false}
-use Rattle.initial.specs.Rows.{typeOf, kindOf, blocksAt, Laid}
-use Rattle.initial.specs.Turn.{clipped, pushedAt, rest, ahead}
-use Rattle.initial.specs.Contracts.{Lent, Put, Beyond, Stands, Ready, Turned, Last, cutting, Cut}
+use Rattle.initial.specs.Rows.{typeOf, blocksAt, Laid}
+use Rattle.initial.specs.Turn.{clipped, pushedAt, ahead}
+use Rattle.initial.specs.Contracts.{Lent, Beyond, Written, Put, Stands, lowest, Standing, Ready, after, Turned, last, cutting}
 use Rattle.initial.specs.declared.row.BlockType.{BlockType}
 use Rattle.initial.specs.declared.turn.Mode.{Mode}
 use Rattle.initial.specs.declared.turn.Mode.the-variants.{Opened, Waiting, Ended}
-use Rattle.initial.proofs.Types.{kind-type, good-terminate}
-use Rattle.initial.proofs.Writing.{put-append, put-laid, put-beyond, beyond-same, beyond-more, wiped-blocks, wiped-empty, wiped-laid, wiped-beyond}
+use Rattle.initial.proofs.Types.{Good, kind-type, good-terminate}
+use Rattle.initial.proofs.Writing.{put-append, put-laid, put-beyond, less-empty, beyond-same, beyond-more, wiped-blocks, wiped-empty, wiped-laid, wiped-beyond}
 use Rattle.initial.proofs.Jumping.{push-low}
 use Rattle.initial.proofs.Turning.{ahead-ended}
 
@@ -72,48 +71,57 @@ cutting-none (b ∷ code) h = absurd (omega arith)
 
 -- ---- after the last instruction
 
-last-idle : (m : Mode) (prev : ℕ) (push : Option ℕ) → rest [] m prev push ≡ rest [] m prev none
-unfolding cuts
-last-idle (Opened start) prev push = refl
-last-idle Waiting prev push = refl
-last-idle Ended prev push = refl
+ahead-last : (code : List ℕ) (at : ℕ) (m : Mode) (prev : ℕ) → walk (drop at code) at 0 ≡ [] → ahead code at m prev ≡ last m prev
+unfolding ahead last cuts
+ahead-last code at (Opened start) prev e = rw e
+ahead-last code at Waiting prev e = rw e
+ahead-last code at Ended prev e = refl
 
-ahead-last : (code : List ℕ) (at : ℕ) (m : Mode) (prev : ℕ) → walk (drop at code) at 0 ≡ [] → ahead code at m prev ≡ map clipped (rest [] m prev none)
-unfolding ahead
-ahead-last code at m prev e = rw e (ap (map clipped) (last-idle m prev (pushedAt code prev)))
+last-open : (start prev : ℕ) → start ≤ prev → last (Opened start) prev ≡ block start start prev (terminate false) ∷ []
+unfolding last cuts
+last-open start prev h = ap (map clipped) (if-true _ _ _ (le-leb start prev h))
 
-module _ {code w : List ℕ} {mode : Mode} {prev at : ℕ} (r : Ready code w mode prev at) where
-  last-none : rest [] mode prev none ≡ [] → Last code w mode prev w
-  last-none e = record { blocks = rw e (sym (append-nil (blocksAt w (length code)))); laid = r .laid; beyond = beyond-same (length code) w }
+last-beyond : (start prev : ℕ) → prev < start → last (Opened start) prev ≡ []
+unfolding last cuts
+last-beyond start prev h = ap (map clipped) (if-false _ _ _ (lt-leb start prev h))
 
-  pub last-waits : mode ≡ Waiting → Last code w mode prev w
-  unfolding cuts
+module _ {n : ℕ} {w : List ℕ} {mode : Mode} {prev : ℕ} (r : Standing n w mode prev n) where
+  last-none : last mode prev ≡ [] → Written n (blocksAt w n ++ last mode prev) w w
+  last-none e = record { blocks = rw e (sym (append-nil (blocksAt w n))); laid = r .laid; beyond = beyond-same n w }
+
+  pub last-waits : mode ≡ Waiting → Written n (blocksAt w n ++ last mode prev) w w
+  unfolding last cuts
   last-waits o = last-none (rw o)
 
-  pub last-ended : mode ≡ Ended → Last code w mode prev w
+  pub last-ended : mode ≡ Ended → Written n (blocksAt w n ++ last mode prev) w w
+  unfolding last
   last-ended o = last-none (rw o)
 
   module _ {start : ℕ} (o : mode ≡ Opened start) where
-    pub last-past : prev < start → Last code w mode prev w
-    unfolding cuts
-    last-past h = last-none (rw o (if-false _ _ _ (lt-leb start prev h)))
+    pub last-past : prev < start → Written n (blocksAt w n ++ last mode prev) w w
+    last-past h = last-none (rw o (last-beyond start prev h))
 
-    pub last-room : 20 * start + 8 ≤ length w
-    last-room = omega (arith, rw o at (r .low), r .inside, r .room)
-
-    pub last-kept : {w′ : List ℕ} {k : BlockType} → start ≤ prev → k ≡ typeOf (terminate false) → Put w start prev k w′ → Last code w mode prev w′
-    unfolding cuts
-    last-kept {w′} h q p =
-        let p′ : Put w start prev (typeOf (terminate false)) w′ = rw q at p in
-        let inside : start ≤ length code = omega (arith, r .back, r .inside) in
+    pub last-kept : {w′ : List ℕ} {k : BlockType} → start ≤ prev → k ≡ typeOf (terminate false) → Put w start prev k w′
+        → Written n (blocksAt w n ++ last mode prev) w w′
+    last-kept {w′} {k} h q p =
+        let inside : start ≤ n = omega (arith, r .back, r .inside) in
         let small : prev < 65536 = omega (arith, r .back, r .inside, r .short) in
-        let good = good-terminate false in
+        let good : Good k = rw q (good-terminate false) in
         record {
-          blocks = rw o (put-append p′ (length code) (rw o at (r .empty)) inside good small
-              ∙ ap (λ (bs : List Block). blocksAt w (length code) ++ bs) (rw kind-type (sym (ap (map clipped) (if-true _ _ _ (le-leb start prev h))))));
-          laid = put-laid p′ (length code) (r .laid) inside good small;
-          beyond = put-beyond p′ (length code) inside;
+          blocks = put-append p n (rw o at (r .empty)) inside good small ∙ rw (o, last-open start prev h, q, kind-type);
+          laid = put-laid p n (r .laid) inside good small;
+          beyond = put-beyond p n inside;
         }
+
+lowest-last : (m : Mode) {at n : ℕ} → at ≤ n → lowest m at ≤ at → (lowest m at ≤ lowest m n) × (lowest m n ≤ n)
+lowest-last (Opened start) h l = (omega arith, omega arith)
+lowest-last Waiting h l = (h, omega arith)
+lowest-last Ended h l = (h, omega arith)
+
+pub last-asks : {n : ℕ} {w : List ℕ} {m : Mode} {prev at : ℕ} → Standing n w m prev at → Standing n w m prev n
+last-asks {n} {w} {m} r =
+    let l = lowest-last m (r .inside) (r .low) in
+    record { short = r .short; room = r .room; laid = r .laid; empty = less-empty (r .empty) (l .0); low = l .1; inside = omega arith; back = omega arith }
 
 -- ---- the loop
 
@@ -124,7 +132,7 @@ pub record Going (code w₀ w : List ℕ) (m : Mode) (prev at : ℕ) : Type 0 wh
   pub beyond : Beyond (length code) w₀ w
 
 module _ {code w w₀ : List ℕ} (l : Lent code w) (s : Stored (20 * (length code + 1)) w 0 (replicate (20 * (length code + 1)) 0) w₀) where
-  pub cut-empty : length code ≡ 0 → Cut code w w₀
+  pub cut-empty : length code ≡ 0 → Written (length code) (map clipped (cutting code)) w w₀
   cut-empty h =
       record {
         blocks = wiped-blocks (length code) s ∙ sym (ap (map clipped) (cutting-none code h));
@@ -136,24 +144,27 @@ module _ {code w w₀ : List ℕ} (l : Lent code w) (s : Stored (20 * (length co
   cut-starts h =
       record {
         ready = record {
-          short = l .short;
-          room = omega arith;
-          laid = wiped-laid (length code) s;
-          empty = wiped-empty (length code) s;
-          low = omega arith;
-          inside = omega arith;
-          back = omega arith;
+          rows = record {
+            short = l .short;
+            room = omega arith;
+            laid = wiped-laid (length code) s;
+            empty = wiped-empty (length code) s;
+            low = omega arith;
+            inside = omega arith;
+            back = omega arith;
+          };
           before = λ k. absurd (omega arith);
         };
         whole = rw (wiped-blocks (length code) s) (sym (cutting-some code h));
         beyond = beyond-same (length code) w₀;
       }
 
-  cut-all : {v : List ℕ} → Beyond (length code) w₀ v → Laid v (length code) → blocksAt v (length code) ≡ map clipped (cutting code) → Cut code w v
+  cut-all : {v : List ℕ} → Beyond (length code) w₀ v → Laid v (length code) → blocksAt v (length code) ≡ map clipped (cutting code) → Written (length code) (map clipped (cutting code)) w v
   cut-all b d e = record { blocks = e; laid = d; beyond = beyond-more (wiped-beyond (length code) s) b }
 
   module _ {v : List ℕ} {m : Mode} {prev at : ℕ} {r : Step} (g : Going code w₀ v m prev at) (e : r ≡ stepAt code at) where
-    pub cut-last : {v′ : List ℕ} → r ≡ step.End → Last code v m prev v′ → Cut code w v′
+    pub cut-last : {v′ : List ℕ} → r ≡ step.End → Written (length code) (blocksAt v (length code) ++ last m prev) v v′
+        → Written (length code) (map clipped (cutting code)) w v′
     cut-last q t =
         cut-all (beyond-more (g .beyond) (t .beyond)) (t .laid)
         (t .blocks ∙ ap (λ (bs : List Block). blocksAt v (length code) ++ bs) (sym (ahead-last code at m prev (ended code at e q))) ∙ g .whole)
@@ -174,8 +185,8 @@ module _ {code w w₀ : List ℕ} (l : Lent code w) (s : Stored (20 * (length co
       module _ {v′ : List ℕ} {m′ : Mode} (t : Turned code v m prev pc op v′ m′) where
         pub cut-more : Going code w₀ v′ m′ pc to
         cut-more =
-            let n : to ≡ pc + suc (argument op) = omega (arith, taken .here, taken .size) in
+            let n : to ≡ after pc op = omega (arith, taken .here, taken .size) in
             rw n (record { ready = t .ready; whole = t .same ∙ rw (taken .here) (g .whole); beyond = beyond-more (g .beyond) (t .beyond) })
 
-        pub cut-stops : m′ ≡ Ended → Cut code w v′
-        cut-stops d = cut-all (beyond-more (g .beyond) (t .beyond)) (t .ready .laid) (rw (d, ahead-ended, append-nil) at (t .same) ∙ rw (taken .here) (g .whole))
+        pub cut-stops : m′ ≡ Ended → Written (length code) (map clipped (cutting code)) w v′
+        cut-stops d = cut-all (beyond-more (g .beyond) (t .beyond)) (t .ready .rows .laid) (rw (d, ahead-ended, append-nil) at (t .same) ∙ rw (taken .here) (g .whole))

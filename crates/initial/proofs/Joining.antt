@@ -1,6 +1,6 @@
 -- The cutting and the checks together are the blocks of document 01: a destination past any code lands nowhere, cut off or not. Assumes nothing.
 use mathlib.Core.Path.{_≡_, refl, sym, ap, ap₂, _∙_}
-use mathlib.Core.Bool.{Bool, true, false, _&&_}
+use mathlib.Core.Bool.{Bool, true, false}
 use mathlib.Core.List.{List, [], _∷_, map}
 use Prim.Native.Nat.{ℕ, _≤_, _<_, min}
 use native.Mathlib.Omega.{arith}
@@ -9,10 +9,10 @@ use lib.ListN.{length}
 use Rattle.spec.specs.Lists.{if, mem}
 use Rattle.spec.specs.Walk.{instructions}
 use Rattle.spec.specs.Blocks.{Kind, terminate, jump, jumpi, dynamic-jump, dynamic-jumpi, Block, with-kind, lands, checked, starts, check-all, blocks}
-use Rattle.theorems.proofs.Branch.{both, if-true, if-false}
+use Rattle.theorems.proofs.Branch.{if-false}
 use Rattle.initial.specs.Rows.{blocksAt}
 use Rattle.initial.specs.Turn.{clip, clipped}
-use Rattle.initial.specs.Contracts.{Lent, cutting, Cut, Checked, Initial}
+use Rattle.initial.specs.Contracts.{Lent, Written, cutting, Initial}
 use Rattle.initial.proofs.Rows.{start-inside}
 use Rattle.initial.proofs.Writing.{beyond-more}
 
@@ -63,7 +63,8 @@ unfolding cutting blocks
 blocks-checked [] = refl
 blocks-checked (b ∷ code) = refl
 
-pub joined : {code w v u : List ℕ} → Lent code w → Cut code w v → Checked code v u → Initial code w u
+pub joined : {code w v u : List ℕ} → Lent code w → Written (length code) (map clipped (cutting code)) w v
+    → Written (length code) (check-all code (blocksAt v (length code))) v u → Initial code w u
 joined {code} {w} {v} {u} l c d =
     let inside : (t : ℕ) → mem t (starts (cutting code)) ≡ true → t ≤ length code =
     λ t e. start-inside v t (length code) (rw (c .blocks, clip-starts (cutting code)) e) in

@@ -1,17 +1,15 @@
 -- Where a jump goes, and what each case of the decision over an instruction gives. Assumes nothing.
 use mathlib.Core.Path.{_≡_, refl, sym, ap, _∙_}
-use mathlib.Core.Bool.{Bool, true, false, _&&_}
+use mathlib.Core.Bool.{Bool, true, false}
 use mathlib.Core.List.{List}
 use mathlib.Core.Option.{Option, none, some}
-use Prim.Native.Nat.{ℕ, _+_, _-_, _^_, _≤_, _<_, min}
+use Prim.Native.Nat.{ℕ, _+_, _-_, _≤_, _<_, min}
 use native.Mathlib.Omega.{arith}
-use lib.Dec.{eqb, leb}
-use lib.ListN.{length, getD, take, drop}
+use lib.ListN.{getD, take, drop}
 use borrow.Author.Tests.{le-leb, lt-leb, eq-eqb, ne-eqb}
-use Rattle.spec.specs.Lists.{if}
 use Rattle.spec.specs.Opcodes.{argument}
 use Rattle.spec.specs.Walk.{big}
-use Rattle.spec.specs.Blocks.{terminate, jump, jumping, branching}
+use Rattle.spec.specs.Blocks.{terminate, jumping, branching}
 use Rattle.evm.specs.Argument.{Follow, Spelled}
 use Rattle.evm.proofs.Arguments.{argument-push}
 use Rattle.theorems.proofs.Branch.{if-true, if-false}
@@ -114,13 +112,13 @@ module _ (start prev : ℕ) (push : Option ℕ) (pc : ℕ) where
     unfolding turnOf
     unknown-first q e = rw q (sym (if-true _ _ _ (eq-eqb start 0 e)))
 
-    pub unknown-past : t ≡ typeOf (terminate false) → (start ≡ 0 → ⊥) → (start ≡ pc → ⊥) → Closes prev t Waiting ≡ turnOf start prev push pc Unknown
+    pub unknown-past : t ≡ typeOf (terminate false) → (start ≡ 0 → ⊥) → (pc ≡ start → ⊥) → Closes prev t Waiting ≡ turnOf start prev push pc Unknown
     unfolding turnOf
-    unknown-past q h g = rw q (sym (if-false _ _ _ (ne-eqb start 0 h) ∙ if-false _ _ _ (ne-eqb start pc g)))
+    unknown-past q h g = rw q (sym (if-false _ _ _ (ne-eqb start 0 h) ∙ if-false _ _ _ (ne-eqb start pc (λ e. g (sym e)))))
 
-  pub unknown-own : (start ≡ 0 → ⊥) → start ≡ pc → Goes Waiting ≡ turnOf start prev push pc Unknown
+  pub unknown-own : (start ≡ 0 → ⊥) → pc ≡ start → Goes Waiting ≡ turnOf start prev push pc Unknown
   unfolding turnOf
-  unknown-own h e = sym (if-false _ _ _ (ne-eqb start 0 h) ∙ if-true _ _ _ (eq-eqb start pc e))
+  unknown-own h e = sym (if-false _ _ _ (ne-eqb start 0 h) ∙ if-true _ _ _ (eq-eqb start pc (sym e)))
 
   module _ {c : Cut} where
     pub at-jumpdest : {r : Turn} → c ≡ Jumpdest → r ≡ turnOf start prev none pc Jumpdest → r ≡ turnOf start prev push pc c

@@ -1,10 +1,13 @@
-pub mod Bytes
-pub mod Types
-pub mod Jumping
+-- Rows, Types, Writing, Later and Exact are what a crate above cites of the rows. The others serve the proofs of this one.
 pub mod Rows
+pub mod Types
 pub mod Writing
-pub mod Turning
-pub mod Taking
-pub mod Cutting
-pub mod Checking
-pub mod Joining
+pub mod Later
+pub mod Exact
+mod Bytes
+mod Jumping
+mod Turning
+mod Taking
+mod Cutting
+mod Checking
+mod Joining

@@ -1,17 +1,17 @@
 -- The laws of the rows: what they depend on, where they are split, which addresses start a block, and which block it is. Assumes nothing.
 use mathlib.Core.Path.{_≡_, refl, sym, ap, ap₂, _∙_}
 use mathlib.Core.Logic.{_⊎_, inl, inr}
-use mathlib.Core.Bool.{Bool, true, false, not, _||_, or-assoc, or-false}
-use mathlib.Core.List.{List, [], _∷_, _++_, map, append-assoc, map-append}
+use mathlib.Core.Bool.{true, false, not, _||_, or-assoc, or-false}
+use mathlib.Core.List.{List, [], _∷_, _++_, append-assoc, map-append}
 use Prim.Native.Nat.{ℕ, zero, suc, _+_, _*_, _-_, _≤_, _<_}
-use native.Mathlib.Nat.{add-zero, zero-add, suc-add, add-suc}
+use native.Mathlib.Nat.{add-zero, zero-add, suc-add}
 use native.Mathlib.Omega.{arith}
 use native.Mathlib.Decide.{decLt}
 use lib.Dec.{eqb}
-use lib.ListN.{length, take, drop}
+use lib.ListN.{take, drop}
 use borrow.Author.Tests.{eqb-true, eqb-false, eq-eqb, ne-eqb}
-use Rattle.spec.specs.Lists.{if, mem}
-use Rattle.spec.specs.Blocks.{Block, block, starts}
+use Rattle.spec.specs.Lists.{mem}
+use Rattle.spec.specs.Blocks.{Block, starts}
 use Rattle.lent.specs.Bytes.{numAt}
 use Rattle.lent.proofs.Parts.{part-prefix, part-suffix}
 use Rattle.lent.proofs.Numbers.{num-within}
@@ -99,6 +99,14 @@ module _ (w : List ℕ) where
   unfolding blocksFrom
   from-empty a zero h = refl
   from-empty a (suc m) h = rw (here-empty a (h a (omega arith) (omega arith))) (from-empty (suc a) m (λ x l g. h x (omega arith) (omega arith)))
+
+-- ---- one row is another: the blocks before it and past it stay
+
+pub row-changed : (w v : List ℕ) (n a : ℕ) → a ≤ n → take (20 * a) w ≡ take (20 * a) v → drop (20 * (a + 1)) w ≡ drop (20 * (a + 1)) v
+    → blocksAt w n ≡ blocksFrom v 0 a ++ (rowBlocks w a ++ blocksFrom v (suc a) (n - a))
+row-changed w v n a h b e =
+    blocks-split w n a h
+    ∙ rw (from-prefix w v 0 a (20 * a) b (omega arith), from-suffix w v (suc a) (n - a) (20 * (a + 1)) e (omega arith))
 
 -- ---- which addresses start a block
 

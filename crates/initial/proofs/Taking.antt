@@ -1,21 +1,19 @@
 -- One instruction is taken: each way out of the code's turn keeps what is written and what is still to be cut together. Assumes nothing.
-use mathlib.Core.Path.{_≡_, refl, sym, ap, _∙_, subst}
-use mathlib.Core.Bool.{Bool, true, false}
-use mathlib.Core.List.{List, [], _∷_, _++_, append-nil, append-assoc}
+use mathlib.Core.Path.{_≡_, sym, ap, _∙_, subst}
+use mathlib.Core.Bool.{false}
+use mathlib.Core.List.{List, _++_, append-assoc}
 use mathlib.Core.Option.{Option}
 use Prim.Native.Nat.{ℕ, suc, _+_, _*_, _≤_, _<_}
 use native.Mathlib.Omega.{arith}
 use native.Mathlib.Decide.{decLt}
 use lib.Dec.{eqb}
-use lib.ListN.{length, getD}
+use lib.ListN.{length}
 use borrow.Author.Tests.{eqb-false}
-use Rattle.spec.specs.Lists.{if}
-use Rattle.spec.specs.Opcodes.{argument}
-use Rattle.spec.specs.Blocks.{Block, block, cut}
+use Rattle.spec.specs.Blocks.{Block, cut}
 use Rattle.theorems.proofs.Branch.{both}
-use Rattle.initial.specs.Rows.{kindOf, blocksAt, Laid}
+use Rattle.initial.specs.Rows.{blocksAt, Laid}
 use Rattle.initial.specs.Turn.{pushedAt, cutOf, turnOf, closed, then, ahead}
-use Rattle.initial.specs.Contracts.{Put, Beyond, Stands, Whole, Behind, lowest, Empty, Ready, Turned}
+use Rattle.initial.specs.Contracts.{Put, Beyond, Stands, Whole, Behind, lowest, Empty, Ready, after, Turned}
 use Rattle.initial.specs.declared.row.BlockType.{BlockType}
 use Rattle.initial.specs.declared.turn.Cut.{Cut}
 use Rattle.initial.specs.declared.turn.Cut.the-variants.{Jumpdest, Jumpi, Jump, Ends, Unknown, Other}
@@ -70,9 +68,6 @@ module _ (start prev : ℕ) (push : Option ℕ) (pc next : ℕ) (h : start ≤ p
 -- ---- the ways out of the turn
 
 module _ {code w : List ℕ} {mode : Mode} {prev pc op : ℕ} (r : Ready code w mode prev pc) (i : Stands code pc op) where
-  next : ℕ
-  next = pc + suc (argument op)
-
   -- the instruction before stands whole, or is this one
   before-whole : Whole code prev
   before-whole = go (decLt prev pc)
@@ -85,71 +80,61 @@ module _ {code w : List ℕ} {mode : Mode} {prev pc op : ℕ} (r : Ready code w 
   turn-asks = record { before = before-whole; inside = omega (arith, i .whole) }
 
   pub turn-room : {start : ℕ} → mode ≡ Opened start → 20 * start + 8 ≤ length w
-  turn-room o = omega (arith, rw o at (r .low), r .inside, r .room)
+  turn-room o = omega (arith, rw o at (r .rows .low), r .rows .inside, r .rows .room)
 
-  readied : {w′ : List ℕ} {m : Mode} → Beyond (length code) w w′ → Laid w′ (length code) → Empty w′ (lowest m (pc + suc (argument op))) (length code)
-      → lowest m (pc + suc (argument op)) ≤ pc + suc (argument op) → Ready code w′ m pc (pc + suc (argument op))
+  readied : {w′ : List ℕ} {m : Mode} → Beyond (length code) w w′ → Laid w′ (length code) → Empty w′ (lowest m (after pc op)) (length code)
+      → lowest m (after pc op) ≤ after pc op → Ready code w′ m pc (after pc op)
   readied b l e k = record {
-    short = r .short;
-    room = omega arith;
-    laid = l;
-    empty = e;
-    low = k;
-    inside = omega (arith, i .whole);
-    back = omega arith;
+    rows = record {
+      short = r .rows .short;
+      room = omega (arith, r .rows .room, b .kept);
+      laid = l;
+      empty = e;
+      low = k;
+      inside = omega (arith, i .whole);
+      back = omega arith;
+    };
     before = λ _. record { whole = rw (← i .byte) (i .whole) };
   }
 
-  pub turn-found : mode ≡ Waiting → op ≡ 0x5B → Turned code w mode prev pc op w (Opened pc)
-  turn-found o e = record {
-    same = rw o (ap (λ (bs : List Block). blocksAt w (length code) ++ bs) (sym (ahead-found code pc op i prev e)));
-    ready = readied (beyond-same _ w) (r .laid) (rw o at (r .empty)) (omega arith);
+  -- nothing is written
+  goes-on : {m : Mode} → ahead code pc mode prev ≡ ahead code (after pc op) m pc → Onward (lowest mode pc) (after pc op) m → Turned code w mode prev pc op w m
+  goes-on e f = record {
+    same = ap (λ (bs : List Block). blocksAt w (length code) ++ bs) (sym e);
+    ready = readied (beyond-same _ w) (r .rows .laid) (less-empty (r .rows .empty) (f .past)) (f .low);
     beyond = beyond-same _ w;
   }
+
+  pub turn-found : mode ≡ Waiting → op ≡ 0x5B → Turned code w mode prev pc op w (Opened pc)
+  turn-found o e = goes-on (rw o (ahead-found code pc op i prev e)) (rw o (record { past = omega arith; low = omega arith }))
 
   pub turn-waits : mode ≡ Waiting → (op ≡ 0x5B → ⊥) → Turned code w mode prev pc op w Waiting
-  turn-waits o e = record {
-    same = rw o (ap (λ (bs : List Block). blocksAt w (length code) ++ bs) (sym (ahead-waits code pc op i prev e)));
-    ready = readied (beyond-same _ w) (r .laid) (less-empty (rw o at (r .empty)) (omega arith)) (omega arith);
-    beyond = beyond-same _ w;
-  }
+  turn-waits o e = goes-on (rw o (ahead-waits code pc op i prev e)) (rw o (record { past = omega arith; low = omega arith }))
 
   pub turn-ended : mode ≡ Ended → Turned code w mode prev pc op w Ended
-  turn-ended o = record {
-    same = rw o (simp ahead-ended);
-    ready = readied (beyond-same _ w) (r .laid) (less-empty (rw o at (r .empty)) (omega arith)) (omega arith);
-    beyond = beyond-same _ w;
-  }
+  turn-ended o = goes-on (rw o (simp ahead-ended)) (rw o (record { past = omega arith; low = omega arith }))
 
   module _ {start : ℕ} {c : Cut} {t : Turn} (o : mode ≡ Opened start) (d : c ≡ cutOf (cut op)) (e : t ≡ turnOf start prev (pushedAt code prev) pc c) where
-    turn-fine : Fine start next t
-    unfolding next
-    turn-fine = rw e (fine start prev (pushedAt code prev) pc (pc + suc (argument op)) (rw o at (r .low)) (r .back) (omega arith) (omega (arith, i .whole, r .short)) c)
+    turn-fine : Fine start (after pc op) t
+    turn-fine = rw e (fine start prev (pushedAt code prev) pc (after pc op) (rw o at (r .rows .low)) (r .rows .back) (omega arith) (omega (arith, i .whole, r .rows .short)) c)
 
-    turn-same : blocksAt w (length code) ++ ahead code pc mode prev ≡ (blocksAt w (length code) ++ closed start t) ++ ahead code (pc + suc (argument op)) (then t) pc
-    turn-same =
-        rw (o, ahead-open code pc op i prev start (omega (arith, i .whole, r .short)), e, d)
-        (sym (append-assoc (blocksAt w (length code)) _ _))
+    turn-ahead : ahead code pc mode prev ≡ closed start t ++ ahead code (after pc op) (then t) pc
+    turn-ahead = rw (o, e, d) (ahead-open code pc op i prev start (omega (arith, i .whole, r .rows .short)))
 
     pub turn-goes : {m : Mode} → t ≡ Goes m → Turned code w mode prev pc op w m
-    unfolding next
-    turn-goes {m} g =
-        let f : Onward start next m = subst (Fine start next) g turn-fine in
-        record {
-          same = sym (rw (g, append-nil) at turn-same);
-          ready = readied (beyond-same _ w) (r .laid) (less-empty (rw o at (r .empty)) (f .past)) (f .low);
-          beyond = beyond-same _ w;
-        }
+    turn-goes g = goes-on (turn-ahead ∙ rw g) (rw o (subst (Fine start (after pc op)) g turn-fine))
 
     pub turn-closes : {w′ : List ℕ} {end : ℕ} {k : BlockType} {m : Mode} → t ≡ Closes end k m → Put w start end k w′ → Turned code w mode prev pc op w′ m
-    unfolding next
     turn-closes {w′} {end} {k} {m} g p =
-        let f : Closing start next end k m = subst (Fine start next) g turn-fine in
-        let z : Empty w start (length code) = rw o at (r .empty) in
-        let h : start ≤ length code = omega (arith, rw o at (r .low), r .inside) in
+        let f : Closing start (after pc op) end k m = subst (Fine start (after pc op)) g turn-fine in
+        let z : Empty w start (length code) = rw o at (r .rows .empty) in
+        let h : start ≤ length code = omega (arith, rw o at (r .rows .low), r .rows .inside) in
         let b = put-beyond p (length code) h in
         record {
-          same = sym (turn-same ∙ rw (g, ← put-append p (length code) z h (f .good) (f .small)));
-          ready = readied b (put-laid p (length code) (r .laid) h (f .good) (f .small)) (put-empty p _ _ z (f .on .past)) (f .on .low);
+          same =
+              ap (λ (bs : List Block). bs ++ ahead code (after pc op) m pc) (put-append p (length code) z h (f .good) (f .small))
+              ∙ append-assoc (blocksAt w (length code)) _ _
+              ∙ ap (λ (bs : List Block). blocksAt w (length code) ++ bs) (sym (turn-ahead ∙ rw g));
+          ready = readied b (put-laid p (length code) (r .rows .laid) h (f .good) (f .small)) (put-empty p _ _ z (f .on .past)) (f .on .low);
           beyond = b;
         }

@@ -1,32 +1,27 @@
 -- One instruction of the cutting: document 01's cases and the code's are the same. Assumes nothing.
-use mathlib.Core.Path.{_≡_, refl, sym, ap, _∙_, subst}
-use mathlib.Core.Bool.{Bool, true, false, _||_}
-use mathlib.Core.List.{List, [], _∷_, _++_, map, append-assoc}
-use mathlib.Core.Option.{Option, none, some}
-use Prim.Native.Nat.{ℕ, suc, _+_, _≤_, _<_, min}
+use mathlib.Core.Path.{_≡_, refl, sym, ap, _∙_}
+use mathlib.Core.Bool.{Bool, true, false}
+use mathlib.Core.List.{List, [], _∷_, _++_, map}
+use mathlib.Core.Option.{Option}
+use Prim.Native.Nat.{ℕ, suc, _+_, _≤_}
 use native.Mathlib.Nat.{min-eq-left}
 use native.Mathlib.Omega.{arith}
-use native.Mathlib.Decide.{decLt}
 use lib.Dec.{eqb}
-use lib.ListN.{length, getD, drop}
-use borrow.Author.Tests.{eqb-true, eqb-false, eq-eqb, ne-eqb}
+use lib.ListN.{getD, drop}
+use borrow.Author.Tests.{eq-eqb, ne-eqb}
 use Rattle.spec.specs.Lists.{if}
 use Rattle.spec.specs.Opcodes.{argument}
-use Rattle.spec.specs.Walk.{Ins, ins, walk}
+use Rattle.spec.specs.Walk.{ins, walk}
 use Rattle.spec.specs.Blocks as spec
-use Rattle.spec.specs.Blocks.{terminate, jump, Block, block, opened, waiting, pushed, jumping, branching, JUMPDEST, JUMPI, JUMP, UNKNOWN, OTHER, ENDS, cut, closes, cuts}
+use Rattle.spec.specs.Blocks.{Block, JUMPDEST, JUMPI, JUMP, UNKNOWN, OTHER, ENDS, cut, closes, cuts}
 use Rattle.evm.proofs.Walks.{walk-whole}
-use Rattle.theorems.proofs.Branch.{both, if-true, if-false}
-use Rattle.initial.specs.Rows.{typeOf, kindOf}
-use Rattle.initial.specs.Turn.{clip, clipped, pushedAt, cutOf, turnOf, closed, then, resume, rest, ahead}
-use Rattle.initial.specs.Contracts.{Stands, lowest}
-use Rattle.initial.specs.declared.turn.Cut.{Cut}
-use Rattle.initial.specs.declared.turn.Cut.the-variants.{Jumpdest, Jumpi, Jump, Ends, Unknown, Other}
+use Rattle.theorems.proofs.Branch.{if-true, if-false}
+use Rattle.initial.specs.Turn.{clipped, pushedAt, cutOf, turnOf, closed, then, resume, ahead}
+use Rattle.initial.specs.Contracts.{Stands}
 use Rattle.initial.specs.declared.turn.Mode.{Mode}
 use Rattle.initial.specs.declared.turn.Mode.the-variants.{Opened, Waiting, Ended}
 use Rattle.initial.specs.declared.turn.Turn.{Turn}
-use Rattle.initial.specs.declared.turn.Turn.the-variants.{Goes, Closes}
-use Rattle.initial.proofs.Types.{Good, kind-type, good-terminate, good-jump, good-jumping, good-branching}
+use Rattle.initial.proofs.Types.{kind-type}
 
 -- ---- what is closed, and what is still to be cut
 

@@ -2,7 +2,7 @@
 use mathlib.Core.Path.{_≡_, refl, ap}
 use mathlib.Core.Bool.{Bool, true, false}
 use mathlib.Core.Option.{Option, none, some}
-use Prim.Native.Nat.{ℕ, _≤_, _<_, min}
+use Prim.Native.Nat.{ℕ, _<_, min}
 use native.Mathlib.Nat.{min-le-right}
 use native.Mathlib.Omega.{arith}
 use Rattle.spec.specs.Lists.{if}
@@ -20,32 +20,51 @@ kind-type (jumpi t f) = refl
 kind-type dynamic-jump = refl
 kind-type (dynamic-jumpi f) = refl
 
--- a type that a row can hold
+-- ---- the kind that each byte stands for
+
+module _ (t : BlockType) where
+  pub kind-terminate : t .kind ≡ 1 → kindOf t ≡ terminate false
+  unfolding kindOf if
+  kind-terminate e = rw e
+
+  pub kind-success : t .kind ≡ 2 → kindOf t ≡ terminate true
+  unfolding kindOf if
+  kind-success e = rw e
+
+  pub kind-jump : t .kind ≡ 3 → kindOf t ≡ jump (t .to)
+  unfolding kindOf if
+  kind-jump e = rw e
+
+  pub kind-jumpi : t .kind ≡ 4 → kindOf t ≡ jumpi (t .to) (t .other)
+  unfolding kindOf if
+  kind-jumpi e = rw e
+
+  pub kind-dynamic-jump : t .kind ≡ 5 → kindOf t ≡ dynamic-jump
+  unfolding kindOf if
+  kind-dynamic-jump e = rw e
+
+  pub kind-dynamic-jumpi : t .kind ≡ 6 → kindOf t ≡ dynamic-jumpi (t .other)
+  unfolding kindOf if
+  kind-dynamic-jumpi e = rw e
+
+-- ---- a type that a row can hold
+
 pub record Good (t : BlockType) : Type 0 where
   pub canon : typeOf (kindOf t) ≡ t
-  pub least : 0 < t .kind
-  pub most : t .kind < 256
+  pub range : (0 < t .kind) × (t .kind < 7)
   pub to : t .to < 65536
   pub other : t .other < 65536
 
-tag-most : (k : Kind) → typeOf k .kind < 256
-tag-most (terminate false) = omega arith
-tag-most (terminate true) = omega arith
-tag-most (jump t) = omega arith
-tag-most (jumpi t f) = omega arith
-tag-most dynamic-jump = omega arith
-tag-most (dynamic-jumpi f) = omega arith
-
-tag-least : (k : Kind) → 0 < typeOf k .kind
-tag-least (terminate false) = omega arith
-tag-least (terminate true) = omega arith
-tag-least (jump t) = omega arith
-tag-least (jumpi t f) = omega arith
-tag-least dynamic-jump = omega arith
-tag-least (dynamic-jumpi f) = omega arith
+pub tag-range : (k : Kind) → (0 < typeOf k .kind) × (typeOf k .kind < 7)
+tag-range (terminate false) = (omega arith, omega arith)
+tag-range (terminate true) = (omega arith, omega arith)
+tag-range (jump t) = (omega arith, omega arith)
+tag-range (jumpi t f) = (omega arith, omega arith)
+tag-range dynamic-jump = (omega arith, omega arith)
+tag-range (dynamic-jumpi f) = (omega arith, omega arith)
 
 pub good : (k : Kind) → typeOf k .to < 65536 → typeOf k .other < 65536 → Good (typeOf k)
-good k t f = record { canon = ap typeOf (kind-type k); least = tag-least k; most = tag-most k; to = t; other = f }
+good k t f = record { canon = ap typeOf (kind-type k); range = tag-range k; to = t; other = f }
 
 cap : (v : ℕ) → min v 0xFFFF < 65536
 cap v = omega (arith, min-le-right v 0xFFFF)

@@ -1,22 +1,19 @@
 -- One row is written: its block stands there, the other rows stay, and each row holds its block and nothing else. Assumes nothing.
 use mathlib.Core.Path.{_≡_, refl, sym, ap, _∙_}
-use mathlib.Core.Bool.{Bool, true, false}
-use mathlib.Core.List.{List, [], _∷_, _++_, append-nil, append-assoc}
-use Prim.Native.Nat.{ℕ, zero, suc, _+_, _*_, _-_, _≤_, _<_}
+use mathlib.Core.List.{List, [], _∷_, _++_, append-nil}
+use Prim.Native.Nat.{ℕ, suc, _+_, _*_, _-_, _≤_, _<_}
 use native.Mathlib.Nat.{add-zero, zero-add}
 use native.Mathlib.Omega.{arith}
 use native.Mathlib.Decide.{ℕ-discrete}
-use lib.Dec.{eqb}
-use lib.ListN.{length, take, drop, replicate, length-replicate, replicate-append-replicate}
+use lib.ListN.{take, drop, replicate, length-replicate, replicate-append-replicate}
 use lib.Seq.{take-add, take-at, drop-at, drop-drop}
-use borrow.Author.Tests.{eqb-true, eqb-false}
 use Rattle.spec.specs.Lists.{little}
 use Rattle.spec.specs.Blocks.{Block, block}
 use Rattle.lent.specs.Bytes.{numAt, Holds, Stored}
 use Rattle.lent.proofs.Parts.{part-of-take}
 use Rattle.lent.proofs.Numbers.{number-little, num-zeros}
-use Rattle.lent.proofs.Stored.{kept-take, kept-drop, kept-part, read-all, read-part, read-num, stored-join}
-use Rattle.initial.specs.Rows.{typed, typeOf, kindOf, tagAt, blockAt, rowBlocks, blocksFrom, blocksAt, headOf, rowOf, Laid}
+use Rattle.lent.proofs.Stored.{kept-drop, kept-part, read-all, read-part, read-num, stored-join}
+use Rattle.initial.specs.Rows.{typed, kindOf, tagAt, rowBlocks, blocksFrom, blocksAt, headOf, rowOf, Laid}
 use Rattle.initial.specs.Contracts.{Put, TypeIs, Empty, Beyond}
 use Rattle.initial.specs.declared.row.BlockType.{BlockType}
 use Rattle.initial.proofs.Types.{Good}
@@ -58,7 +55,7 @@ later-zero : (bs : List Block) → drop 8 (rowOf bs) ≡ replicate 12 0
 later-zero [] = refl
 later-zero (b ∷ bs) = refl
 
-laid-later : {w : List ℕ} {n : ℕ} → Laid w n → (a : ℕ) → a ≤ n → take 12 (drop (20 * a + 8) w) ≡ replicate 12 0
+pub laid-later : {w : List ℕ} {n : ℕ} → Laid w n → (a : ℕ) → a ≤ n → take 12 (drop (20 * a + 8) w) ≡ replicate 12 0
 laid-later {w} l a h =
     rw (← drop-drop 8 (20 * a) w) (part-of-take 12 8 (drop (20 * a) w) ∙ ap (λ (bs : List ℕ). drop 8 bs) (l .row a h) ∙ later-zero (rowBlocks w a))
 
@@ -70,9 +67,9 @@ module _ {w w′ : List ℕ} {a end : ℕ} {t : BlockType} (p : Put w a end t w�
 
   pub put-here : Good t → end < 65536 → rowBlocks w′ a ≡ block a a end (kindOf t) ∷ []
   put-here g e =
-      here-block w′ a (λ z. omega (arith, put-tag (g .most), g .least))
+      here-block w′ a (λ z. omega (arith, put-tag (omega (arith, g .range .1)), g .range .0))
       ∙ rw (
-        put-tag (g .most),
+        put-tag (omega (arith, g .range .1)),
         read-num (p .stored) 2 2 (omega arith),
         head-end end t e,
         read-num (p .stored) 2 4 (omega arith),

@@ -1,14 +1,12 @@
 -- What each function asks and promises, a record each. Assumes nothing.
 use mathlib.Core.Path.{_≡_}
-use mathlib.Core.Bool.{Bool, true, false}
 use mathlib.Core.List.{List, [], _∷_, _++_, map}
 use mathlib.Core.Option.{none}
 use Prim.Native.Nat.{ℕ, suc, _+_, _*_, _≤_, _<_}
 use lib.ListN.{length, getD, take, drop}
-use Rattle.spec.specs.Lists.{mem}
 use Rattle.spec.specs.Opcodes.{argument}
 use Rattle.spec.specs.Walk.{instructions}
-use Rattle.spec.specs.Blocks.{Kind, Block, with-kind, opened, cuts, checked, starts, check-all, blocks}
+use Rattle.spec.specs.Blocks.{Block, with-kind, opened, cuts, checked, starts, blocks}
 use Rattle.lent.specs.Bytes.{Stored}
 use Rattle.initial.specs.Rows.{tagAt, typeAt, rowBlocks, blocksAt, headOf, Laid}
 use Rattle.initial.specs.Turn.{clipped, rest, ahead}
@@ -22,10 +20,16 @@ pub record Lent (code w : List ℕ) : Type 0 where
   pub short : length code ≤ 24576
   pub room : 64 * length code + 256 ≤ length w
 
--- only the rows changed
+-- nothing past the rows changed
 pub record Beyond (n : ℕ) (w w′ : List ℕ) : Type 0 where
   pub others : drop (20 * (n + 1)) w′ ≡ drop (20 * (n + 1)) w
   pub kept : length w′ ≡ length w
+
+-- the rows hold these blocks and nothing else, which says each of their bytes, and nothing past the rows changed
+pub record Written (n : ℕ) (bs : List Block) (w w′ : List ℕ) : Type 0 where
+  pub blocks : blocksAt w′ n ≡ bs
+  pub laid : Laid w′ n
+  pub beyond : Beyond n w w′
 
 -- ---- one row
 
@@ -65,44 +69,45 @@ lowest Ended at = at
 pub record Empty (w : List ℕ) (lo n : ℕ) : Type 0 where
   pub none : (a : ℕ) → lo ≤ a → a ≤ n → tagAt w a ≡ 0
 
--- how the rows stand before the instruction at a place
-pub record Ready (code w : List ℕ) (m : Mode) (prev at : ℕ) : Type 0 where
-  pub short : length code ≤ 24576
-  pub room : 20 * (length code + 1) ≤ length w
-  pub laid : Laid w (length code)
-  pub empty : Empty w (lowest m at) (length code)
+-- how the rows of a code of n bytes stand where the walk is at a place, with the last instruction at prev
+pub record Standing (n : ℕ) (w : List ℕ) (m : Mode) (prev at : ℕ) : Type 0 where
+  pub short : n ≤ 24576
+  pub room : 20 * (n + 1) ≤ length w
+  pub laid : Laid w n
+  pub empty : Empty w (lowest m at) n
   pub low : lowest m at ≤ at
-  pub inside : at ≤ length code
+  pub inside : at ≤ n
   pub back : prev ≤ at
+
+-- so, and that instruction stands whole, unless there is none yet
+pub record Ready (code w : List ℕ) (m : Mode) (prev at : ℕ) : Type 0 where
+  pub rows : Standing (length code) w m prev at
   pub before : prev < at → Whole code prev
+
+-- where the instruction after the one at pc stands
+abbrev pub after : ℕ → ℕ → ℕ
+after pc op = pc + suc (argument op)
 
 -- One instruction was taken: what is written and what is still to be cut are together what they were.
 pub record Turned (code w : List ℕ) (m : Mode) (prev pc op : ℕ) (w′ : List ℕ) (m′ : Mode) : Type 0 where
-  pub same : blocksAt w′ (length code) ++ ahead code (pc + suc (argument op)) m′ pc ≡ blocksAt w (length code) ++ ahead code pc m prev
-  pub ready : Ready code w′ m′ pc (pc + suc (argument op))
+  pub same : blocksAt w′ (length code) ++ ahead code (after pc op) m′ pc ≡ blocksAt w (length code) ++ ahead code pc m prev
+  pub ready : Ready code w′ m′ pc (after pc op)
   pub beyond : Beyond (length code) w w′
 
--- The walk has ended: a last open block was written.
-pub record Last (code w : List ℕ) (m : Mode) (prev : ℕ) (w′ : List ℕ) : Type 0 where
-  pub blocks : blocksAt w′ (length code) ≡ blocksAt w (length code) ++ map clipped (rest [] m prev none)
-  pub laid : Laid w′ (length code)
-  pub beyond : Beyond (length code) w w′
+-- the block that is left open where the walk ends, if it is kept
+unfoldable pub last : Mode → ℕ → List Block
+last m prev = map clipped (rest [] m prev none)
 
 -- the code's blocks before the checks
 unfoldable pub cutting : List ℕ → List Block
 cutting [] = []
 cutting (b ∷ code) = cuts (instructions (b ∷ code)) (opened 0 0) 0 none
 
-pub record Cut (code w w′ : List ℕ) : Type 0 where
-  pub blocks : blocksAt w′ (length code) ≡ map clipped (cutting code)
-  pub laid : Laid w′ (length code)
-  pub beyond : Beyond (length code) w w′
-
 -- ---- the checks afterwards
 
+-- rows to be checked
 pub record Rows (code w : List ℕ) : Type 0 where
-  pub short : length code ≤ 24576
-  pub room : 64 * length code + 256 ≤ length w
+  pub lent : Lent code w
   pub laid : Laid w (length code)
 
 -- a block with its kind checked, where the blocks start so
@@ -113,17 +118,13 @@ rechecked code ss b = with-kind (checked code ss (b .kind)) b
 pub record CheckedRow (code w : List ℕ) (a : ℕ) (w′ : List ℕ) : Type 0 where
   pub same : rowBlocks w′ a ≡ map (rechecked code (starts (blocksAt w (length code)))) (rowBlocks w a)
   pub before : take (20 * a) w′ ≡ take (20 * a) w
-  pub after : drop (20 * (a + 1)) w′ ≡ drop (20 * (a + 1)) w
+  pub past : drop (20 * (a + 1)) w′ ≡ drop (20 * (a + 1)) w
   pub laid : Laid w′ (length code)
   pub kept : length w′ ≡ length w
 
-pub record Checked (code w w′ : List ℕ) : Type 0 where
-  pub blocks : blocksAt w′ (length code) ≡ check-all code (blocksAt w (length code))
-  pub laid : Laid w′ (length code)
-  pub beyond : Beyond (length code) w w′
-
 -- ---- both
 
+-- the rows hold the code's blocks and nothing else, and nothing past the rows changed
 pub record Initial (code w w′ : List ℕ) : Type 0 where
   pub same : blocksAt w′ (length code) ≡ blocks code (instructions code)
   pub laid : Laid w′ (length code)

@@ -1,5 +1,5 @@
 -- One instruction of the cutting, as the code takes it: what it is, the block that it closes, and how the walk goes on. Assumes nothing.
-use mathlib.Core.Bool.{Bool, true, false}
+use mathlib.Core.Bool.{false}
 use mathlib.Core.List.{List, [], _∷_, map}
 use mathlib.Core.Option.{Option, none, some}
 use Prim.Native.Nat.{ℕ, _+_, min}

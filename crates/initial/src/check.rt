@@ -14,14 +14,15 @@ ghost use mathlib.Core.Path.{_≡_};
 ghost use Prim.Native.Nat.{_+_, _*_, _≤_};
 ghost use lib.ListN.{length};
 ghost use Rattle.spec.specs.Lists.{mem};
-ghost use Rattle.spec.specs.Blocks.{jump, jumpi, starts, lands, checked};
+ghost use Rattle.spec.specs.Blocks.{jump, jumpi, starts, lands, checked, check-all};
 ghost use Rattle.initial.specs.Rows.{typeOf, blocksAt};
-ghost use Rattle.initial.specs.Contracts.{Rows, Checked, CheckedRow};
+ghost use Rattle.initial.specs.Contracts.{Written, Rows, CheckedRow};
 
 // The checks of every block.
 pub fn check(code: &[u8], w: &mut [u8])
     requires { ⌜ Rows (now code) (now w) ⌝ }
-    ensures { λ _. ⌜ Checked (now (code .entry)) (now (w .entry)) (now (w .exit)) ⌝ }
+    ensures { λ _. ⌜ Written (length (now (code .entry))) (check-all (now (code .entry)) (blocksAt (now (w .entry)) (length (now (code .entry)))))
+        (now (w .entry)) (now (w .exit)) ⌝ }
 {
     let n = code.len();
     let mut a = 0;
@@ -54,7 +55,8 @@ fn check_row(code: &[u8], w: &mut [u8], a: usize)
 // A Jump to no block, or to one without a JUMPDEST, becomes Terminate false.
 fn checked_jump(code: &[u8], w: &[u8], to: usize) -> BlockType
     requires { ⌜ 20 * (length (now code) + 1) ≤ length (now w) ⌝ }
-    ensures { λ r. ⌜ r ≡ typeOf (checked (now (code .entry)) (starts (blocksAt (now (w .entry)) (length (now (code .entry))))) (jump to)) ⌝ }
+    ensures { λ r. ⌜ r ≡ typeOf (checked (now (code .entry)) (starts (blocksAt (now (w .entry)) (length (now (code .entry)))))
+        (jump to)) ⌝ }
 {
     if lands(code, w, to) {
         return BlockType {
@@ -73,7 +75,8 @@ fn checked_jump(code: &[u8], w: &[u8], to: usize) -> BlockType
 // A Jumpi whose false side starts no block becomes Terminate false; otherwise, if its true side does not land, a Jump to its false side.
 fn checked_jumpi(code: &[u8], w: &[u8], to: usize, other: usize) -> BlockType
     requires { ⌜ 20 * (length (now code) + 1) ≤ length (now w) ⌝ }
-    ensures { λ r. ⌜ r ≡ typeOf (checked (now (code .entry)) (starts (blocksAt (now (w .entry)) (length (now (code .entry))))) (jumpi to other)) ⌝ }
+    ensures { λ r. ⌜ r ≡ typeOf (checked (now (code .entry)) (starts (blocksAt (now (w .entry)) (length (now (code .entry)))))
+        (jumpi to other)) ⌝ }
 {
     if starts(code, w, other) {
         if lands(code, w, to) {
@@ -118,5 +121,5 @@ fn lands(code: &[u8], w: &[u8], t: usize) -> bool
     if code[t] != JUMPDEST {
         return false;
     }
-    get8(w, ROW * t) != 0
+    starts(code, w, t)
 }

@@ -10,15 +10,17 @@ use crate::turn::terminate;
 use evm::walk::Step;
 use evm::walk::step_at;
 use lent::wipe_part;
-ghost use mathlib.Core.Path.{_≡_};
-ghost use Prim.Native.Nat.{_+_, _*_, _≤_};
+ghost use mathlib.Core.List.{_++_, map};
 ghost use lib.ListN.{length};
-ghost use Rattle.initial.specs.Contracts.{Lent, Stands, Ready, Turned, Last, Cut};
+ghost use Rattle.initial.specs.Rows.{blocksAt};
+ghost use Rattle.initial.specs.Turn.{clipped};
+ghost use Rattle.initial.specs.Contracts.{Lent, Written, Stands, Standing, Ready, Turned, cutting, last};
 
 // The blocks of the code before the checks.
 pub fn cut(code: &[u8], w: &mut [u8])
     requires { ⌜ Lent (now code) (now w) ⌝ }
-    ensures { λ _. ⌜ Cut (now (code .entry)) (now (w .entry)) (now (w .exit)) ⌝ }
+    ensures { λ _. ⌜ Written (length (now (code .entry))) (map clipped (cutting (now (code .entry))))
+        (now (w .entry)) (now (w .exit)) ⌝ }
 {
     let n = code.len();
     wipe_part(w, 0, ROW * (n + 1));
@@ -31,7 +33,7 @@ pub fn cut(code: &[u8], w: &mut [u8])
     loop {
         match step_at(code, at) {
             Step::End => {
-                last(code, w, mode, prev, at);
+                last(w, n, mode, prev);
                 return;
             }
             Step::Whole { pc, op, next } => {
@@ -72,9 +74,9 @@ fn turn(code: &[u8], w: &mut [u8], mode: Mode, prev: usize, pc: usize, op: u8) -
 }
 
 // A last open block is kept if its start is not beyond the last instruction.
-fn last(code: &[u8], w: &mut [u8], mode: Mode, prev: usize, at: usize)
-    requires { ⌜ Ready (now code) (now w) mode prev at ⌝ }
-    ensures { λ _. ⌜ Last (now (code .entry)) (now (w .entry)) mode prev (now (w .exit)) ⌝ }
+fn last(w: &mut [u8], n: usize, mode: Mode, prev: usize)
+    requires { ⌜ Standing n (now w) mode prev n ⌝ }
+    ensures { λ _. ⌜ Written n (blocksAt (now (w .entry)) n ++ last mode prev) (now (w .entry)) (now (w .exit)) ⌝ }
 {
     match mode {
         Mode::Opened(start) => {

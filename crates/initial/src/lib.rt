@@ -10,7 +10,7 @@ use crate::check::check;
 use crate::cut::cut;
 ghost use Rattle.initial.specs.Contracts.{Lent, Initial};
 
-// The blocks of the code.
+// The blocks of the code, cut and checked.
 pub fn initial_blocks(code: &[u8], w: &mut [u8])
     requires { ⌜ Lent (now code) (now w) ⌝ }
     ensures { λ _. ⌜ Initial (now (code .entry)) (now (w .entry)) (now (w .exit)) ⌝ }

@@ -107,7 +107,7 @@ fn at_unknown(start: usize, prev: usize, pc: usize) -> Turn
             then: Mode::Ended,
         };
     }
-    if start == pc {
+    if pc == start {
         return Turn::Goes(Mode::Waiting);
     }
     Turn::Closes {

@@ -1,5 +1,6 @@
-use Rattle.initial.proofs.Joining.{joined}
+-- `initial_blocks` meets its contract: the cutting and the checks, joined. Assumes nothing.
 use borrow.Author.Needs.{needs}
+use Rattle.initial.proofs.Joining.{joined}
 use Rattle.initial.proofs.initial_blocks.Statement.{statement}
 use Rattle.initial.proofs.initial_blocks.Tie as tie
 

@@ -1,8 +1,8 @@
-use borrow.Author.Needs.{needs}
-use Rattle.initial.proofs.Checking.{check-none, check-rows, check-more, check-done}
+-- `check` meets its contract: the rows before a are checked, the others are as they were. The measure is the rows left. Assumes nothing.
 use Prim.Native.Nat.{_+_, _-_}
 use lib.ListN.{length}
-use Rattle.initial.proofs.Checking.{Checking}
+use borrow.Author.Needs.{needs}
+use Rattle.initial.proofs.Checking.{check-none, check-rows, check-more, check-done, Checking}
 use Rattle.initial.proofs.check.check.Statement.{statement}
 use Rattle.initial.proofs.check.check.Tie as tie
 

@@ -1,5 +1,6 @@
-use Rattle.initial.proofs.Checking.{row-jump, row-jumpi, row-same}
+-- `check_row` meets its contract: a Jump, a Jumpi, and all else, which stays. Assumes nothing.
 use borrow.Author.Needs.{needs}
+use Rattle.initial.proofs.Checking.{row-jump, row-jumpi, row-same}
 use Rattle.initial.proofs.check.check_row.Statement.{statement}
 use Rattle.initial.proofs.check.check_row.Tie as tie
 

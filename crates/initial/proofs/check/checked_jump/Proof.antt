@@ -1,5 +1,6 @@
-use Rattle.initial.proofs.Checking.{jump-kept, jump-ends}
+-- `checked_jump` meets its contract: a jump that lands is kept. Assumes nothing.
 use borrow.Author.Needs.{needs}
+use Rattle.initial.proofs.Checking.{jump-kept, jump-ends}
 use Rattle.initial.proofs.check.checked_jump.Statement.{statement}
 use Rattle.initial.proofs.check.checked_jump.Tie as tie
 

@@ -1,5 +1,6 @@
-use Rattle.initial.proofs.Checking.{jumpi-ends, jumpi-kept, jumpi-falls}
+-- `checked_jumpi` meets its contract, by what each of its sides does. Assumes nothing.
 use borrow.Author.Needs.{needs}
+use Rattle.initial.proofs.Checking.{jumpi-ends, jumpi-kept, jumpi-falls}
 use Rattle.initial.proofs.check.checked_jumpi.Statement.{statement}
 use Rattle.initial.proofs.check.checked_jumpi.Tie as tie
 

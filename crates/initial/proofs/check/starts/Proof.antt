@@ -1,5 +1,6 @@
-use Rattle.initial.proofs.Checking.{starts-past, starts-tag}
+-- `starts` meets its contract: past the code, and by the kind byte of the row. Assumes nothing.
 use borrow.Author.Needs.{needs}
+use Rattle.initial.proofs.Checking.{starts-past, starts-tag}
 use Rattle.initial.proofs.check.starts.Statement.{statement}
 use Rattle.initial.proofs.check.starts.Tie as tie
 

@@ -1,8 +1,8 @@
-use borrow.Author.Needs.{needs}
-use Rattle.initial.proofs.Cutting.{cut-empty, cut-starts, cut-last, cut-ready, cut-stands, cut-stops, cut-less, cut-more}
+-- `cut` meets its contract: what is written and what is still to be cut are the whole. The measure is what is left of the code. Assumes nothing.
 use Prim.Native.Nat.{_-_}
 use lib.ListN.{length}
-use Rattle.initial.proofs.Cutting.{Going}
+use borrow.Author.Needs.{needs}
+use Rattle.initial.proofs.Cutting.{cut-empty, cut-starts, last-asks, cut-last, cut-ready, cut-stands, cut-stops, cut-less, cut-more, Going}
 use Rattle.initial.proofs.cut.cut.Statement.{statement}
 use Rattle.initial.proofs.cut.cut.Tie as tie
 
@@ -17,6 +17,9 @@ returns c = search cut-empty
 
 loop-holds : tie.Need-loop-holds Inv-loop μ-loop
 loop-holds c = search cut-starts
+
+last-requires : tie.Need-last-requires Inv-loop μ-loop
+last-requires c κs = search last-asks
 
 returns-2 : tie.Need-returns-2 Inv-loop μ-loop
 returns-2 c = search cut-last
@@ -47,7 +50,7 @@ cut-spec =
     loop-holds
     (λ c κs. search needs)
     (λ c. search needs)
-    (λ c κs. search needs)
+    last-requires
     (λ c. search needs)
     returns-2
     (λ c. search needs)

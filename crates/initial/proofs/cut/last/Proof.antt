@@ -1,5 +1,6 @@
-use Rattle.initial.proofs.Cutting.{last-kept, last-past, last-waits, last-ended}
+-- `last` meets its contract, for each mode in which the walk may end. Assumes nothing.
 use borrow.Author.Needs.{needs}
+use Rattle.initial.proofs.Cutting.{last-kept, last-past, last-waits, last-ended}
 use Rattle.initial.proofs.cut.last.Statement.{statement}
 use Rattle.initial.proofs.cut.last.Tie as tie
 

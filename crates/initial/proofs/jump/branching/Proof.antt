@@ -1,5 +1,6 @@
-use Rattle.initial.proofs.Jumping.{branching-static, branching-dynamic}
+-- `branching` meets its contract, for each kind of target. Assumes nothing.
 use borrow.Author.Needs.{needs}
+use Rattle.initial.proofs.Jumping.{branching-static, branching-dynamic}
 use Rattle.initial.proofs.jump.branching.Statement.{statement}
 use Rattle.initial.proofs.jump.branching.Tie as tie
 

@@ -1,5 +1,6 @@
-use Rattle.initial.proofs.Jumping.{static-low, static-high, static-follow, static-near, static-far}
+-- `is_static_jump` meets its contract: each way out is a law of what the instruction before pushed. Assumes nothing.
 use borrow.Author.Needs.{needs}
+use Rattle.initial.proofs.Jumping.{static-low, static-high, static-follow, static-near, static-far}
 use Rattle.initial.proofs.jump.is_static_jump.Statement.{statement}
 use Rattle.initial.proofs.jump.is_static_jump.Tie as tie
 

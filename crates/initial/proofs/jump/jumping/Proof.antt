@@ -1,5 +1,6 @@
-use Rattle.initial.proofs.Jumping.{jumping-static, jumping-dynamic}
+-- `jumping` meets its contract, for each kind of target. Assumes nothing.
 use borrow.Author.Needs.{needs}
+use Rattle.initial.proofs.Jumping.{jumping-static, jumping-dynamic}
 use Rattle.initial.proofs.jump.jumping.Statement.{statement}
 use Rattle.initial.proofs.jump.jumping.Tie as tie
 

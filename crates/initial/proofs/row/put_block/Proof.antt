@@ -1,5 +1,6 @@
-use Rattle.initial.proofs.Writing.{put-fields}
+-- `put_block` meets its contract: its four stores of two bytes are one of eight. Assumes nothing.
 use borrow.Author.Needs.{needs}
+use Rattle.initial.proofs.Writing.{put-fields}
 use Rattle.initial.proofs.row.put_block.Statement.{statement}
 use Rattle.initial.proofs.row.put_block.Tie as tie
 

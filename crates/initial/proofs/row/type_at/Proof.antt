@@ -1,5 +1,6 @@
-use Rattle.initial.proofs.Writing.{read-type}
+-- `type_at` meets its contract: what is read is what stands there. Assumes nothing.
 use borrow.Author.Needs.{needs}
+use Rattle.initial.proofs.Writing.{read-type}
 use Rattle.initial.proofs.row.type_at.Statement.{statement}
 use Rattle.initial.proofs.row.type_at.Tie as tie
 

@@ -1,5 +1,6 @@
-use Rattle.initial.proofs.Jumping.{unknown-first, unknown-own, unknown-past}
+-- `at_unknown` meets its contract, in its three cases. Assumes nothing.
 use borrow.Author.Needs.{needs}
+use Rattle.initial.proofs.Jumping.{unknown-first, unknown-own, unknown-past}
 use Rattle.initial.proofs.turn.at_unknown.Statement.{statement}
 use Rattle.initial.proofs.turn.at_unknown.Tie as tie
 

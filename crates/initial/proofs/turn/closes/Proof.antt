@@ -1,5 +1,6 @@
-use Rattle.initial.proofs.Jumping.{at-jumpdest, at-jumpi, at-jump, at-ends, at-unknown, at-other}
+-- `closes` meets its contract: each case of the decision is a law. Assumes nothing.
 use borrow.Author.Needs.{needs}
+use Rattle.initial.proofs.Jumping.{at-jumpdest, at-jumpi, at-jump, at-ends, at-unknown, at-other}
 use Rattle.initial.proofs.turn.closes.Statement.{statement}
 use Rattle.initial.proofs.turn.closes.Tie as tie
 

@@ -1,5 +1,4 @@
 -- `cut_of` meets its contract: a byte that is a key, the two that fail, and the rest by what is known of them. Assumes nothing.
-use native.Mathlib.Omega.{arith}
 use borrow.Author.Needs.{needs}
 use Rattle.spec.specs.Lists.{if}
 use Rattle.initial.proofs.Bytes.{cut-success, cut-fails, cut-other, cut-unknown}

@@ -1,7 +1,6 @@
 -- `known` meets its contract: each way through its ranges is one range of the rows. Assumes nothing.
 use mathlib.Core.Path.{refl}
 use mathlib.Core.Bool.{true, false}
-use native.Mathlib.Omega.{arith}
 use borrow.Author.Needs.{zero≤}
 use Rattle.spec.specs.Lists.{if}
 use Rattle.spec.specs.Opcodes.{row}

@@ -1,3 +1,4 @@
+-- `terminate` meets its contract: with success, and without. Assumes nothing.
 use Rattle.initial.proofs.Jumping.{ends-well, ends-badly}
 use Rattle.initial.proofs.turn.terminate.Statement.{statement}
 use Rattle.initial.proofs.turn.terminate.Tie as tie

@@ -1,0 +1,119 @@
+-- Every side of a block lies in the code, or right behind it. Assumes nothing.
+use mathlib.Core.Path.{_≡_, refl, sym, ap, _∙_}
+use mathlib.Core.Bool.{Bool, true, false, _&&_}
+use mathlib.Core.Option.{Option, none, some}
+use mathlib.Core.List.{List, [], _∷_, map}
+use Prim.Native.Nat.{ℕ, suc, _+_, _*_, _≤_, _<_}
+use native.Mathlib.Omega.{arith}
+use lib.Dec.{eqb, leb}
+use lib.ListN.{length, getD}
+use Rattle.spec.specs.Lists.{if, mem}
+use Rattle.spec.specs.Walk.{Ins, instructions}
+use Rattle.spec.specs.Blocks.{Kind, terminate, jump, jumpi, dynamic-jump, dynamic-jumpi, Block, block, with-kind, Mode, opened, waiting, pushed, branching, jumping, Cut, JUMPDEST, JUMPI, JUMP, UNKNOWN, OTHER, ENDS, cut, closes, cuts, lands, checked, starts, check-all, blocks}
+use Rattle.spec.specs.Stacks.{Sym, before, constant, jumpdest, other, run}
+use Rattle.spec.specs.Search.{settled}
+use Rattle.theorems.proofs.Branch.{both}
+use Rattle.theorems.proofs.Members.{In, here, there, mem-in, in-map, and-both}
+use Rattle.theorems.proofs.Walking.{Walked, stops, steps, walked}
+use Rattle.theorems.proofs.Cutting.{made, starts-checked}
+use Rattle.parents.proofs.Goals.{Fits, Goes, run-goes}
+
+-- the sides of a kind are at most n
+abbrev pub Within : ℕ → Kind → Type 0
+Within n (terminate success) = Unit {0}
+Within n (jump t) = t ≤ n
+Within n (jumpi t f) = (t ≤ n) × (f ≤ n)
+Within n dynamic-jump = Unit {0}
+Within n (dynamic-jumpi f) = f ≤ n
+
+-- ---- the cutting: of the kinds that are not checked
+
+abbrev Falls : ℕ → Kind → Type 0
+Falls n (terminate success) = Unit {0}
+Falls n (jump t) = Unit {0}
+Falls n (jumpi t f) = Unit {0}
+Falls n dynamic-jump = Unit {0}
+Falls n (dynamic-jumpi f) = f ≤ n
+
+module _ (n : ℕ) where
+  data All : List Block → Type 0 where
+    no-more : All []
+    and-more : {b : Block} {bs : List Block} → Falls n (b .kind) → All bs → All (b ∷ bs)
+
+  all-in : {b : Block} {bs : List Block} → All bs → In b bs → Falls n (b .kind)
+  all-in (and-more f a) here = f
+  all-in (and-more f a) (there i) = all-in a i
+
+  branching-falls : (push : Option ℕ) (f : ℕ) → f ≤ n → Falls n (branching push f)
+  branching-falls none f h = h
+  branching-falls (some v) f h = tt
+
+  jumping-falls : (push : Option ℕ) → Falls n (jumping push)
+  jumping-falls none = tt
+  jumping-falls (some v) = tt
+
+  closes-falls : (id start prev : ℕ) (push : Option ℕ) (pc : ℕ) (on : Mode → List Block) → pc < n → ((m : Mode) → All (on m)) → (c : Cut)
+      → All (closes id start prev push pc on c)
+  closes-falls id start prev push pc on h more JUMPDEST = both All (eqb start pc) (λ _. more (opened id start)) (λ _. and-more tt (more (opened pc pc)))
+  closes-falls id start prev push pc on h more JUMPI = and-more (branching-falls push (pc + 1) (omega arith)) (more (opened (pc + 1) (pc + 1)))
+  closes-falls id start prev push pc on h more JUMP = and-more (jumping-falls push) (more waiting)
+  closes-falls id start prev push pc on h more UNKNOWN =
+      both All (eqb start 0) (λ _. and-more tt no-more) (λ _. both All (eqb start pc) (λ _. more waiting) (λ _. and-more tt (more waiting)))
+  closes-falls id start prev push pc on h more OTHER = more (opened id start)
+  closes-falls id start prev push pc on h more (ENDS success) = and-more tt (more waiting)
+
+cuts-falls : {code : List ℕ} {at : ℕ} {is : List Ins} → Walked code at is → (m : Mode) (prev : ℕ) (push : Option ℕ) → All (length code) (cuts is m prev push)
+unfolding cuts
+cuts-falls (stops h) waiting prev push = no-more
+cuts-falls {code} (stops h) (opened id start) prev push = both (All (length code)) (leb start prev) (λ _. and-more tt no-more) (λ _. no-more)
+cuts-falls {code} (steps {i} s w) waiting prev push =
+    both (All (length code)) (eqb (i .op) 0x5B) (λ _. cuts-falls w (opened (i .pc) (i .pc)) (i .pc) (pushed i)) (λ _. cuts-falls w waiting (i .pc) (pushed i))
+cuts-falls {code} (steps {i} s w) (opened id start) prev push =
+    closes-falls (length code) id start prev push (i .pc) _ (omega arith) (λ m. cuts-falls w m (i .pc) (pushed i)) (cut (i .op))
+
+-- ---- the checks: of the others
+
+module _ (code ss : List ℕ) (n : ℕ) (inside : (t : ℕ) → mem t ss ≡ true → t ≤ n) where
+  lands-within : (t : ℕ) → lands code ss t ≡ true → t ≤ n
+  lands-within t e = inside t (and-both (mem t ss) _ e .0)
+
+  checked-within : (k : Kind) → Falls n k → Within n (checked code ss k)
+  checked-within (terminate success) h = tt
+  checked-within (jump t) h = both (Within n) (lands code ss t) (λ e. lands-within t e) (λ _. tt)
+  checked-within (jumpi t f) h =
+      both (Within n) (mem f ss)
+      (λ e. both (Within n) (lands code ss t) (λ g. (lands-within t g, inside f e)) (λ _. inside f e)) (λ _. tt)
+  checked-within dynamic-jump h = tt
+  checked-within (dynamic-jumpi f) h = h
+
+pub block-within : (code : List ℕ) {b : Block} → In b (blocks code (instructions code)) → Within (length code) (b .kind)
+unfolding blocks
+block-within [] i = elim i [ ]
+block-within (x ∷ code) {b} i =
+    let bs : List Block = cuts (instructions (x ∷ code)) (opened 0 0) 0 none in
+    let all : All (length (x ∷ code)) bs = cuts-falls (walked (x ∷ code)) (opened 0 0) 0 none in
+    let inside : (t : ℕ) → mem t (starts bs) ≡ true → t ≤ length (x ∷ code) = λ t e. started t (rw (← starts-checked (x ∷ code) bs) at e) in
+    let g = in-map (λ (c : Block). with-kind (checked (x ∷ code) (starts bs) (c .kind)) c) bs i in
+    rw (g .2) (checked-within (x ∷ code) (starts bs) (length (x ∷ code)) inside (g .0 .kind) (all-in (length (x ∷ code)) all (g .1)))
+  where
+    started : (t : ℕ) → mem t (starts (blocks (x ∷ code) (instructions (x ∷ code)))) ≡ true → t ≤ length (x ∷ code)
+    started t e =
+        let m = in-map (λ (c : Block). c .start) (blocks (x ∷ code) (instructions (x ∷ code))) (mem-in t _ e) in
+        omega (arith, made (x ∷ code) (m .1) .start-inside, m .2)
+
+-- ---- the first stage
+
+settled-within : (n m : ℕ) (g : Option Sym) (k : Kind) → Goes n m g → Within n k → Within n (settled g k)
+settled-within n m none k h w = w
+settled-within n m (some (before p)) k h w = w
+settled-within n m (some (constant v)) k h w = w
+settled-within n m (some (other pc)) k h w = w
+settled-within n m (some (jumpdest t)) (terminate success) h w = tt
+settled-within n m (some (jumpdest t)) (jump u) h w = w
+settled-within n m (some (jumpdest t)) (jumpi u f) h w = w
+settled-within n m (some (jumpdest t)) dynamic-jump h w = omega arith
+settled-within n m (some (jumpdest t)) (dynamic-jumpi f) h w = (omega arith, w)
+
+pub node-within : (code : List ℕ) {b : Block} → In b (blocks code (instructions code))
+    → Within (length code) (settled (run code (instructions code) (b .start) .goes) (b .kind))
+node-within code {b} i = settled-within (length code) (17 * length code + 17) (run code (instructions code) (b .start) .goes) (b .kind) (run-goes code i) (block-within code i)

@@ -1,0 +1,212 @@
+-- Where a block's own run can go: a Jumpdest lies in the code, and a Before no deeper than its instructions reach. Assumes nothing.
+use mathlib.Core.Path.{_≡_, refl, sym, ap, _∙_}
+use mathlib.Core.Bool.{Bool, true, false}
+use mathlib.Core.Option.{Option, none, some}
+use mathlib.Core.List.{List, [], _∷_, _++_}
+use Prim.Native.Nat.{ℕ, zero, suc, _+_, _-_, _*_, _^_, _≤_, _<_}
+use native.Mathlib.Omega.{arith}
+use native.Mathlib.Decide.{decLt}
+use lib.Dec.{eqb, leb, ltb}
+use lib.ListN.{length, getD, drop, replicate, length-drop, List·getD-eq-default}
+use borrow.Author.Tests.{eqb-true, leb-true}
+use Rattle.spec.specs.Lists.{if, within}
+use Rattle.spec.specs.Opcodes.{row}
+use Rattle.spec.specs.Walk.{Ins, instructions, from}
+use Rattle.spec.specs.Blocks.{Block, blocks}
+use Rattle.spec.specs.Stacks.{Sym, before, constant, jumpdest, other, known-value, from-value, is, mask, anded, summed, Stack, entry, reads, read, span, pops, push, pushes, swap, trade, Does, pushes-value, pushes-pc, dups, swaps, ands, adds, jumps, jumpis, lands, halts, plain, does, act, Ran, still, after, runs, run}
+use Rattle.theorems.proofs.Branch.{both}
+use Rattle.theorems.proofs.Members.{In, here, there, and-both}
+use Rattle.theorems.proofs.Counts.{few}
+use Rattle.theorems.proofs.Walking.{Walked, stops, steps}
+use Rattle.theorems.proofs.Cutting.{made, block-walk}
+
+-- ---- symbols: a Jumpdest below n, a Before below m
+
+abbrev pub Fits : ℕ → ℕ → Sym → Type 0
+Fits n m (before p) = p < m
+Fits n m (constant v) = Unit {0}
+Fits n m (jumpdest t) = t < n
+Fits n m (other pc) = Unit {0}
+
+data All (n m : ℕ) : List Sym → Type 0 where
+  no-more : All n m []
+  and-more : {x : Sym} {xs : List Sym} → Fits n m x → All n m xs → All n m (x ∷ xs)
+
+-- after k instructions
+record Sound (n k : ℕ) (s : Stack) : Type 0 where
+  all : All n (17 * k + 17) (s .above)
+  low : s .base ≤ 17 * k
+
+fits-more : (n m l : ℕ) → m ≤ l → (x : Sym) → Fits n m x → Fits n l x
+fits-more n m l h (before p) f = omega arith
+fits-more n m l h (constant v) f = tt
+fits-more n m l h (jumpdest t) f = f
+fits-more n m l h (other pc) f = tt
+
+all-more : {n m l : ℕ} {xs : List Sym} → m ≤ l → All n m xs → All n l xs
+all-more h no-more = no-more
+all-more {n} {m} {l} h (and-more {x} f a) = and-more (fits-more n m l h x f) (all-more h a)
+
+module _ {n m : ℕ} where
+  all-drop : (k : ℕ) {xs : List Sym} → All n m xs → All n m (drop k xs)
+  all-drop zero a = a
+  all-drop (suc k) no-more = no-more
+  all-drop (suc k) (and-more f a) = all-drop k a
+
+  all-append : {xs ys : List Sym} → All n m xs → All n m ys → All n m (xs ++ ys)
+  all-append no-more b = b
+  all-append (and-more f a) b = and-more f (all-append a b)
+
+  all-others : (k pc : ℕ) → All n m (replicate k (other pc))
+  all-others zero pc = no-more
+  all-others (suc k) pc = and-more tt (all-others k pc)
+
+  fits-reads : {xs : List Sym} (base i : ℕ) → All n m xs → base + i < m → Fits n m (reads xs base i)
+  fits-reads base i no-more h = h
+  fits-reads base zero (and-more f a) h = f
+  fits-reads base (suc i) (and-more f a) h = fits-reads base i a (omega arith)
+
+value-fits : (code : List ℕ) (m v : ℕ) → Fits (length code) m (from-value code v)
+value-fits code m v = both (Fits (length code) m) (eqb (getD code v 0) 0x5B) (λ e. inside (eqb-true _ _ e) (decLt v (length code))) (λ _. tt)
+  where
+    inside : getD code v 0 ≡ 0x5B → Dec (v < length code) → v < length code
+    inside e (yes l) = l
+    inside e (no l) = absurd (let h : length code ≤ v = omega arith in omega (arith, e, List·getD-eq-default code 0 h))
+
+-- ---- one instruction
+
+-- what an instruction does, with how deep it looks
+abbrev Near : Does → Type 0
+Near pushes-value = Unit {0}
+Near pushes-pc = Unit {0}
+Near (dups i) = i ≤ 15
+Near (swaps i) = i ≤ 15
+Near ands = Unit {0}
+Near adds = Unit {0}
+Near jumps = Unit {0}
+Near jumpis = Unit {0}
+Near lands = Unit {0}
+Near halts = Unit {0}
+Near plain = Unit {0}
+
+module _ (code : List ℕ) {k : ℕ} {s : Stack} (o : Sound (length code) k s) where
+  abbrev Next : Stack → Type 0
+  Next t = Sound (length code) (suc k) t
+
+  abbrev FitsNext : Sym → Type 0
+  FitsNext x = Fits (length code) (17 * suc k + 17) x
+
+  later : All (length code) (17 * suc k + 17) (s .above)
+  later = all-more (omega arith) (o .all)
+
+  read-now : (i : ℕ) → i ≤ 16 → Fits (length code) (17 * k + 17) (read s i)
+  unfolding read
+  read-now i h = fits-reads (s .base) i (o .all) (omega (arith, o .low))
+
+  read-fits : (i : ℕ) → i ≤ 16 → FitsNext (read s i)
+  read-fits i h = fits-more (length code) (17 * k + 17) (17 * suc k + 17) (omega arith) (read s i) (read-now i h)
+
+  pops-next : (i : ℕ) → i ≤ 17 → Next (pops i s)
+  pops-next i h = record { all = all-drop i later; low = omega (arith, o .low) }
+
+  push-next : (x : Sym) → FitsNext x → Next (push x s)
+  push-next x f = record { all = and-more f later; low = omega (arith, o .low) }
+
+  pushes-next : (i : ℕ) {xs : List Sym} → i ≤ 17 → All (length code) (17 * suc k + 17) xs → Next (pushes xs (pops i s))
+  pushes-next i h a = let p = pops-next i h in record { all = all-append a (p .all); low = p .low }
+
+  replace-next : (x : Sym) → FitsNext x → Next (push x (pops 2 s))
+  replace-next x f = let p = pops-next 2 (omega arith) in record { all = and-more f (p .all); low = p .low }
+
+  anded-fits : (pc : ℕ) → FitsNext (anded pc (read s 0) (read s 1))
+  anded-fits pc =
+      both FitsNext (is mask (known-value (read s 0))) (λ _. read-fits 1 (omega arith))
+      (λ _. both FitsNext (is mask (known-value (read s 1))) (λ _. read-fits 0 (omega arith)) (λ _. tt))
+
+  summed-fits : (pc : ℕ) (v u : Option ℕ) → FitsNext (summed code pc v u)
+  summed-fits pc none none = tt
+  summed-fits pc none (some u) = tt
+  summed-fits pc (some v) none = tt
+  summed-fits pc (some v) (some u) = both FitsNext (ltb (v + u) (2 ^ 64)) (λ _. value-fits code (17 * suc k + 17) (v + u)) (λ _. tt)
+
+  span-fits : (i j : ℕ) → i + j ≤ 17 → All (length code) (17 * suc k + 17) (span s i j)
+  span-fits i zero h = no-more
+  span-fits i (suc j) h = and-more (read-fits i (omega arith)) (span-fits (suc i) j (omega arith))
+
+  swap-next : (i : ℕ) → i ≤ 15 → Next (swap i s)
+  swap-next i h =
+      pushes-next (suc (suc i)) (omega arith)
+      (and-more (read-fits (suc i) (omega arith)) (all-append (span-fits 1 i (omega arith)) (and-more (read-fits 0 (omega arith)) no-more)))
+
+  trade-next : (i : Ins) → Next (trade i s)
+  trade-next i = pushes-next (row (i .op) .taken) (few (i .op)) (all-others (row (i .op) .given) (i .pc))
+
+  act-next : (i : Ins) (d : Does) → Near d → Next (act code i d s)
+  unfolding act
+  act-next i pushes-value h = push-next _ (value-fits code (17 * suc k + 17) (i .arg))
+  act-next i pushes-pc h = push-next _ (value-fits code (17 * suc k + 17) (i .pc))
+  act-next i (dups j) h = push-next _ (read-fits j (omega arith))
+  act-next i (swaps j) h = swap-next j h
+  act-next i ands h = replace-next _ (anded-fits (i .pc))
+  act-next i adds h = replace-next _ (summed-fits (i .pc) (known-value (read s 0)) (known-value (read s 1)))
+  act-next i jumps h = pops-next 1 (omega arith)
+  act-next i jumpis h = pops-next 2 (omega arith)
+  act-next i lands h = record { all = later; low = omega (arith, o .low) }
+  act-next i halts h = trade-next i
+  act-next i plain h = trade-next i
+
+near : (b : ℕ) → Near (does b)
+unfolding does
+near b =
+    both Near (within 0x60 0x63 b) (λ _. tt)
+    (λ _. both Near (eqb b 0x58) (λ _. tt)
+    (λ _. both Near (within 0x80 0x8F b) (λ e. omega (arith, leb-true b 0x8F (and-both (leb 0x80 b) (leb b 0x8F) e .1)))
+    (λ _. both Near (within 0x90 0x9F b) (λ e. omega (arith, leb-true b 0x9F (and-both (leb 0x90 b) (leb b 0x9F) e .1)))
+    (λ _. both Near (eqb b 0x16) (λ _. tt)
+    (λ _. both Near (eqb b 0x01) (λ _. tt)
+    (λ _. both Near (eqb b 0x56) (λ _. tt)
+    (λ _. both Near (eqb b 0x57) (λ _. tt)
+    (λ _. both Near (eqb b 0x5B) (λ _. tt) (λ _. both Near _ (λ _. tt) (λ _. tt))))))))))
+
+-- ---- the run
+
+-- where a run goes, if it goes anywhere
+abbrev pub Goes : ℕ → ℕ → Option Sym → Type 0
+Goes n m none = Unit {0}
+Goes n m (some x) = Fits n m x
+
+module _ (code : List ℕ) (start : ℕ) where
+  abbrev Ends : ℕ → Ran → Type 0
+  Ends k r = Goes (length code) (17 * k + 17) (r .goes)
+
+  after-goes : {k : ℕ} {s : Stack} → Sound (length code) k s → (m : ℕ) → k ≤ m → (i : Ins) (t : Stack) (on : Ran) → Ends m on → (d : Does) → Ends m (after start i s t on d)
+  after-goes o m h i t on e pushes-value = e
+  after-goes o m h i t on e pushes-pc = e
+  after-goes o m h i t on e (dups n) = e
+  after-goes o m h i t on e (swaps n) = e
+  after-goes o m h i t on e ands = e
+  after-goes o m h i t on e adds = e
+  after-goes {k} {s} o m h i t on e jumps = fits-more (length code) (17 * k + 17) (17 * m + 17) (omega arith) (read s 0) (read-now code o 0 (omega arith))
+  after-goes {k} {s} o m h i t on e jumpis = fits-more (length code) (17 * k + 17) (17 * m + 17) (omega arith) (read s 0) (read-now code o 0 (omega arith))
+  after-goes o m h i t on e lands = both (Ends m) (eqb (i .pc) start) (λ _. e) (λ _. tt)
+  after-goes o m h i t on e halts = tt
+  after-goes o m h i t on e plain = e
+
+  runs-goes : (is : List Ins) {k : ℕ} {s : Stack} → Sound (length code) k s → (m : ℕ) → k + length is ≤ m → Ends m (runs code start is s)
+  runs-goes [] o m h = tt
+  runs-goes (i ∷ is) o m h =
+      after-goes o m (omega arith) i _ _ (runs-goes is (act-next code o i (does (i .op)) (near (i .op))) m (omega arith)) (does (i .op))
+
+-- no walk has more instructions than the code has bytes
+walk-short : {code : List ℕ} {at : ℕ} {is : List Ins} → Walked code at is → at ≤ length code → at + length is ≤ length code
+walk-short (stops h) l = omega arith
+walk-short (steps s w) l = let r = walk-short w (omega arith) in omega arith
+
+begun : {n : ℕ} → Sound n 0 entry
+begun = record { all = no-more; low = omega arith }
+
+pub run-goes : (code : List ℕ) {b : Block} → In b (blocks code (instructions code)) → Goes (length code) (17 * length code + 17) (run code (instructions code) (b .start) .goes)
+unfolding run
+run-goes code {b} i =
+    runs-goes code (b .start) (from (b .start) (instructions code)) begun (length code)
+    (omega (arith, walk-short (block-walk code i) (omega (arith, made code i .start-inside))))

@@ -1,0 +1,163 @@
+-- What the small functions write and read. Assumes nothing.
+use mathlib.Core.Path.{_≡_, refl, sym, ap, _∙_}
+use mathlib.Core.Bool.{Bool, true, false}
+use mathlib.Core.List.{List}
+use mathlib.Core.Option.{Option, none, some}
+use Prim.Native.Nat.{ℕ, _+_, _-_, _*_, _/_, _%_, _≤_, _<_}
+use native.Mathlib.Nat.{add-assoc}
+use native.Mathlib.Omega.{arith}
+use lib.Dec.{eqb, ltb}
+use lib.ListN.{length}
+use borrow.Author.Tests.{eq-eqb, ne-eqb, lt-ltb, le-ltb}
+use Rattle.spec.specs.Lists.{if, little}
+use Rattle.spec.specs.Walk.{instructions}
+use Rattle.spec.specs.Stacks.{run}
+use Rattle.lent.specs.Bytes.{numAt, patch, Holds, Stored}
+use Rattle.theorems.proofs.Branch.{if-true, if-false}
+use Rattle.initial.specs.Rows.{typed, tagAt, typeAt}
+use Rattle.initial.specs.Contracts.{TypeIs, Put}
+use Rattle.state.specs.Symbols.{symOf}
+use Rattle.state.specs.Owns.{goesOf, roomOf, Runs, Owned}
+use Rattle.state.specs.declared.sym.StackSym.{StackSym}
+use Rattle.state.specs.declared.sym.StackSym.the-variants.{Before, Constant, Jumpdest, Other}
+use Rattle.state.specs.declared.run.Goes.the-variants.{To, Nowhere}
+use Rattle.state.specs.declared.run.Own.{Own}
+use Rattle.lent.proofs.Parts.{take-less}
+use Rattle.initial.specs.declared.row.BlockType.{BlockType}
+use Rattle.parents.specs.Links.{firstAt, startOf, nextAt}
+use Rattle.parents.specs.Writes.{link, linkSides, takeTurn, staticType, place, headPast, goesAt}
+use Rattle.parents.specs.Contracts.{scratch, Sides, LinkRoom, Wrote, Settles, Ran, Settled, Placed, Number, Link}
+
+pub number-is : {k at r : ℕ} {w : List ℕ} → Holds k w at r → Number r (numAt k w at) k
+number-is h = record { is = h .is; small = h .small }
+
+-- ---- one side
+
+pub link-wrote : (a side t : ℕ) {first : ℕ} {w w₁ w₂ : List ℕ} → Holds 2 w (20 * t + 12) first → Stored 2 w (20 * a + 14 + 2 * side) (little 2 first) w₁
+    → Stored 2 w₁ (20 * t + 12) (little 2 (2 * a + side + 1)) w₂ → Wrote w w₂ (link w a side t)
+unfolding link
+link-wrote a side t h p q = record { is = q .is ∙ rw (p .is, h .is); kept = q .kept ∙ p .kept }
+
+-- ---- every side
+
+module _ {w : List ℕ} {a : ℕ} {t : BlockType} (y : TypeIs w a t) (s : Sides w a) where
+  pub room-to : LinkRoom w a 0 (t .to)
+  room-to = record { own = s .own; to = rw (y .is) (s .to); one = omega arith }
+
+  pub room-other : LinkRoom w a 1 (t .other)
+  room-other = record { own = s .own; to = rw (y .is) (s .other); one = omega arith }
+
+  pub room-then : {w₁ v : List ℕ} → Wrote w w₁ v → LinkRoom w₁ a 0 (t .to)
+  room-then p = record { own = omega (arith, s .own, p .kept); to = rw (p .kept, y .is) (s .to); one = omega arith }
+
+module _ {w w′ : List ℕ} {a : ℕ} {t : BlockType} (y : TypeIs w a t) where
+  as-type : Wrote w w′ (linkSides w a t) → Wrote w w′ (linkSides w a (typeAt w a))
+  as-type p = rw (← y .is) p
+
+  pub sides-jump : t .kind ≡ 3 → Wrote w w′ (link w a 0 (t .to)) → Wrote w w′ (linkSides w a (typeAt w a))
+  unfolding linkSides
+  sides-jump e p = as-type (record { is = p .is ∙ sym (if-true _ _ _ (eq-eqb _ _ e)); kept = p .kept })
+
+  pub sides-once : (t .kind ≡ 3 → ⊥) → t .kind ≡ 4 → t .to ≡ t .other → Wrote w w′ (link w a 0 (t .to)) → Wrote w w′ (linkSides w a (typeAt w a))
+  unfolding linkSides
+  sides-once n e q p =
+      as-type (record {
+        is = p .is ∙ sym (if-false _ _ _ (ne-eqb _ _ n) ∙ if-true _ _ _ (eq-eqb _ _ e) ∙ if-true _ _ _ (eq-eqb _ _ q));
+        kept = p .kept;
+      })
+
+  pub sides-both : {w₁ : List ℕ} → (t .kind ≡ 3 → ⊥) → t .kind ≡ 4 → (t .to ≡ t .other → ⊥) → Wrote w w₁ (link w a 1 (t .other)) → Wrote w₁ w′ (link w₁ a 0 (t .to))
+      → Wrote w w′ (linkSides w a (typeAt w a))
+  unfolding linkSides
+  sides-both n e q p r =
+      as-type (record {
+        is =
+            r .is ∙ ap (λ (v : List ℕ). link v a 0 (t .to)) (p .is)
+            ∙ sym (if-false _ _ _ (ne-eqb _ _ n) ∙ if-true _ _ _ (eq-eqb _ _ e) ∙ if-false _ _ _ (ne-eqb _ _ q));
+        kept = r .kept ∙ p .kept;
+      })
+
+  pub sides-other : (t .kind ≡ 3 → ⊥) → (t .kind ≡ 4 → ⊥) → t .kind ≡ 6 → Wrote w w′ (link w a 1 (t .other)) → Wrote w w′ (linkSides w a (typeAt w a))
+  unfolding linkSides
+  sides-other n m e p =
+      as-type (record {
+        is = p .is ∙ sym (if-false _ _ _ (ne-eqb _ _ n) ∙ if-false _ _ _ (ne-eqb _ _ m) ∙ if-true _ _ _ (eq-eqb _ _ e));
+        kept = p .kept;
+      })
+
+pub sides-none : {w : List ℕ} {a : ℕ} {t : BlockType} → TypeIs w a t → (t .kind ≡ 3 → ⊥) → (t .kind ≡ 4 → ⊥) → (t .kind ≡ 6 → ⊥) → Wrote w w (linkSides w a (typeAt w a))
+unfolding linkSides
+sides-none y n m e =
+    as-type y (record { is = sym (if-false _ _ _ (ne-eqb _ _ n) ∙ if-false _ _ _ (ne-eqb _ _ m) ∙ if-false _ _ _ (ne-eqb _ _ e)); kept = refl })
+
+-- ---- a turn
+
+pub turn-wrote : (a p head : ℕ) {w w₁ w₂ w₃ : List ℕ} → Stored 1 w (20 * a + 1) (little 1 1) w₁ → Stored 4 w₁ (20 * a + 8) (little 4 p) w₂
+    → Stored 2 w₂ (20 * a + 18) (little 2 head) w₃ → Wrote w w₃ (takeTurn w a p head)
+unfolding takeTurn
+turn-wrote a x head p q r = record { is = r .is ∙ rw (q .is, p .is); kept = r .kept ∙ q .kept ∙ p .kept }
+
+-- ---- a static type
+
+pub static-jump : (t : BlockType) (to : ℕ) → t .kind ≡ 5 → typed 3 to 0 ≡ staticType t to
+static-jump t to e = sym (if-true _ _ _ (eq-eqb _ _ e))
+
+pub static-jumpi : (t : BlockType) (to : ℕ) → (t .kind ≡ 5 → ⊥) → typed 4 to (t .other) ≡ staticType t to
+static-jumpi t to e = sym (if-false _ _ _ (ne-eqb _ _ e))
+
+-- ---- what a run settles
+
+module _ {w : List ℕ} {a : ℕ} {t : BlockType} (head : ℕ) where
+  pub place-jumpdest : (x : StackSym) {to last : ℕ} {k : BlockType} {w′ : List ℕ} → x ≡ Jumpdest to → Holds 2 w (20 * a + 2) last → k ≡ staticType t to → Put w a last k w′
+      → Placed w a t (some (symOf x)) head w′ head
+  unfolding place
+  place-jumpdest x e h q p = rw e (record { is = p .stored .is ∙ rw (q, h .is); first = refl; kept = p .stored .kept })
+
+  pub place-before : (x : StackSym) {p : ℕ} {w′ : List ℕ} → x ≡ Before p → Wrote w w′ (takeTurn w a p head) → Placed w a t (some (symOf x)) head w′ (a + 1)
+  unfolding place
+  place-before x e p = rw e (record { is = p .is; first = refl; kept = p .kept })
+
+  pub place-constant : (x : StackSym) {v : ℕ} → x ≡ Constant v → Placed w a t (some (symOf x)) head w head
+  unfolding place
+  place-constant x e = rw e (record { is = refl; first = refl; kept = refl })
+
+  pub place-other : (x : StackSym) {pc : ℕ} → x ≡ Other pc → Placed w a t (some (symOf x)) head w head
+  unfolding place
+  place-other x e = rw e (record { is = refl; first = refl; kept = refl })
+
+module _ {code w : List ℕ} {end a : ℕ} (s : Settles code w end a) {t : BlockType} (y : TypeIs w a t) where
+  tag-is : t .kind ≡ tagAt w a
+  tag-is = ap (λ (b : BlockType). b .kind) (y .is)
+
+  pub settle-static : (head : ℕ) → t .kind < 5 → Settled code w end a head w head
+  unfolding goesAt place
+  settle-static head h =
+      let e = if-true (ltb (tagAt w a) 5) none (run code (instructions code) a .goes) (lt-ltb (tagAt w a) 5 (omega (arith, tag-is))) in
+      record { after = w; ran = record { front = refl; back = refl; kept = refl }; is = rw e; first = rw e; kept = refl }
+
+  pub settle-runs : 5 ≤ t .kind → Runs code a w end
+  settle-runs h = record { stands = s .stands (omega (arith, tag-is)); short = s .short; inside = s .inside; room = omega (arith, s .room) }
+
+  module _ {w₁ : List ℕ} {o : Own} (h : 5 ≤ t .kind) (d : Owned code a w end w₁ o) where
+    ran-in : Ran code w end w₁
+    ran-in =
+        record {
+          front = take-less w₁ w (end - roomOf code) (d .inside .front) (end - scratch code) (omega arith);
+          back = d .inside .back;
+          kept = d .inside .kept;
+        }
+
+    goes-is : goesAt code w a ≡ goesOf (o .goes)
+    unfolding goesAt
+    goes-is = if-false _ _ _ (le-ltb (tagAt w a) 5 (omega (arith, tag-is))) ∙ sym (d .goes)
+
+    pub settle-nowhere : (head : ℕ) → o .goes ≡ Nowhere → Settled code w end a head w₁ head
+    unfolding place
+    settle-nowhere head e =
+        let g : goesAt code w a ≡ none = goes-is ∙ ap goesOf e in
+        record { after = w₁; ran = ran-in; is = rw g; first = rw g; kept = d .inside .kept }
+
+    pub settle-placed : (head : ℕ) {x : StackSym} {w₂ : List ℕ} {r : ℕ} → o .goes ≡ To x → Placed w₁ a t (some (symOf x)) head w₂ r → Settled code w end a head w₂ r
+    settle-placed head {x} e p =
+        let g : goesAt code w a ≡ some (symOf x) = goes-is ∙ ap goesOf e in
+        record { after = w₁; ran = ran-in; is = rw (g, ← y .is) (p .is); first = rw g (p .first); kept = p .kept ∙ d .inside .kept }

@@ -1,0 +1,9 @@
+pub mod Parts
+pub mod Leaves
+pub mod Goals
+pub mod Falls
+pub mod Slots
+pub mod Settling
+pub mod Pass
+pub mod Chains
+pub mod Ends

@@ -1,0 +1,101 @@
+-- What stands in a row before the first stage, and what a block's own run makes of it. Assumes nothing.
+use mathlib.Core.Path.{_≡_, refl, sym, ap, _∙_}
+use mathlib.Core.Bool.{Bool, true, false}
+use mathlib.Core.Option.{Option, none, some}
+use mathlib.Core.List.{List, [], _∷_, _++_}
+use Prim.Native.Nat.{ℕ, suc, _+_, _-_, _*_, _/_, _%_, _≤_, _<_}
+use native.Mathlib.Nat.{add-zero, zero-add}
+use native.Mathlib.Omega.{arith}
+use lib.Dec.{eqb, ltb}
+use lib.ListN.{length, take, drop, replicate}
+use Rattle.spec.specs.Lists.{if, little}
+use Rattle.spec.specs.Walk.{instructions}
+use Rattle.spec.specs.Blocks.{Kind, terminate, jump, jumpi, dynamic-jump, dynamic-jumpi, Block, block, blocks}
+use Rattle.spec.specs.Stacks.{Sym, before, constant, jumpdest, other, Stack, Ran}
+use Rattle.spec.specs.Search.{Node, settled, node, Taker, taker, takes, takers}
+use Rattle.lent.proofs.Parts.{part-within}
+use Rattle.initial.specs.Rows.{typeOf, tagAt, blockAt, rowBlocks, rowOf, blocksAt, Laid}
+use Rattle.initial.proofs.Rows.{here-empty, here-block}
+use Rattle.parents.specs.Rows.{ownBytes, linkBytes, turnsOf, firstTaker, takerPast, ownOf}
+use Rattle.parents.specs.Writes.{staticType, headPast}
+use Rattle.parents.proofs.Slots.{own, links, first, ownPlaced, linksPlaced}
+
+-- ---- a row as `initial_blocks` leaves it
+
+module _ {w : List ℕ} {n : ℕ} (l : Laid w n) (a : ℕ) (h : a ≤ n) where
+  row-part : (bs : List Block) → rowBlocks w a ≡ bs → (k o : ℕ) → o + k ≤ 20 → take k (drop (20 * a + o) w) ≡ take k (drop o (rowOf bs))
+  row-part bs e k o g = rw zero-add at (part-within w (rowOf bs) 20 (20 * a) 0 (l .row a h ∙ ap rowOf e ∙ whole bs) k o g)
+    where
+      whole : (cs : List Block) → rowOf cs ≡ take 20 (drop 0 (rowOf cs))
+      whole [] = refl
+      whole (c ∷ cs) = refl
+
+  pub none-own : rowBlocks w a ≡ [] → own w a ≡ replicate 12 0
+  none-own e = rw add-zero at (row-part [] e 12 0 (omega arith))
+
+  pub none-links : rowBlocks w a ≡ [] → links w a ≡ linkBytes 0 0 0
+  none-links e = row-part [] e 6 14 (omega arith)
+
+  pub first-zero : first w a ≡ little 2 0
+  first-zero = row-part (rowBlocks w a) refl 2 12 (omega arith) ∙ zeros (rowBlocks w a)
+    where
+      zeros : (bs : List Block) → take 2 (drop 12 (rowOf bs)) ≡ little 2 0
+      zeros [] = refl
+      zeros (b ∷ bs) = refl
+
+  module _ {b : Block} (e : rowBlocks w a ≡ b ∷ []) (small : typeOf (b .kind) .kind / 256 % 256 ≡ 0) where
+    pub block-own : own w a ≡ ownBytes (typeOf (b .kind) .kind) 0 (b .end) (typeOf (b .kind) .to) (typeOf (b .kind) .other) 0
+    block-own = rw small at (rw add-zero at (row-part (b ∷ []) e 12 0 (omega arith)))
+
+    pub block-links : links w a ≡ linkBytes 0 0 0
+    block-links = row-part (b ∷ []) e 6 14 (omega arith)
+
+-- ---- what a run settles
+
+-- a block of this kind, with a run that goes so
+abbrev pub nodeOf : ℕ → ℕ → Kind → Stack → Option Sym → Node
+nodeOf a e k s g = node (block a a e k) (record { stack = s; goes = g })
+
+-- what settles the block: a run is looked at where the kind is dynamic
+abbrev pub looks : Kind → Option Sym → Option Sym
+looks k g = if (ltb (typeOf k .kind) 5) none g
+
+pub record Settles (a e : ℕ) (k : Kind) (s : Stack) (g : Option Sym) (rs : List Node) : Type 0 where
+  pub own-is : ownPlaced (typeOf k) e (looks k g) ≡ ownOf (nodeOf a e k s g ∷ [])
+  pub links-are : linksPlaced (looks k g) (firstTaker (takers rs)) ≡ linkBytes 0 0 (takerPast (turnsOf (nodeOf a e k s g)) rs)
+  pub head-is : headPast a (looks k g) (firstTaker (takers rs)) ≡ firstTaker (takers (nodeOf a e k s g ∷ rs))
+
+-- a static kind stays
+module _ (a e : ℕ) (s : Stack) (rs : List Node) where
+  pub settles : (k : Kind) (g : Option Sym) → Settles a e k s g rs
+  unfolding if
+  settles (terminate false) none = record { own-is = refl; links-are = refl; head-is = refl }
+  settles (terminate false) (some (before p)) = record { own-is = refl; links-are = refl; head-is = refl }
+  settles (terminate false) (some (constant v)) = record { own-is = refl; links-are = refl; head-is = refl }
+  settles (terminate false) (some (jumpdest t)) = record { own-is = refl; links-are = refl; head-is = refl }
+  settles (terminate false) (some (other pc)) = record { own-is = refl; links-are = refl; head-is = refl }
+  settles (terminate true) none = record { own-is = refl; links-are = refl; head-is = refl }
+  settles (terminate true) (some (before p)) = record { own-is = refl; links-are = refl; head-is = refl }
+  settles (terminate true) (some (constant v)) = record { own-is = refl; links-are = refl; head-is = refl }
+  settles (terminate true) (some (jumpdest t)) = record { own-is = refl; links-are = refl; head-is = refl }
+  settles (terminate true) (some (other pc)) = record { own-is = refl; links-are = refl; head-is = refl }
+  settles (jump u) none = record { own-is = refl; links-are = refl; head-is = refl }
+  settles (jump u) (some (before p)) = record { own-is = refl; links-are = refl; head-is = refl }
+  settles (jump u) (some (constant v)) = record { own-is = refl; links-are = refl; head-is = refl }
+  settles (jump u) (some (jumpdest t)) = record { own-is = refl; links-are = refl; head-is = refl }
+  settles (jump u) (some (other pc)) = record { own-is = refl; links-are = refl; head-is = refl }
+  settles (jumpi u f) none = record { own-is = refl; links-are = refl; head-is = refl }
+  settles (jumpi u f) (some (before p)) = record { own-is = refl; links-are = refl; head-is = refl }
+  settles (jumpi u f) (some (constant v)) = record { own-is = refl; links-are = refl; head-is = refl }
+  settles (jumpi u f) (some (jumpdest t)) = record { own-is = refl; links-are = refl; head-is = refl }
+  settles (jumpi u f) (some (other pc)) = record { own-is = refl; links-are = refl; head-is = refl }
+  settles dynamic-jump none = record { own-is = refl; links-are = refl; head-is = refl }
+  settles dynamic-jump (some (before p)) = record { own-is = refl; links-are = refl; head-is = refl }
+  settles dynamic-jump (some (constant v)) = record { own-is = refl; links-are = refl; head-is = refl }
+  settles dynamic-jump (some (jumpdest t)) = record { own-is = refl; links-are = refl; head-is = refl }
+  settles dynamic-jump (some (other pc)) = record { own-is = refl; links-are = refl; head-is = refl }
+  settles (dynamic-jumpi f) none = record { own-is = refl; links-are = refl; head-is = refl }
+  settles (dynamic-jumpi f) (some (before p)) = record { own-is = refl; links-are = refl; head-is = refl }
+  settles (dynamic-jumpi f) (some (constant v)) = record { own-is = refl; links-are = refl; head-is = refl }
+  settles (dynamic-jumpi f) (some (jumpdest t)) = record { own-is = refl; links-are = refl; head-is = refl }
+  settles (dynamic-jumpi f) (some (other pc)) = record { own-is = refl; links-are = refl; head-is = refl }

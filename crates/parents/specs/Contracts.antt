@@ -1,0 +1,99 @@
+-- What each function asks and promises, a record each. Assumes nothing.
+use mathlib.Core.Path.{_≡_}
+use mathlib.Core.List.{List, [], _∷_, map}
+use mathlib.Core.Option.{Option}
+use Prim.Native.Nat.{ℕ, suc, _+_, _-_, _*_, _^_, _≤_, _<_}
+use lib.ListN.{length, take, drop}
+use Rattle.spec.specs.Walk.{walk, instructions, from}
+use Rattle.spec.specs.Blocks.{Block, blocks}
+use Rattle.spec.specs.Stacks.{Sym}
+use Rattle.spec.specs.Search.{Node, takers}
+use Rattle.spec.specs.Answer.{prepared}
+use Rattle.initial.specs.Rows.{tagAt, typeAt, blocksAt, Laid}
+use Rattle.initial.specs.declared.row.BlockType.{BlockType}
+use Rattle.parents.specs.Links.{positionAt, takerAt, firstAt, startOf, nextAt, Parents, Turn, turnOf, Takers, directTo, fromOf}
+use Rattle.parents.specs.Rows.{rowFor}
+use Rattle.parents.specs.Writes.{linkSides, place, headPast, goesAt}
+
+-- ---- what is lent: the rows as `initial_blocks` leaves them, and past them a part for the runs, which ends at `end`
+
+abbrev pub scratch : List ℕ → ℕ
+scratch code = 9 * (length code + 18)
+
+pub record Lent (code w : List ℕ) (end : ℕ) : Type 0 where
+  pub short : length code ≤ 24576
+  pub same : blocksAt w (length code) ≡ blocks code (instructions code)
+  pub laid : Laid w (length code)
+  pub room : 20 * (length code + 1) + scratch code ≤ end
+  pub inside : end ≤ length w
+
+-- W changed in its rows and in the part for the runs alone
+pub record Beside (code w : List ℕ) (end : ℕ) (w′ : List ℕ) : Type 0 where
+  pub between : take (end - scratch code - 20 * (length code + 1)) (drop (20 * (length code + 1)) w′) ≡ take (end - scratch code - 20 * (length code + 1)) (drop (20 * (length code + 1)) w)
+  pub past : drop end w′ ≡ drop end w
+  pub kept : length w′ ≡ length w
+
+-- ---- one side, and the sides of a block
+
+pub record LinkRoom (w : List ℕ) (a side t : ℕ) : Type 0 where
+  pub own : 20 * a + 20 ≤ length w
+  pub to : 20 * t + 20 ≤ length w
+  pub one : side ≤ 1
+
+pub record Sides (w : List ℕ) (a : ℕ) : Type 0 where
+  pub own : 20 * a + 20 ≤ length w
+  pub to : 20 * typeAt w a .to + 20 ≤ length w
+  pub other : 20 * typeAt w a .other + 20 ≤ length w
+
+-- w became w′, which is v
+pub record Wrote (w w′ v : List ℕ) : Type 0 where
+  pub is : w′ ≡ v
+  pub kept : length w′ ≡ length w
+
+-- ---- the first stage of one block
+
+pub record Settles (code w : List ℕ) (end a : ℕ) : Type 0 where
+  pub stands : 5 ≤ tagAt w a → from a (instructions code) ≡ walk (drop a code) a 0
+  pub short : length code ≤ 24576
+  pub row : a ≤ length code
+  pub room : 20 * (length code + 1) + scratch code ≤ end
+  pub inside : end ≤ length w
+
+-- the run changed its part alone
+pub record Ran (code w : List ℕ) (end : ℕ) (w′ : List ℕ) : Type 0 where
+  pub front : take (end - scratch code) w′ ≡ take (end - scratch code) w
+  pub back : drop end w′ ≡ drop end w
+  pub kept : length w′ ≡ length w
+
+pub record Settled (code w : List ℕ) (end a head : ℕ) (w′ : List ℕ) (r : ℕ) : Type 0 where
+  pub after : List ℕ
+  pub ran : Ran code w end after
+  pub is : w′ ≡ place after a (typeAt w a) (goesAt code w a) head
+  pub first : r ≡ headPast a (goesAt code w a) head
+  pub kept : length w′ ≡ length w
+
+pub record Placed (w : List ℕ) (a : ℕ) (t : BlockType) (goes : Option Sym) (head : ℕ) (w′ : List ℕ) (r : ℕ) : Type 0 where
+  pub is : w′ ≡ place w a t goes head
+  pub first : r ≡ headPast a goes head
+  pub kept : length w′ ≡ length w
+
+-- ---- the whole
+
+-- the blocks of the code are prepared for the search; r is the link to the first that takes turns
+pub record Prepared (code w : List ℕ) (end : ℕ) (w′ : List ℕ) (r : ℕ) : Type 0 where
+  pub row : (a : ℕ) → a ≤ length code → take 20 (drop (20 * a) w′) ≡ rowFor code w a
+  pub blocks : blocksAt w′ (length code) ≡ map (λ (x : Node). x .block) (prepared code)
+  pub takers : Takers w′ (length code) r (map turnOf (takers (prepared code)))
+  pub parents : (t : ℕ) → t ≤ length code → Parents w′ (length code) (firstAt w′ t) (map fromOf (directTo t (prepared code)))
+  pub beside : Beside code w end w′
+
+-- ---- the readers
+
+pub record Number (r v k : ℕ) : Type 0 where
+  pub is : r ≡ v
+  pub small : r < 256 ^ k
+
+-- a link of some parents, whose row is there
+pub record Link (w : List ℕ) (link : ℕ) : Type 0 where
+  pub some : 1 ≤ link
+  pub inside : 20 * startOf link + 20 ≤ length w

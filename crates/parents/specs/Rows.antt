@@ -1,0 +1,93 @@
+-- The rows of W after the first stage, byte for byte: the block with its settled kind, its turn, and the links. Assumes nothing.
+use mathlib.Core.Path.{_≡_}
+use mathlib.Core.List.{List, [], _∷_, _++_}
+use Prim.Native.Nat.{ℕ, suc, _+_, _-_, _*_}
+use lib.Dec.{eqb}
+use lib.ListN.{length, replicate}
+use Rattle.spec.specs.Lists.{if, little}
+use Rattle.spec.specs.Walk.{instructions}
+use Rattle.spec.specs.Blocks.{Kind, terminate, jump, jumpi, dynamic-jump, dynamic-jumpi, Block}
+use Rattle.spec.specs.Search.{Node, nodes, Taker, takes, takers}
+use Rattle.initial.specs.Rows.{typeOf, rowBlocks, blocksFrom}
+
+-- ---- the parts of a row: twelve bytes of the block and its turn, the link to the first parent, and six bytes of further links
+
+abbrev pub ownBytes : ℕ → ℕ → ℕ → ℕ → ℕ → ℕ → List ℕ
+ownBytes kind turn end to other position = little 1 kind ++ (little 1 turn ++ (little 2 end ++ (little 2 to ++ (little 2 other ++ little 4 position))))
+
+abbrev pub linkBytes : ℕ → ℕ → ℕ → List ℕ
+linkBytes to other taker = little 2 to ++ (little 2 other ++ little 2 taker)
+
+-- ---- turns: a block takes them or not
+
+abbrev pub turnsOf : Node → List Taker
+turnsOf r = takes r (r .block .kind)
+
+abbrev pub flagged : List Taker → ℕ
+flagged [] = 0
+flagged (k ∷ ks) = 1
+
+abbrev pub positioned : List Taker → ℕ
+positioned [] = 0
+positioned (k ∷ ks) = k .position
+
+-- the link to the first of some takers
+abbrev pub firstTaker : List Taker → ℕ
+firstTaker [] = 0
+firstTaker (k ∷ ks) = k .start + 1
+
+-- the link of a block that takes turns to the next
+abbrev pub takerPast : List Taker → List Node → ℕ
+takerPast [] rs = 0
+takerPast (k ∷ ks) rs = firstTaker (takers rs)
+
+-- ---- parents: the link to t that a block's sides give, or the one that there is already
+
+abbrev pub edgeTo : ℕ → ℕ → Kind → ℕ → ℕ
+edgeTo t a (terminate success) later = later
+edgeTo t a (jump u) later = if (eqb t u) (2 * a + 0 + 1) later
+edgeTo t a (jumpi u f) later = if (eqb t u) (2 * a + 0 + 1) (if (eqb t f) (2 * a + 1 + 1) later)
+edgeTo t a dynamic-jump later = later
+edgeTo t a (dynamic-jumpi f) later = if (eqb t f) (2 * a + 1 + 1) later
+
+-- the link to the first parent of t among some blocks
+unfoldable pub firstTo : ℕ → List Node → ℕ
+firstTo t [] = 0
+firstTo t (r ∷ rs) = edgeTo t (r .block .start) (r .block .kind) (firstTo t rs)
+
+-- the links of a block's two sides to the next parents of the same addresses; equal sides count once
+abbrev pub toPast : Kind → List Node → ℕ
+toPast (terminate success) rs = 0
+toPast (jump u) rs = firstTo u rs
+toPast (jumpi u f) rs = firstTo u rs
+toPast dynamic-jump rs = 0
+toPast (dynamic-jumpi f) rs = 0
+
+abbrev pub otherPast : Kind → List Node → ℕ
+otherPast (terminate success) rs = 0
+otherPast (jump u) rs = 0
+otherPast (jumpi u f) rs = if (eqb u f) 0 (firstTo f rs)
+otherPast dynamic-jump rs = 0
+otherPast (dynamic-jumpi f) rs = firstTo f rs
+
+-- ---- the row of an address, by the block there, if one starts there, and those past it
+
+abbrev pub ownOf : List Node → List ℕ
+ownOf [] = replicate 12 0
+ownOf (r ∷ rs) =
+    ownBytes (typeOf (r .block .kind) .kind) (flagged (turnsOf r)) (r .block .end) (typeOf (r .block .kind) .to) (typeOf (r .block .kind) .other)
+    (positioned (turnsOf r))
+
+abbrev pub linksOf : List Node → List Node → List ℕ
+linksOf [] later = replicate 6 0
+linksOf (r ∷ rs) later = linkBytes (toPast (r .block .kind) later) (otherPast (r .block .kind) later) (takerPast (turnsOf r) later)
+
+-- the blocks of W's rows, each with its own run: at an address, and from one on
+abbrev pub nodesHere : List ℕ → List ℕ → ℕ → List Node
+nodesHere code w a = nodes code (instructions code) (rowBlocks w a)
+
+abbrev pub nodesFrom : List ℕ → List ℕ → ℕ → List Node
+nodesFrom code w a = nodes code (instructions code) (blocksFrom w a (suc (length code) - a))
+
+unfoldable pub rowFor : List ℕ → List ℕ → ℕ → List ℕ
+rowFor code w a = ownOf (nodesHere code w a) ++ (little 2 (firstTo a (nodesFrom code w 0)) ++ linksOf (nodesHere code w a) (nodesFrom code w (suc a)))

@@ -1,0 +1,23 @@
+// Prepares the blocks for the search: dynamic jumps that their own block settles, the blocks that take turns, and the direct parents.
+pub mod link;
+pub mod settle;
+pub mod taker;
+
+use crate::link::link_sides;
+use crate::settle::settle;
+ghost use Rattle.parents.specs.Contracts.{Lent, Prepared};
+
+// Prepares every block, from the last to the first, so that each list comes out in address order; gives the link to the first block that takes turns.
+pub fn prepare(code: &[u8], w: &mut [u8], end: usize) -> usize
+    requires { ⌜ Lent (now code) (now w) end ⌝ }
+    ensures { λ r. ⌜ Prepared (now (code .entry)) (now (w .entry)) end (now (w .exit)) r ⌝ }
+{
+    let mut a = code.len() + 1;
+    let mut head = 0;
+    while a != 0 {
+        a -= 1;
+        head = settle(code, w, end, a, head);
+        link_sides(w, a);
+    }
+    head
+}

@@ -1,0 +1,76 @@
+// The first stage: each dynamic block is run, and what its jump takes settles it.
+use crate::taker::take_turn;
+use initial::row::BlockType;
+use initial::row::DYNAMIC_JUMP;
+use initial::row::END;
+use initial::row::JUMP;
+use initial::row::JUMPI;
+use initial::row::ROW;
+use initial::row::put_block;
+use initial::row::type_at;
+use lent::get16;
+use state::run::Goes;
+use state::run::run;
+use state::sym::StackSym;
+ghost use mathlib.Core.Path.{_≡_};
+ghost use mathlib.Core.Option.{some};
+ghost use Prim.Native.Nat.{_+_, _*_, _≤_};
+ghost use lib.ListN.{length};
+ghost use Rattle.state.specs.Symbols.{symOf};
+ghost use Rattle.parents.specs.Writes.{staticType};
+ghost use Rattle.parents.specs.Contracts.{Settles, Settled, Placed};
+
+// Settles the block at a, if a dynamic one starts there; gives the link to the first block that takes turns.
+pub fn settle(code: &[u8], w: &mut [u8], end: usize, a: usize, head: usize) -> usize
+    requires { ⌜ Settles (now code) (now w) end a ⌝ }
+    ensures { λ r. ⌜ Settled (now (code .entry)) (now (w .entry)) end a head (now (w .exit)) r ⌝ }
+{
+    let t = type_at(w, a);
+    if t.kind < DYNAMIC_JUMP {
+        return head;
+    }
+    let own = run(code, a, w, end);
+    let goes = own.goes;
+    match goes {
+        Goes::Nowhere => head,
+        Goes::To(x) => place(w, a, t, x, head),
+    }
+}
+
+// A Jumpdest makes the block static, with no test that a block starts there; a Before has it take turns.
+fn place(w: &mut [u8], a: usize, t: BlockType, x: StackSym, head: usize) -> usize
+    requires { ⌜ 20 * a + 20 ≤ length (now w) ⌝ }
+    ensures { λ r. ⌜ Placed (now (w .entry)) a t (some (symOf x)) head (now (w .exit)) r ⌝ }
+{
+    match x {
+        StackSym::Jumpdest(to) => {
+            let last = get16(w, ROW * a + END);
+            put_block(w, a, last, static_type(t, to));
+            head
+        }
+        StackSym::Before(p) => {
+            take_turn(w, a, p, head);
+            a + 1
+        }
+        StackSym::Constant(_) => head,
+        StackSym::Other(_) => head,
+    }
+}
+
+// The static type of a dynamic block.
+fn static_type(t: BlockType, to: usize) -> BlockType
+    ensures { λ r. ⌜ r ≡ staticType t to ⌝ }
+{
+    if t.kind == DYNAMIC_JUMP {
+        return BlockType {
+            kind: JUMP,
+            to,
+            other: 0,
+        };
+    }
+    BlockType {
+        kind: JUMPI,
+        to,
+        other: t.other,
+    }
+}
