@@ -70,9 +70,9 @@ module _ {code w₀ : List ℕ} {end : ℕ} (l : Lent code w₀ end) {w : List �
           let i = block-of l a h there in
           let k = nodeAt code w₀ a .block .kind in
           let g = good-within (length code) (l .short) k (node-within code i) in
-          let t = own-type w a (typeOf k) _ _ _ own-there (g .most) (g .to) (g .other) in
+          let t = own-type w a (typeOf k) _ _ _ own-there (omega (arith, g .range .1)) (g .to) (g .other) in
           let e = own-end w a (typeOf k) _ _ _ own-there (omega (arith, made code i .end-inside, l .short)) in
-          here-block w a (λ z. omega (arith, g .least, ap (λ (b : BlockType). b .kind) t)) ∙ rw (t, e, kind-type k)
+          here-block w a (λ z. omega (arith, g .range .0, ap (λ (b : BlockType). b .kind) t)) ∙ rw (t, e, kind-type k)
 
     rows-block : rowBlocks w a ≡ map (λ (x : Node). x .block) (nodesHere code w₀ a)
     rows-block = go (ℕ-discrete (tagAt w₀ a) 0)

@@ -195,17 +195,17 @@ module _ {code w₀ : List ℕ} {end : ℕ} (l : Lent code w₀ end) {w : List �
       row-own : own w a ≡ ownBytes (typeOf (kindAt w₀ a) .kind) 0 (lastAt w₀ a) (typeOf (kindAt w₀ a) .to) (typeOf (kindAt w₀ a) .other) 0
       row-own =
           let g = good-within (length code) (l .short) (kindAt w₀ a) within in
-          p .own-ahead a (omega arith) ∙ block-own (l .laid) a here (here-block w₀ a there) (omega (arith, g .most))
+          p .own-ahead a (omega arith) ∙ block-own (l .laid) a here (here-block w₀ a there) (omega (arith, g .range .1))
 
       row-links : links w a ≡ linkBytes 0 0 0
       row-links =
           let g = good-within (length code) (l .short) (kindAt w₀ a) within in
-          p .links-ahead a (omega arith) ∙ block-links (l .laid) a here (here-block w₀ a there) (omega (arith, g .most))
+          p .links-ahead a (omega arith) ∙ block-links (l .laid) a here (here-block w₀ a there) (omega (arith, g .range .1))
 
       row-type : typeAt w a ≡ typeOf (kindAt w₀ a)
       row-type =
           let g = good-within (length code) (l .short) (kindAt w₀ a) within in
-          own-type w a (typeOf (kindAt w₀ a)) 0 (lastAt w₀ a) 0 row-own (g .most) (g .to) (g .other)
+          own-type w a (typeOf (kindAt w₀ a)) 0 (lastAt w₀ a) 0 row-own (omega (arith, g .range .1)) (g .to) (g .other)
 
       goes-looks : goesAt code w a ≡ looks (kindAt w₀ a) (goesFrom code a)
       unfolding goesAt
@@ -221,7 +221,7 @@ module _ {code w₀ : List ℕ} {end : ℕ} (l : Lent code w₀ end) {w : List �
           let g = good-within (length code) (l .short) (nodeAt code w₀ a .block .kind) v in
           record {
             rows = f;
-            type = own-type w₁ a (typeOf (nodeAt code w₀ a .block .kind)) _ (lastAt w₀ a) _ (f .own-here) (g .most) (g .to) (g .other);
+            type = own-type w₁ a (typeOf (nodeAt code w₀ a .block .kind)) _ (lastAt w₀ a) _ (f .own-here) (omega (arith, g .range .1)) (g .to) (g .other);
             to = type-to (length code) (nodeAt code w₀ a .block .kind) v;
             other = type-other (length code) (nodeAt code w₀ a .block .kind) v;
           }
