@@ -1,20 +1,19 @@
 -- The lists that are linked through the rows hold the blocks that take turns, and the direct parents of each address, in order. Assumes nothing.
-use mathlib.Core.Path.{_≡_, refl, sym, ap, ap₂, _∙_, subst}
-use mathlib.Core.Bool.{Bool, true, false}
+use mathlib.Core.Path.{_≡_, refl, sym, _∙_, subst}
 use mathlib.Core.Option.{Option, none, some}
 use mathlib.Core.List.{List, [], _∷_, _++_, map}
-use Prim.Native.Nat.{ℕ, suc, _+_, _-_, _*_, _/_, _%_, _≤_, _<_}
+use Prim.Native.Nat.{ℕ, _+_, _-_, _*_, _/_, _%_, _≤_, _<_}
 use native.Mathlib.Omega.{arith}
 use native.Mathlib.Decide.{ℕ-discrete}
-use native.Mathlib.Nat.{zero-add, add-zero}
+use native.Mathlib.Nat.{zero-add}
 use lib.Dec.{eqb}
-use lib.ListN.{length, take, drop}
+use lib.ListN.{take}
 use borrow.Author.Tests.{eq-eqb, ne-eqb}
-use Rattle.spec.specs.Lists.{if, little, keep}
+use Rattle.spec.specs.Lists.{if, keep}
 use Rattle.spec.specs.Blocks.{Kind, terminate, jump, jumpi, dynamic-jump, dynamic-jumpi}
 use Rattle.spec.specs.Stacks.{Sym, before, constant, jumpdest, other, Stack}
 use Rattle.spec.specs.Search.{Node, Taker, taker, takes, takers, sides, Parent, parent, direct}
-use Rattle.lent.specs.Bytes.{number, numAt}
+use Rattle.lent.specs.Bytes.{numAt}
 use Rattle.lent.proofs.Numbers.{num-within, number-little, num-prefix}
 use Rattle.initial.specs.declared.row.BlockType.{BlockType}
 use Rattle.parents.specs.Links.{positionAt, takerAt, startOf, nextAt, Parents, no-parent, next-parent, Turn, turn, turnOf, Takers, no-taker, next-taker, directTo, fromOf}

@@ -1,25 +1,24 @@
 -- The pass is over: every row is prepared, and with the rows the blocks, those that take turns, and the parents. Assumes nothing.
 use mathlib.Core.Path.{_≡_, refl, sym, ap, ap₂, _∙_}
-use mathlib.Core.Option.{Option, none, some}
+use mathlib.Core.Option.{Option, some}
 use mathlib.Core.List.{List, [], _∷_, _++_, map, map-append}
-use Prim.Native.Nat.{ℕ, zero, suc, _+_, _-_, _*_, _≤_, _<_}
+use Prim.Native.Nat.{ℕ, zero, suc, _+_, _*_, _≤_, _<_}
 use native.Mathlib.Omega.{arith}
 use native.Mathlib.Decide.{ℕ-discrete}
 use native.Mathlib.Nat.{sub-zero}
-use lib.ListN.{length, take, drop, replicate}
+use lib.ListN.{length, take, drop}
 use lib.Seq.{take-add, drop-drop}
-use Rattle.spec.specs.Lists.{little}
 use Rattle.spec.specs.Walk.{instructions}
 use Rattle.spec.specs.Blocks.{Block, blocks}
-use Rattle.spec.specs.Stacks.{Sym, before, run}
-use Rattle.spec.specs.Search.{Node, node, nodes, takers, direct}
+use Rattle.spec.specs.Stacks.{Sym, before}
+use Rattle.spec.specs.Search.{Node, nodes, takers}
 use Rattle.spec.specs.Answer.{prepared}
 use Rattle.theorems.proofs.Cutting.{made}
-use Rattle.initial.specs.Rows.{typed, typeOf, kindOf, tagAt, typeAt, blockAt, rowBlocks, blocksFrom, blocksAt}
+use Rattle.initial.specs.Rows.{typed, typeOf, tagAt, rowBlocks, blocksFrom, blocksAt}
 use Rattle.initial.specs.declared.row.BlockType.{BlockType}
 use Rattle.initial.proofs.Types.{kind-type}
-use Rattle.initial.proofs.Rows.{here-empty, here-block, from-one}
-use Rattle.parents.specs.Links.{firstAt, turnOf, Parents, no-parent, Takers, no-taker, directTo, fromOf}
+use Rattle.initial.proofs.Rows.{here-empty, here-block}
+use Rattle.parents.specs.Links.{turnOf, Parents, no-parent, Takers, no-taker, directTo, fromOf}
 use Rattle.parents.specs.Rows.{firstTaker, takerPast, turnsOf, firstTo, ownOf, linksOf, nodesHere, nodesFrom, rowFor}
 use Rattle.parents.specs.Contracts.{Lent, Prepared}
 use Rattle.parents.proofs.Goals.{Goes, run-goes}
@@ -117,11 +116,13 @@ module _ {code w₀ : List ℕ} {end : ℕ} (l : Lent code w₀ end) {w : List �
       let c = chained (suc (length code)) 0 (omega arith) in
       record {
         row = row-is;
-        blocks = from-blocks 0 (suc (length code)) (omega arith) ∙ ap (map (λ (x : Node). x .block)) all-rows;
-        takers = rw (p .heads, all-nodes) (rw all-nodes at (c .0));
-        parents =
-            λ t h. rw (first-is w t (firstTo t (nodesFrom code w₀ 0)) (omega (arith, small-parents (c .1 t), l .short)) (p .firsts t h) ∙ ap (firstTo t) all-nodes)
-            (rw all-nodes at (c .1 t));
+        known = record {
+          blocks = from-blocks 0 (suc (length code)) (omega arith) ∙ ap (map (λ (x : Node). x .block)) all-rows;
+          takers = rw (p .heads, all-nodes) (rw all-nodes at (c .0));
+          parents =
+              λ t h. rw (first-is w t (firstTo t (nodesFrom code w₀ 0)) (omega (arith, small-parents (c .1 t), l .short)) (p .firsts t h) ∙ ap (firstTo t) all-nodes)
+              (rw all-nodes at (c .1 t));
+        };
         beside = p .beside;
       }
 

@@ -1,22 +1,23 @@
 -- Every side of a block lies in the code, or right behind it. Assumes nothing.
-use mathlib.Core.Path.{_≡_, refl, sym, ap, _∙_}
-use mathlib.Core.Bool.{Bool, true, false, _&&_}
+use mathlib.Core.Path.{_≡_}
+use mathlib.Core.Bool.{true}
+use mathlib.Core.Logic.{_⊎_, inl, inr}
 use mathlib.Core.Option.{Option, none, some}
-use mathlib.Core.List.{List, [], _∷_, map}
-use Prim.Native.Nat.{ℕ, suc, _+_, _*_, _≤_, _<_}
+use mathlib.Core.List.{List, [], _∷_}
+use Prim.Native.Nat.{ℕ, _+_, _*_, _≤_, _<_}
 use native.Mathlib.Omega.{arith}
 use lib.Dec.{eqb, leb}
-use lib.ListN.{length, getD}
-use Rattle.spec.specs.Lists.{if, mem}
+use lib.ListN.{length}
+use Rattle.spec.specs.Lists.{mem}
 use Rattle.spec.specs.Walk.{Ins, instructions}
-use Rattle.spec.specs.Blocks.{Kind, terminate, jump, jumpi, dynamic-jump, dynamic-jumpi, Block, block, with-kind, Mode, opened, waiting, pushed, branching, jumping, Cut, JUMPDEST, JUMPI, JUMP, UNKNOWN, OTHER, ENDS, cut, closes, cuts, lands, checked, starts, check-all, blocks}
+use Rattle.spec.specs.Blocks.{Kind, terminate, jump, jumpi, dynamic-jump, dynamic-jumpi, Block, with-kind, Mode, opened, waiting, pushed, branching, jumping, Cut, JUMPDEST, JUMPI, JUMP, UNKNOWN, OTHER, ENDS, cut, closes, cuts, lands, checked, starts, blocks}
 use Rattle.spec.specs.Stacks.{Sym, before, constant, jumpdest, other, run}
-use Rattle.spec.specs.Search.{settled}
+use Rattle.spec.specs.Search.{settled, sides}
 use Rattle.theorems.proofs.Branch.{both}
-use Rattle.theorems.proofs.Members.{In, here, there, mem-in, in-map, and-both}
+use Rattle.theorems.proofs.Members.{In, here, there, in-only, in-cases, mem-in, in-map, and-both}
 use Rattle.theorems.proofs.Walking.{Walked, stops, steps, walked}
 use Rattle.theorems.proofs.Cutting.{made, starts-checked}
-use Rattle.parents.proofs.Goals.{Fits, Goes, run-goes}
+use Rattle.parents.proofs.Goals.{Goes, run-goes}
 
 -- the sides of a kind are at most n
 abbrev pub Within : ℕ → Kind → Type 0
@@ -117,3 +118,15 @@ settled-within n m (some (jumpdest t)) (dynamic-jumpi f) h w = (omega arith, w)
 pub node-within : (code : List ℕ) {b : Block} → In b (blocks code (instructions code))
     → Within (length code) (settled (run code (instructions code) (b .start) .goes) (b .kind))
 node-within code {b} i = settled-within (length code) (17 * length code + 17) (run code (instructions code) (b .start) .goes) (b .kind) (run-goes code i) (block-within code i)
+
+pub sides-within : (n : ℕ) (k : Kind) → Within n k → {t : ℕ} → In t (sides k) → t ≤ n
+sides-within n (terminate success) h i = elim i [ ]
+sides-within n (jump u) h i = omega (arith, in-only i)
+sides-within n (jumpi u f) h {t} i =
+    both (λ (l : List ℕ). In t l → t ≤ n) (eqb u f) (λ _ j. omega (arith, in-only j, h .0)) (λ _ j. one (in-cases (u ∷ []) j)) i
+  where
+    one : In t (u ∷ []) ⊎ In t (f ∷ []) → t ≤ n
+    one (inl j) = omega (arith, in-only j, h .0)
+    one (inr j) = omega (arith, in-only j, h .1)
+sides-within n dynamic-jump h i = elim i [ ]
+sides-within n (dynamic-jumpi f) h i = omega (arith, in-only i)

@@ -1,18 +1,15 @@
 -- What the small functions write and read. Assumes nothing.
 use mathlib.Core.Path.{_≡_, refl, sym, ap, _∙_}
-use mathlib.Core.Bool.{Bool, true, false}
 use mathlib.Core.List.{List}
-use mathlib.Core.Option.{Option, none, some}
-use Prim.Native.Nat.{ℕ, _+_, _-_, _*_, _/_, _%_, _≤_, _<_}
-use native.Mathlib.Nat.{add-assoc}
+use mathlib.Core.Option.{none, some}
+use Prim.Native.Nat.{ℕ, _+_, _-_, _*_, _≤_, _<_}
 use native.Mathlib.Omega.{arith}
-use lib.Dec.{eqb, ltb}
-use lib.ListN.{length}
+use lib.Dec.{ltb}
 use borrow.Author.Tests.{eq-eqb, ne-eqb, lt-ltb, le-ltb}
-use Rattle.spec.specs.Lists.{if, little}
+use Rattle.spec.specs.Lists.{little}
 use Rattle.spec.specs.Walk.{instructions}
 use Rattle.spec.specs.Stacks.{run}
-use Rattle.lent.specs.Bytes.{numAt, patch, Holds, Stored}
+use Rattle.lent.specs.Bytes.{numAt, Holds, Stored}
 use Rattle.theorems.proofs.Branch.{if-true, if-false}
 use Rattle.initial.specs.Rows.{typed, tagAt, typeAt}
 use Rattle.initial.specs.Contracts.{TypeIs, Put}
@@ -24,9 +21,8 @@ use Rattle.state.specs.declared.run.Goes.the-variants.{To, Nowhere}
 use Rattle.state.specs.declared.run.Own.{Own}
 use Rattle.lent.proofs.Parts.{take-less}
 use Rattle.initial.specs.declared.row.BlockType.{BlockType}
-use Rattle.parents.specs.Links.{firstAt, startOf, nextAt}
-use Rattle.parents.specs.Writes.{link, linkSides, takeTurn, staticType, place, headPast, goesAt}
-use Rattle.parents.specs.Contracts.{scratch, Sides, LinkRoom, Wrote, Settles, Ran, Settled, Placed, Number, Link}
+use Rattle.parents.specs.Writes.{link, linkSides, takeTurn, staticType, place, goesAt}
+use Rattle.parents.specs.Contracts.{scratch, Sides, LinkRoom, Wrote, Settles, Ran, Settled, Placed, Number}
 
 pub number-is : {k at r : ℕ} {w : List ℕ} → Holds k w at r → Number r (numAt k w at) k
 number-is h = record { is = h .is; small = h .small }

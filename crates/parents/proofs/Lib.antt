@@ -7,3 +7,4 @@ pub mod Settling
 pub mod Pass
 pub mod Chains
 pub mod Ends
+pub mod Knows

@@ -1,11 +1,10 @@
 -- A run of bytes that is stored within a part is a patch of the part. Assumes nothing.
-use mathlib.Core.Path.{_≡_, refl, sym, ap, ap₂, _∙_}
+use mathlib.Core.Path.{_≡_, sym, ap₂, _∙_}
 use mathlib.Core.List.{List, _++_}
-use Prim.Native.Nat.{ℕ, _+_, _≤_, _<_}
-use native.Mathlib.Nat.{add-assoc}
+use Prim.Native.Nat.{ℕ, _+_, _≤_}
 use native.Mathlib.Omega.{arith}
 use lib.ListN.{length, take, drop, length-take}
-use lib.Seq.{drop-append-le, drop-drop, take-add}
+use lib.Seq.{drop-append-le, drop-drop}
 use Rattle.lent.specs.Bytes.{patch, Stored}
 use Rattle.lent.proofs.Parts.{part-of-take}
 use Rattle.lent.proofs.Patch.{take-patch-past}

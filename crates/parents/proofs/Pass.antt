@@ -1,35 +1,34 @@
 -- The pass over the rows, from the last to the first: those from an address on are prepared, and the others hold their blocks as they did. Assumes nothing.
-use mathlib.Core.Path.{_≡_, refl, sym, ap, ap₂, _∙_, subst}
-use mathlib.Core.Bool.{Bool, true, false}
-use mathlib.Core.Option.{Option, none, some}
-use mathlib.Core.List.{List, [], _∷_, _++_, map, map-append}
-use Prim.Native.Nat.{ℕ, zero, suc, _+_, _-_, _*_, _/_, _%_, _≤_, _<_}
+use mathlib.Core.Path.{_≡_, refl, ap, _∙_, subst}
+use mathlib.Core.Bool.{true, false}
+use mathlib.Core.Option.{Option}
+use mathlib.Core.List.{List, [], _∷_, _++_, map-append}
+use Prim.Native.Nat.{ℕ, zero, suc, _+_, _-_, _*_, _≤_, _<_}
 use native.Mathlib.Omega.{arith}
-use native.Mathlib.Decide.{ℕ-discrete, decLe}
+use native.Mathlib.Decide.{ℕ-discrete}
 use native.Mathlib.Nat.{add-zero, sub-self}
-use native.Mathlib.Numerals.{add-one}
-use lib.Dec.{eqb, ltb}
-use lib.ListN.{length, take, drop, replicate}
+use lib.Dec.{eqb}
+use lib.ListN.{length, replicate}
 use Rattle.spec.specs.Lists.{if, little}
-use Rattle.spec.specs.Walk.{walk, instructions, from}
+use Rattle.spec.specs.Walk.{instructions}
 use Rattle.spec.specs.Blocks.{Kind, terminate, jump, jumpi, dynamic-jump, dynamic-jumpi, Block, block, blocks}
-use Rattle.spec.specs.Stacks.{Sym, Stack, run}
+use Rattle.spec.specs.Stacks.{Sym, run}
 use Rattle.spec.specs.Search.{Node, settled, node, nodes, takers}
 use Rattle.lent.specs.Bytes.{numAt}
 use Rattle.lent.proofs.Numbers.{num-within}
 use Rattle.theorems.proofs.Branch.{both}
 use Rattle.theorems.proofs.Members.{In}
-use Rattle.theorems.proofs.Cutting.{Made, made, block-afresh}
-use Rattle.initial.specs.Rows.{typed, typeOf, tagAt, typeAt, kindAt, blockAt, rowBlocks, blocksFrom, blocksAt, Laid}
+use Rattle.theorems.proofs.Cutting.{made, block-afresh}
+use Rattle.initial.specs.Rows.{typed, typeOf, tagAt, typeAt, kindAt, blockAt, rowBlocks, blocksFrom}
 use Rattle.initial.proofs.Types.{Good, good}
 use Rattle.initial.proofs.Rows.{here-empty, here-block, by-row, from-one, block-in}
 use Rattle.initial.specs.declared.row.BlockType.{BlockType}
 use Rattle.parents.specs.Rows.{ownBytes, linkBytes, turnsOf, firstTaker, takerPast, edgeTo, firstTo, ownOf, linksOf, nodesHere, nodesFrom}
-use Rattle.parents.specs.Writes.{linkSides, place, headPast, goesAt}
-use Rattle.parents.specs.Contracts.{scratch, Lent, Beside, Sides, Wrote, Settles, Settled}
+use Rattle.parents.specs.Writes.{linkSides, place, goesAt}
+use Rattle.parents.specs.Contracts.{Lent, Beside, Sides, Wrote, Settles, Settled}
 use Rattle.parents.proofs.Falls.{Within, block-within, node-within}
-use Rattle.parents.proofs.Slots.{own, first, links, own-tag, own-type, Rows, rows-ran, rows-sides, rows-placed, ownPlaced, linksPlaced}
-use Rattle.parents.proofs.Settling.{none-own, none-links, first-zero, block-own, block-links, nodeOf, looks, settles}
+use Rattle.parents.proofs.Slots.{own, first, links, own-type, Rows, rows-ran, rows-sides, rows-placed}
+use Rattle.parents.proofs.Settling.{none-own, none-links, first-zero, block-own, block-links, looks, settles}
 
 -- the block that starts at an address, with its own run
 abbrev pub nodeAt : List ℕ → List ℕ → ℕ → Node

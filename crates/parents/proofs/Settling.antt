@@ -1,23 +1,21 @@
 -- What stands in a row before the first stage, and what a block's own run makes of it. Assumes nothing.
-use mathlib.Core.Path.{_≡_, refl, sym, ap, _∙_}
-use mathlib.Core.Bool.{Bool, true, false}
+use mathlib.Core.Path.{_≡_, refl, ap, _∙_}
+use mathlib.Core.Bool.{true, false}
 use mathlib.Core.Option.{Option, none, some}
-use mathlib.Core.List.{List, [], _∷_, _++_}
-use Prim.Native.Nat.{ℕ, suc, _+_, _-_, _*_, _/_, _%_, _≤_, _<_}
+use mathlib.Core.List.{List, [], _∷_}
+use Prim.Native.Nat.{ℕ, _+_, _*_, _/_, _%_, _≤_, _<_}
 use native.Mathlib.Nat.{add-zero, zero-add}
 use native.Mathlib.Omega.{arith}
-use lib.Dec.{eqb, ltb}
-use lib.ListN.{length, take, drop, replicate}
+use lib.Dec.{ltb}
+use lib.ListN.{take, drop, replicate}
 use Rattle.spec.specs.Lists.{if, little}
-use Rattle.spec.specs.Walk.{instructions}
-use Rattle.spec.specs.Blocks.{Kind, terminate, jump, jumpi, dynamic-jump, dynamic-jumpi, Block, block, blocks}
-use Rattle.spec.specs.Stacks.{Sym, before, constant, jumpdest, other, Stack, Ran}
-use Rattle.spec.specs.Search.{Node, settled, node, Taker, taker, takes, takers}
+use Rattle.spec.specs.Blocks.{Kind, terminate, jump, jumpi, dynamic-jump, dynamic-jumpi, Block, block}
+use Rattle.spec.specs.Stacks.{Sym, before, constant, jumpdest, other, Stack}
+use Rattle.spec.specs.Search.{Node, settled, node, takers}
 use Rattle.lent.proofs.Parts.{part-within}
-use Rattle.initial.specs.Rows.{typeOf, tagAt, blockAt, rowBlocks, rowOf, blocksAt, Laid}
-use Rattle.initial.proofs.Rows.{here-empty, here-block}
+use Rattle.initial.specs.Rows.{typeOf, rowBlocks, rowOf, Laid}
 use Rattle.parents.specs.Rows.{ownBytes, linkBytes, turnsOf, firstTaker, takerPast, ownOf}
-use Rattle.parents.specs.Writes.{staticType, headPast}
+use Rattle.parents.specs.Writes.{headPast}
 use Rattle.parents.proofs.Slots.{own, links, first, ownPlaced, linksPlaced}
 
 -- ---- a row as `initial_blocks` leaves it
@@ -66,29 +64,24 @@ pub record Settles (a e : ℕ) (k : Kind) (s : Stack) (g : Option Sym) (rs : Lis
   pub head-is : headPast a (looks k g) (firstTaker (takers rs)) ≡ firstTaker (takers (nodeOf a e k s g ∷ rs))
 
 -- a static kind stays
+static-stays : (g : Option Sym) (k : Kind) → typeOf k .kind < 5 → settled g k ≡ k
+static-stays none k h = refl
+static-stays (some (before p)) k h = refl
+static-stays (some (constant v)) k h = refl
+static-stays (some (other pc)) k h = refl
+static-stays (some (jumpdest t)) (terminate success) h = refl
+static-stays (some (jumpdest t)) (jump u) h = refl
+static-stays (some (jumpdest t)) (jumpi u f) h = refl
+static-stays (some (jumpdest t)) dynamic-jump h = absurd (omega arith)
+static-stays (some (jumpdest t)) (dynamic-jumpi f) h = absurd (omega arith)
+
 module _ (a e : ℕ) (s : Stack) (rs : List Node) where
   pub settles : (k : Kind) (g : Option Sym) → Settles a e k s g rs
   unfolding if
-  settles (terminate false) none = record { own-is = refl; links-are = refl; head-is = refl }
-  settles (terminate false) (some (before p)) = record { own-is = refl; links-are = refl; head-is = refl }
-  settles (terminate false) (some (constant v)) = record { own-is = refl; links-are = refl; head-is = refl }
-  settles (terminate false) (some (jumpdest t)) = record { own-is = refl; links-are = refl; head-is = refl }
-  settles (terminate false) (some (other pc)) = record { own-is = refl; links-are = refl; head-is = refl }
-  settles (terminate true) none = record { own-is = refl; links-are = refl; head-is = refl }
-  settles (terminate true) (some (before p)) = record { own-is = refl; links-are = refl; head-is = refl }
-  settles (terminate true) (some (constant v)) = record { own-is = refl; links-are = refl; head-is = refl }
-  settles (terminate true) (some (jumpdest t)) = record { own-is = refl; links-are = refl; head-is = refl }
-  settles (terminate true) (some (other pc)) = record { own-is = refl; links-are = refl; head-is = refl }
-  settles (jump u) none = record { own-is = refl; links-are = refl; head-is = refl }
-  settles (jump u) (some (before p)) = record { own-is = refl; links-are = refl; head-is = refl }
-  settles (jump u) (some (constant v)) = record { own-is = refl; links-are = refl; head-is = refl }
-  settles (jump u) (some (jumpdest t)) = record { own-is = refl; links-are = refl; head-is = refl }
-  settles (jump u) (some (other pc)) = record { own-is = refl; links-are = refl; head-is = refl }
-  settles (jumpi u f) none = record { own-is = refl; links-are = refl; head-is = refl }
-  settles (jumpi u f) (some (before p)) = record { own-is = refl; links-are = refl; head-is = refl }
-  settles (jumpi u f) (some (constant v)) = record { own-is = refl; links-are = refl; head-is = refl }
-  settles (jumpi u f) (some (jumpdest t)) = record { own-is = refl; links-are = refl; head-is = refl }
-  settles (jumpi u f) (some (other pc)) = record { own-is = refl; links-are = refl; head-is = refl }
+  settles (terminate false) g = let q = static-stays g (terminate false) (omega arith) in record { own-is = rw q; links-are = rw q; head-is = rw q }
+  settles (terminate true) g = let q = static-stays g (terminate true) (omega arith) in record { own-is = rw q; links-are = rw q; head-is = rw q }
+  settles (jump u) g = let q = static-stays g (jump u) (omega arith) in record { own-is = rw q; links-are = rw q; head-is = rw q }
+  settles (jumpi u f) g = let q = static-stays g (jumpi u f) (omega arith) in record { own-is = rw q; links-are = rw q; head-is = rw q }
   settles dynamic-jump none = record { own-is = refl; links-are = refl; head-is = refl }
   settles dynamic-jump (some (before p)) = record { own-is = refl; links-are = refl; head-is = refl }
   settles dynamic-jump (some (constant v)) = record { own-is = refl; links-are = refl; head-is = refl }

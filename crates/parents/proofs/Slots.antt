@@ -1,25 +1,25 @@
 -- The three parts of a row, and what each write does to them: own (12 bytes), first (2) and links (6). Assumes nothing.
-use mathlib.Core.Path.{_≡_, refl, sym, ap, ap₂, _∙_}
-use mathlib.Core.Bool.{Bool, true, false}
+use mathlib.Core.Path.{_≡_, refl, sym, ap, _∙_}
+use mathlib.Core.Bool.{true, false}
 use mathlib.Core.Option.{Option, none, some}
-use mathlib.Core.List.{List, [], _∷_, _++_}
-use Prim.Native.Nat.{ℕ, suc, _+_, _-_, _*_, _/_, _%_, _≤_, _<_}
+use mathlib.Core.List.{List}
+use Prim.Native.Nat.{ℕ, _+_, _-_, _*_, _/_, _%_, _≤_, _<_}
 use native.Mathlib.Nat.{add-zero, zero-add}
 use native.Mathlib.Omega.{arith}
 use native.Mathlib.Decide.{ℕ-discrete}
 use lib.Dec.{eqb}
 use lib.ListN.{length, take, drop}
-use borrow.Author.Tests.{eqb-true, eqb-false, eq-eqb, ne-eqb}
+use borrow.Author.Tests.{eq-eqb, ne-eqb}
 use Rattle.spec.specs.Lists.{if, little}
 use Rattle.spec.specs.Blocks.{Kind, terminate, jump, jumpi, dynamic-jump, dynamic-jumpi}
 use Rattle.spec.specs.Stacks.{Sym, before, constant, jumpdest, other}
 use Rattle.spec.specs.Search.{Node}
 use Rattle.lent.specs.Bytes.{number, numAt, patch, Stored}
-use Rattle.lent.proofs.Parts.{drop-more, part-prefix}
-use Rattle.lent.proofs.Numbers.{num-within, number-little, length-little}
+use Rattle.lent.proofs.Parts.{part-prefix}
+use Rattle.lent.proofs.Numbers.{num-within, number-little}
 use Rattle.lent.proofs.Stored.{stored, kept-drop, kept-part, read-all}
 use Rattle.theorems.proofs.Branch.{both, if-true, if-false}
-use Rattle.initial.specs.Rows.{typed, typeOf, tagAt, typeAt, headOf}
+use Rattle.initial.specs.Rows.{typeOf, tagAt, typeAt, headOf}
 use Rattle.initial.specs.declared.row.BlockType.{BlockType}
 use Rattle.parents.specs.Links.{firstAt}
 use Rattle.parents.specs.Rows.{ownBytes, linkBytes, edgeTo, firstTo, toPast, otherPast}

@@ -1,19 +1,19 @@
 -- What each function asks and promises, a record each. Assumes nothing.
 use mathlib.Core.Path.{_≡_}
-use mathlib.Core.List.{List, [], _∷_, map}
+use mathlib.Core.List.{List, map}
 use mathlib.Core.Option.{Option}
-use Prim.Native.Nat.{ℕ, suc, _+_, _-_, _*_, _^_, _≤_, _<_}
+use Prim.Native.Nat.{ℕ, _+_, _-_, _*_, _^_, _≤_, _<_}
 use lib.ListN.{length, take, drop}
 use Rattle.spec.specs.Walk.{walk, instructions, from}
-use Rattle.spec.specs.Blocks.{Block, blocks}
+use Rattle.spec.specs.Blocks.{blocks}
 use Rattle.spec.specs.Stacks.{Sym}
 use Rattle.spec.specs.Search.{Node, takers}
 use Rattle.spec.specs.Answer.{prepared}
 use Rattle.initial.specs.Rows.{tagAt, typeAt, blocksAt, Laid}
 use Rattle.initial.specs.declared.row.BlockType.{BlockType}
-use Rattle.parents.specs.Links.{positionAt, takerAt, firstAt, startOf, nextAt, Parents, Turn, turnOf, Takers, directTo, fromOf}
+use Rattle.parents.specs.Links.{firstAt, startOf, Parents, turnOf, Takers, directTo, fromOf}
 use Rattle.parents.specs.Rows.{rowFor}
-use Rattle.parents.specs.Writes.{linkSides, place, headPast, goesAt}
+use Rattle.parents.specs.Writes.{place, headPast, goesAt}
 
 -- ---- what is lent: the rows as `initial_blocks` leaves them, and past them a part for the runs, which ends at `end`
 
@@ -79,12 +79,16 @@ pub record Placed (w : List ℕ) (a : ℕ) (t : BlockType) (goes : Option Sym) (
 
 -- ---- the whole
 
--- the blocks of the code are prepared for the search; r is the link to the first that takes turns
+-- what the rows say of the code: its blocks after the first stage, those that take turns, from the link `head` on, and the direct parents of each address
+pub record Known (code w : List ℕ) (head : ℕ) : Type 0 where
+  pub blocks : blocksAt w (length code) ≡ map (λ (x : Node). x .block) (prepared code)
+  pub takers : Takers w (length code) head (map turnOf (takers (prepared code)))
+  pub parents : (t : ℕ) → t ≤ length code → Parents w (length code) (firstAt w t) (map fromOf (directTo t (prepared code)))
+
+-- the blocks of the code are prepared for the search: every byte of the rows, and what they say; r is the link to the first block that takes turns
 pub record Prepared (code w : List ℕ) (end : ℕ) (w′ : List ℕ) (r : ℕ) : Type 0 where
   pub row : (a : ℕ) → a ≤ length code → take 20 (drop (20 * a) w′) ≡ rowFor code w a
-  pub blocks : blocksAt w′ (length code) ≡ map (λ (x : Node). x .block) (prepared code)
-  pub takers : Takers w′ (length code) r (map turnOf (takers (prepared code)))
-  pub parents : (t : ℕ) → t ≤ length code → Parents w′ (length code) (firstAt w′ t) (map fromOf (directTo t (prepared code)))
+  pub known : Known code w′ r
   pub beside : Beside code w end w′
 
 -- ---- the readers

@@ -1,7 +1,7 @@
 -- The lists that are linked through the rows of W: the blocks that take turns, and the direct parents of each address. A link is 0 where nothing follows.
 -- Assumes nothing.
 use mathlib.Core.List.{List, [], _∷_}
-use Prim.Native.Nat.{ℕ, suc, _+_, _-_, _*_, _/_, _%_, _≤_}
+use Prim.Native.Nat.{ℕ, _+_, _-_, _*_, _/_, _%_, _≤_}
 use Rattle.spec.specs.Lists.{lastOf, keep}
 use Rattle.spec.specs.Search.{Node, Taker, Parent, direct}
 use Rattle.lent.specs.Bytes.{numAt}
@@ -9,10 +9,7 @@ use lib.Dec.{eqb}
 
 -- ---- a row's fields past its block
 
--- 1 where the block takes turns, and the position that it asks for
-abbrev pub turnAt : List ℕ → ℕ → ℕ
-turnAt w a = numAt 1 w (20 * a + 1)
-
+-- the position that the block asks for, where it takes turns
 abbrev pub positionAt : List ℕ → ℕ → ℕ
 positionAt w a = numAt 4 w (20 * a + 8)
 

@@ -1,15 +1,13 @@
 -- What the functions write into W. Assumes nothing.
-use mathlib.Core.Path.{_≡_}
 use mathlib.Core.List.{List}
 use mathlib.Core.Option.{Option, none, some}
-use Prim.Native.Nat.{ℕ, _+_, _*_, _≤_, _<_}
+use Prim.Native.Nat.{ℕ, _+_, _*_}
 use lib.Dec.{eqb, ltb}
-use lib.ListN.{length, take, drop}
 use Rattle.spec.specs.Lists.{if, little}
 use Rattle.spec.specs.Walk.{instructions}
 use Rattle.spec.specs.Stacks.{Sym, before, constant, jumpdest, other, run}
 use Rattle.lent.specs.Bytes.{numAt, patch}
-use Rattle.initial.specs.Rows.{typed, tagAt, typeAt, headOf}
+use Rattle.initial.specs.Rows.{typed, tagAt, headOf}
 use Rattle.initial.specs.declared.row.BlockType.{BlockType}
 use Rattle.parents.specs.Links.{firstAt}
 

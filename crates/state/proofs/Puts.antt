@@ -62,3 +62,12 @@ wrote-more {xs = xs} {x = x} at n p q =
 
 pub wrote-cells : {b d : List ℕ} {xs : List Sym} {at n : ℕ} → Wrote n b at xs d → Cells d at n
 wrote-cells {at = at} {n = n} p = record { fits = omega (arith, p .stored .fits, p .stored .kept); are = read-all (p .stored) ∙ ap cellsOf (sym (p .reads)) }
+
+pub wrote-join : {b d e : List ℕ} {xs ys : List Sym} (at m n : ℕ) → Wrote m b at xs d → Wrote n d (at + 9 * m) ys e → Wrote (m + n) b at (xs ++ ys) e
+wrote-join {d = d} {e = e} {xs = xs} {ys = ys} at m n p q =
+    let k : 9 * (m + n) ≡ 9 * m + 9 * n = omega arith in
+    let first : symsAt e at m ≡ symsAt d at m = syms-within e d at at m (kept-part (q .stored) (9 * m) at (λ h. omega arith)) in
+    record {
+      stored = rw (k, cells-append) (stored-join (p .stored) (q .stored));
+      reads = rw (syms-add e at m n, q .reads, first, p .reads);
+    }

@@ -132,16 +132,19 @@ module _ {b : List ℕ} {at n : ℕ} {s : Stack} (l : Lies b at n s) (k : ℕ) w
       let d : k - (n - 1) ≡ k - length (s .above) = omega arith in
       rw (e, d) (sym (reads-below (s .above) (s .base) k (omega arith)))
 
--- ---- what symbol_at gives
+-- ---- the ways out of base_at and symbol_at
+
+pub base-is : (b : List ℕ) (at n v : ℕ) → Holds 8 b (at + 9 * (n - 1) + 1) v → v ≡ stackAt b at n .base
+unfolding stackAt
+base-is b at n v e = e .is ∙ sym (value-at b (at + 9 * (n - 1)))
 
 module _ {b : List ℕ} {at n : ℕ} (r : State b at n) (k : ℕ) where
   pub symbol-inside : (x : Sym) → k < n → x ≡ symAt b (at + 9 * k) → x ≡ read (stackAt b at n) k
   symbol-inside x h e = e ∙ lies-read (state-lies b at n r) k h
 
-  pub symbol-below : {v : ℕ} → n ≤ k → Holds 8 b (at + 9 * (n - 1) + 1) v → before (v + (k - (n - 1))) ≡ read (stackAt b at n) k
-  unfolding stackAt
-  symbol-below h e = lies-below (state-lies b at n r) k h (e .is ∙ sym (value-at b (at + 9 * (n - 1))))
+  module _ {v : ℕ} (e : v ≡ stackAt b at n .base) where
+    pub symbol-below : n ≤ k → before (v + (k - (n - 1))) ≡ read (stackAt b at n) k
+    symbol-below h = lies-below (state-lies b at n r) k h e
 
-  pub symbol-fits : {v : ℕ} → reach (stackAt b at n) + k ≤ 2 ^ 64 → Holds 8 b (at + 9 * (n - 1) + 1) v → v + (k - (n - 1)) < 2 ^ 64
-  unfolding stackAt
-  symbol-fits h e = omega (arith, e .is, value-at b (at + 9 * (n - 1)), reach-is (stackAt b at n))
+    pub symbol-fits : reach (stackAt b at n) + k ≤ 2 ^ 64 → v + (k - (n - 1)) < 2 ^ 64
+    symbol-fits h = omega (arith, reach-is (stackAt b at n))

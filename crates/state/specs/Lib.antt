@@ -5,3 +5,5 @@ pub mod Steps
 pub mod Bounds
 pub mod Owns
 pub mod Stored
+pub mod Composed
+pub mod Compared

@@ -1,7 +1,9 @@
 // The symbolic stack of a block, and composing it with a parent, over lent bytes.
 mod cell;
+pub mod compose;
 pub mod read;
 pub mod run;
+pub mod same;
 mod step;
 mod swap;
 pub mod sym;

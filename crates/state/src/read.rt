@@ -5,8 +5,16 @@ use lent::get64;
 ghost use mathlib.Core.Path.{_≡_};
 ghost use Rattle.spec.specs.Stacks.{read};
 ghost use Rattle.state.specs.Symbols.{symOf};
-ghost use Rattle.state.specs.Cells.{stackAt};
+ghost use Rattle.state.specs.Cells.{stackAt, State};
 ghost use Rattle.state.specs.Stored.{Readable};
+
+// The number of the Before at the bottom of the state in the n cells from `at` on.
+pub fn base_at(b: &[u8], at: usize, n: usize) -> usize
+    requires { ⌜ State (now b) at n ⌝ }
+    ensures { λ r. ⌜ r ≡ stackAt (now (b .entry)) at n .base ⌝ }
+{
+    get64(b, at + 9 * (n - 1) + 1)
+}
 
 // The symbol at a position of the state in the n cells from `at` on; below the cells the numbering goes on. The bottom is always a Before, since a
 // State is asked for: there is nothing to panic at.
@@ -17,6 +25,5 @@ pub fn symbol_at(b: &[u8], at: usize, n: usize, position: usize) -> StackSym
     if position < n {
         return get_cell(b, at + 9 * position);
     }
-    let base = get64(b, at + 9 * (n - 1) + 1);
-    StackSym::Before(base + (position - (n - 1)))
+    StackSym::Before(base_at(b, at, n) + (position - (n - 1)))
 }

@@ -1,5 +1,4 @@
 use Rattle.parents.proofs.Leaves.{static-jump, static-jumpi}
-use borrow.Author.Needs.{needs}
 use Rattle.parents.proofs.settle.static_type.Statement.{statement}
 use Rattle.parents.proofs.settle.static_type.Tie as tie
 

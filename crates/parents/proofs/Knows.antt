@@ -1,0 +1,142 @@
+-- What the search takes from the rows: it depends on them alone, and says which takers and which parents they are. Assumes nothing.
+use mathlib.Core.Path.{_≡_, refl, sym, ap, ap₂, _∙_}
+use mathlib.Core.Option.{Option, some}
+use mathlib.Core.List.{List, [], _∷_, map}
+use Prim.Native.Nat.{ℕ, _+_, _*_, _≤_, _<_}
+use native.Mathlib.Omega.{arith}
+use lib.Dec.{eqb}
+use lib.ListN.{length, take, drop}
+use borrow.Author.Tests.{eqb-true}
+use Rattle.spec.specs.Walk.{walk, instructions, from}
+use Rattle.spec.specs.Blocks.{Block, blocks}
+use Rattle.spec.specs.Stacks.{Sym, before, Stack, Ran, run}
+use Rattle.spec.specs.Search.{Node, node, Taker, takes, takers, sides, Parent, parent, direct}
+use Rattle.spec.specs.Answer.{prepared}
+use Rattle.lent.proofs.Numbers.{num-prefix}
+use Rattle.theorems.proofs.Members.{In, here, there, in-keep, in-gather, in-map}
+use Rattle.theorems.proofs.Cutting.{block-afresh}
+use Rattle.initial.proofs.Rows.{blocks-prefix}
+use Rattle.parents.specs.Links.{Turn, turnOf, directTo, fromOf}
+use Rattle.parents.specs.Contracts.{Known}
+use Rattle.parents.proofs.Goals.{Goes, run-goes}
+use Rattle.parents.proofs.Falls.{node-within, sides-within}
+use Rattle.parents.proofs.Chains.{parents-prefix, takers-prefix, Shape, takes-none, takes-one, shape}
+
+-- all of it depends on the rows alone
+pub known-prefix : {code w : List ℕ} {head : ℕ} (v : List ℕ) → take (20 * (length code + 1)) w ≡ take (20 * (length code + 1)) v → Known code w head → Known code v head
+known-prefix {code} {w} v e k =
+    let n : ℕ = length code in
+    record {
+      blocks = sym (blocks-prefix w v n e) ∙ k .blocks;
+      takers = takers-prefix w v n e (k .takers);
+      parents = λ t h. rw (sym (num-prefix w v (20 * (n + 1)) e 2 (20 * t + 12) (omega arith))) (parents-prefix w v n e (k .parents t h));
+    }
+
+-- a list is made of what a function keeps of each element
+map-again : {A B : Type 0} (f : A → B) (g : B → A) (xs : List A) → ((x : A) → In x xs → g (f x) ≡ x) → xs ≡ map g (map f xs)
+map-again f g [] h = refl
+map-again {A} f g (x ∷ xs) h = ap₂ {C = List A} (λ (y : A) (ys : List A). y ∷ ys) (sym (h x here)) (map-again f g xs (λ y i. h y (there i)))
+
+module _ (code : List ℕ) where
+  -- a taker by its start and position, and a parent of t by its start: each with its block's own stack
+  abbrev pub takerOf : Turn → Taker
+  takerOf k = record { start = k .start; position = k .position; first = run code (instructions code) (k .start) .stack }
+
+  abbrev pub parentOf : ℕ → ℕ → Parent
+  parentOf t a = parent t (a ∷ []) (run code (instructions code) a .stack)
+
+  -- a block of the code, and the node that is prepared of it
+  record Prepares (r : Node) : Type 0 where
+    from-block : Block
+    there : In from-block (blocks code (instructions code))
+    is : r ≡ node from-block (run code (instructions code) (from-block .start))
+
+  prepares : {r : Node} → In r (prepared code) → Prepares r
+  unfolding prepared
+  prepares i =
+      let g = in-map (λ (b : Block). node b (run code (instructions code) (b .start))) (blocks code (instructions code)) i in
+      record { from-block = g .0; there = g .1; is = g .2 }
+
+  from-node : {r : Node} → In r (prepared code) → r .own ≡ run code (instructions code) (r .block .start)
+  from-node i = rw (prepares i .is)
+
+  -- the walk of the code comes to each start, as a run of the block asks
+  abbrev pub Comes : ℕ → Type 0
+  Comes a = from a (instructions code) ≡ walk (drop a code) a 0
+
+  pub node-comes : {r : Node} → In r (prepared code) → Comes (r .block .start)
+  node-comes i = let g = prepares i in rw (g .is) (block-afresh code (g .there))
+
+  -- ---- the blocks that take turns
+
+  record Takes (r : Node) (k : Taker) : Type 0 where
+    start : k .start ≡ r .block .start
+    first : k .first ≡ r .own .stack
+    goes : r .own .goes ≡ some (before (k .position))
+
+  shaped : {r : Node} {ks : List Taker} {k : Taker} → Shape r ks → In k ks → Takes r k
+  shaped takes-none i = elim i [ ]
+  shaped (takes-one p g) here = record { start = refl; first = refl; goes = g }
+  shaped (takes-one p g) (there i) = elim i [ ]
+
+  taken : {k : Taker} → In k (takers (prepared code)) → (r : Node) × In r (prepared code) × Takes r k
+  taken i =
+      let g = in-gather (λ (r : Node). takes r (r .block .kind)) (prepared code) i in
+      (g .0, g .1, shaped (shape (g .0) (g .0 .block .kind)) (g .2))
+
+  pub takers-again : takers (prepared code) ≡ map takerOf (map turnOf (takers (prepared code)))
+  takers-again = map-again turnOf takerOf (takers (prepared code)) made
+    where
+      same : (k : Taker) (s : Stack) → k .first ≡ s → s ≡ run code (instructions code) (k .start) .stack → takerOf (turnOf k) ≡ k
+      same k s e f = rw (← f, ← e)
+
+      made : (k : Taker) → In k (takers (prepared code)) → takerOf (turnOf k) ≡ k
+      made k i =
+          let g = taken i in
+          same k (g .0 .own .stack) (g .2 .first)
+          (ap (λ (o : Ran). o .stack) (from-node (g .1)) ∙ ap (λ (a : ℕ). run code (instructions code) a .stack) (sym (g .2 .start)))
+
+  pub taker-comes : {k : Taker} → In k (takers (prepared code)) → Comes (k .start)
+  taker-comes i = let g = taken i in rw (g .2 .start) (node-comes (g .1))
+
+  pub taker-near : {k : Taker} → In k (takers (prepared code)) → k .position < 17 * length code + 17
+  taker-near i = let g = taken i in let b = prepares (g .1) in near (ap (λ (r : Node). r .own .goes) (sym (b .is)) ∙ g .2 .goes) (run-goes code (b .there))
+    where
+      near : {o : Option Sym} {p : ℕ} → o ≡ some (before p) → Goes (length code) (17 * length code + 17) o → p < 17 * length code + 17
+      near e h = rw e at h
+
+  -- ---- the direct parents
+
+  record Leads (p : Parent) : Type 0 where
+    by : Node
+    there : In by (prepared code)
+    side : ℕ
+    has : In side (sides (by .block .kind))
+    is : p ≡ parent side (by .block .start ∷ []) (by .own .stack)
+
+  leads : {p : Parent} → In p (direct (prepared code)) → Leads p
+  leads {p} i =
+      let g = in-gather (λ (r : Node). map (λ (u : ℕ). parent u (r .block .start ∷ []) (r .own .stack)) (sides (r .block .kind))) (prepared code) i in
+      let m = in-map (λ (u : ℕ). parent u (g .0 .block .start ∷ []) (g .0 .own .stack)) (sides (g .0 .block .kind)) (g .2) in
+      record { by = g .0; there = g .1; side = m .0; has = m .1; is = m .2 }
+
+  pub direct-within : {p : Parent} → In p (direct (prepared code)) → p .to ≤ length code
+  direct-within i =
+      let d = leads i in
+      let b = prepares (d .there) in
+      omega (arith, ap (λ (q : Parent). q .to) (d .is), sides-within (length code) (d .by .block .kind) (rw (b .is) (node-within code (b .there))) (d .has))
+
+  pub direct-comes : {p : Parent} → In p (direct (prepared code)) → Comes (fromOf p)
+  direct-comes i = let d = leads i in rw (d .is) (node-comes (d .there))
+
+  pub parents-again : (t : ℕ) → directTo t (prepared code) ≡ map (parentOf t) (map fromOf (directTo t (prepared code)))
+  parents-again t = map-again fromOf (parentOf t) (directTo t (prepared code)) made
+    where
+      same : (p : Parent) (u a : ℕ) (s : Stack) → p ≡ parent u (a ∷ []) s → t ≡ u → s ≡ run code (instructions code) a .stack → parentOf t (fromOf p) ≡ p
+      same p u a s e f g = rw (e, f, g)
+
+      made : (p : Parent) → In p (directTo t (prepared code)) → parentOf t (fromOf p) ≡ p
+      made p i =
+          let k = in-keep (λ (q : Parent). eqb t (q .to)) (direct (prepared code)) i in
+          let d = leads (k .1) in
+          same p (d .side) (d .by .block .start) (d .by .own .stack) (d .is) (eqb-true t (p .to) (k .0) ∙ ap (λ (q : Parent). q .to) (d .is)) (ap (λ (o : Ran). o .stack) (from-node (d .there)))

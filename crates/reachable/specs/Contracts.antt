@@ -1,0 +1,107 @@
+-- What each function asks and promises, a record each. Assumes nothing.
+use mathlib.Core.Path.{_≡_}
+use mathlib.Core.Bool.{true, not, _&&_, _||_}
+use mathlib.Core.List.{List, [], _∷_}
+use Prim.Native.Nat.{ℕ, _+_, _*_, _≤_, _<_}
+use lib.Dec.{eqb}
+use lib.ListN.{length, take, drop, replicate}
+use Rattle.spec.specs.Lists.{if, mem, little}
+use Rattle.spec.specs.Reach.{closure}
+use Rattle.lent.specs.Bytes.{Stored, patch}
+use Rattle.reachable.specs.Marks.{markAt, flagAt, flagged, entries, wiped, remark}
+use Rattle.reachable.specs.Edges.{sidesAt, rowEdges}
+
+-- ---- what is asked
+
+-- a code of n bytes is taken, and W is not short
+pub record Room (n : ℕ) (w : List ℕ) : Type 0 where
+  pub short : n ≤ 24576
+  pub room : 64 * n + 256 ≤ length w
+
+-- an address with the room that its fields have
+pub record Address (n : ℕ) (w : List ℕ) (a : ℕ) : Type 0 where
+  pub lent : Room n w
+  pub inside : a ≤ n
+
+-- every side of every row is an address
+pub record SidesWithin (w : List ℕ) (n : ℕ) : Type 0 where
+  pub within : (x t : ℕ) → x ≤ n → mem t (sidesAt w x) ≡ true → t ≤ n
+
+-- the flagged addresses have their sides among them
+pub record Closed (w : List ℕ) (n : ℕ) : Type 0 where
+  pub sides : (x t : ℕ) → mem x (flagged w n) ≡ true → mem t (sidesAt w x) ≡ true → mem t (flagged w n) ≡ true
+
+-- ---- what stays: all but the marks, the flags and the worklist
+
+pub record Kept (n : ℕ) (w w′ : List ℕ) : Type 0 where
+  pub rows : take (20 * (n + 1)) w′ ≡ take (20 * (n + 1)) w
+  pub fields : (a : ℕ) → a ≤ n → take 14 (drop (20 * (n + 1 + a) + 4) w′) ≡ take 14 (drop (20 * (n + 1 + a) + 4) w)
+  pub spare : (a : ℕ) → a ≤ n → take 1 (drop (20 * (n + 1 + a) + 19) w′) ≡ take 1 (drop (20 * (n + 1 + a) + 19) w)
+  pub beyond : drop (42 * (n + 1)) w′ ≡ drop (42 * (n + 1)) w
+  pub long : length w′ ≡ length w
+
+-- ---- marks
+
+-- every mark, flag and field of others is 0, and all else is as it was
+pub record Begun (n : ℕ) (w w′ : List ℕ) : Type 0 where
+  pub wipes : Stored (20 * (n + 1)) w (20 * (n + 1)) (replicate (20 * (n + 1)) 0) w′
+
+-- a mark is set where there is none
+pub record Marked (n : ℕ) (w : List ℕ) (a when : ℕ) (w′ : List ℕ) : Type 0 where
+  pub is : w′ ≡ if (eqb (markAt w n a) 0) (patch w (20 * (n + 1 + a)) (little 4 when)) w
+  pub long : length w′ ≡ length w
+
+-- ---- marks and flags together
+
+-- an address newly flagged has the flag 1, and a mark, if it had none; all other marks and flags stay
+pub record Sets (n when : ℕ) (w w′ : List ℕ) : Type 0 where
+  pub marks : (x : ℕ) → x ≤ n → markAt w′ n x ≡ remark when (mem x (flagged w n)) (mem x (flagged w′ n)) (markAt w n x)
+  pub flags : (x : ℕ) → x ≤ n → flagAt w′ n x ≡ remark 1 (mem x (flagged w n)) (mem x (flagged w′ n)) (flagAt w n x)
+
+-- a flagged address has the flag 1 and the mark 1, and any other 0 and 0
+pub record Fresh (n : ℕ) (w : List ℕ) : Type 0 where
+  pub marks : (x : ℕ) → x ≤ n → markAt w n x ≡ if (mem x (flagged w n)) 1 0
+  pub flags : (x : ℕ) → x ≤ n → flagAt w n x ≡ if (mem x (flagged w n)) 1 0
+
+-- ---- the worklist
+
+-- what following asks: the worklist has no more entries than there are flagged addresses
+pub record Going (n : ℕ) (w : List ℕ) (x when count : ℕ) : Type 0 where
+  pub at : Address n w x
+  pub small : when < 4294967296
+  pub few : count ≤ length (flagged w n)
+
+-- Some targets were taken, over what was got and what waited: those that are new wait.
+pub record More (ts old todo got todo′ : List ℕ) : Type 0 where
+  pub all : (y : ℕ) → mem y got ≡ mem y ts || mem y old
+  pub waits : (y : ℕ) → mem y todo′ ≡ (mem y got && not (mem y old)) || mem y todo
+
+-- Some targets were taken in W: those that were not flagged are now, are marked, and wait in the worklist.
+pub record Took (n when : ℕ) (ts w : List ℕ) (count : ℕ) (w′ : List ℕ) (count′ : ℕ) : Type 0 where
+  pub more : More ts (flagged w n) (entries w n count) (flagged w′ n) (entries w′ n count′)
+  pub sets : Sets n when w w′
+  pub number : count′ + length (flagged w n) ≡ count + length (flagged w′ n)
+  pub grew : length (flagged w n) ≤ length (flagged w′ n)
+  pub kept : Kept n w w′
+
+-- ---- the closure
+
+pub record Expands (n : ℕ) (w : List ℕ) (a when : ℕ) : Type 0 where
+  pub at : Address n w a
+  pub small : when < 4294967296
+  pub within : SidesWithin w n
+  pub closed : Closed w n
+
+-- One more address is expanded. The worklist's own bytes, 2 * (n + 1) of them from 40 * (n + 1) on, are scratch, and the one thing not said.
+pub record Expanded (n : ℕ) (w : List ℕ) (a when : ℕ) (w′ : List ℕ) : Type 0 where
+  pub reached : (x : ℕ) → mem x (flagged w′ n) ≡ mem x (closure (rowEdges w n) (a ∷ flagged w n))
+  pub sets : Sets n when w w′
+  pub closed : Closed w′ n
+  pub kept : Kept n w w′
+
+-- The search's start: what is reached from 0 is flagged and marked 1, all else of the marks, flags and others' fields is 0.
+pub record Reaches (n : ℕ) (w w′ : List ℕ) : Type 0 where
+  pub reached : (x : ℕ) → mem x (flagged w′ n) ≡ mem x (closure (rowEdges w n) (0 ∷ []))
+  pub fresh : Fresh n w′
+  pub closed : Closed w′ n
+  pub kept : Kept n (wiped n w) w′

@@ -1,0 +1,79 @@
+// The worklist, and what is followed from one address.
+use crate::fields::FLAG;
+use crate::fields::mark;
+use initial::row::DYNAMIC_JUMP;
+use initial::row::JUMP;
+use initial::row::JUMPI;
+use initial::row::ROW;
+use initial::row::type_at;
+use lent::get8;
+use lent::get16;
+use lent::put8;
+use lent::put16;
+ghost use mathlib.Core.Path.{_≡_};
+ghost use mathlib.Core.List.{[], _∷_};
+ghost use Prim.Native.Nat.{_+_, _*_, _-_, _≤_, _<_};
+ghost use Rattle.spec.specs.Lists.{little};
+ghost use Rattle.lent.specs.Bytes.{Stored};
+ghost use Rattle.reachable.specs.Marks.{entryAt};
+ghost use Rattle.reachable.specs.Edges.{sidesAt};
+ghost use Rattle.reachable.specs.Contracts.{Room, Going, SidesWithin, Took};
+
+// Where the worklist starts, over the number of addresses.
+pub const LIST: usize = 40;
+
+// The last entry of the worklist.
+pub fn last(w: &[u8], n: usize, count: usize) -> usize
+    requires { ⌜ Room n (now w) ⌝ }
+    requires { ⌜ (0 < count) × (count ≤ n + 1) ⌝ }
+    ensures { λ r. ⌜ r ≡ entryAt (now (w .entry)) n (count - 1) ⌝ }
+{
+    get16(w, LIST * (n + 1) + 2 * (count - 1))
+}
+
+// One more entry after so many.
+fn push(w: &mut [u8], n: usize, count: usize, x: usize)
+    requires { ⌜ Room n (now w) ⌝ }
+    requires { ⌜ count ≤ n ⌝ }
+    ensures { λ _. ⌜ Stored 2 (now (w .entry)) (40 * (n + 1) + 2 * count) (little 2 x) (now (w .exit)) ⌝ }
+{
+    put16(w, LIST * (n + 1) + 2 * count, x);
+}
+
+// Takes x: if it is not flagged it is, is marked, and waits in the worklist, whose number of entries is the answer.
+pub fn enter(w: &mut [u8], n: usize, x: usize, when: usize, count: usize) -> usize
+    requires { ⌜ Going n (now w) x when count ⌝ }
+    ensures { λ r. ⌜ Took n when (x ∷ []) (now (w .entry)) count (now (w .exit)) r ⌝ }
+{
+    let at = ROW * (n + 1 + x);
+    if get8(w, at + FLAG) != 0 {
+        return count;
+    }
+    put8(w, at + FLAG, 1);
+    mark(w, n, x, when);
+    push(w, n, count, x);
+    count + 1
+}
+
+// Takes the static sides of the block at x, of a DynamicJumpi the false side only.
+pub fn follow(w: &mut [u8], n: usize, x: usize, when: usize, count: usize) -> usize
+    requires { ⌜ Going n (now w) x when count ⌝ }
+    requires { ⌜ SidesWithin (now w) n ⌝ }
+    ensures { λ r. ⌜ Took n when (sidesAt (now (w .entry)) x) (now (w .entry)) count (now (w .exit)) r ⌝ }
+{
+    let t = type_at(w, x);
+    if t.kind < JUMP {
+        return count;
+    }
+    if t.kind == JUMP {
+        return enter(w, n, t.to, when, count);
+    }
+    if t.kind == JUMPI {
+        let more = enter(w, n, t.to, when, count);
+        return enter(w, n, t.other, when, more);
+    }
+    if t.kind == DYNAMIC_JUMP {
+        return count;
+    }
+    enter(w, n, t.other, when, count)
+}

@@ -1,0 +1,14 @@
+// What is reached: marks and flags in the lent buffer W, the closure under the blocks' static sides, and pruning's closure, each by a worklist.
+mod closure;
+mod fields;
+mod follow;
+mod link;
+mod pruning;
+
+pub use closure::expand;
+pub use closure::reach;
+pub use fields::begin;
+pub use fields::is_flagged;
+pub use fields::is_marked;
+pub use fields::mark;
+pub use pruning::prune;

@@ -1,0 +1,45 @@
+-- `map_kept` meets its contract. Assumes nothing.
+use Prim.Native.Nat.{_-_}
+use borrow.Author.Needs.{needs}
+use Rattle.state.specs.Cells.{stackAt}
+use Rattle.state.proofs.Composing.{Mapping, kept-none, kept-asks, kept-more, kept-done}
+use Rattle.state.proofs.compose.map_kept.Statement.{statement}
+use Rattle.state.proofs.compose.map_kept.Tie as tie
+
+abbrev Inv-loop : tie.InvT-loop
+Inv-loop s₀ child c to parent p i₀ s i = Mapping s₀ child c to (stackAt s₀ parent p) i s
+
+abbrev μ-loop : tie.MeasureT-loop
+μ-loop s₀ child c to parent p i₀ s i = c - i
+
+loop-holds : tie.Need-loop-holds Inv-loop μ-loop
+loop-holds c = search kept-none
+
+resolved-requires : tie.Need-resolved-requires Inv-loop μ-loop
+resolved-requires c κs = search kept-asks
+
+loop-again : tie.Need-loop-again Inv-loop μ-loop
+loop-again c = kept-more (c .before .before .before .before .before .before .before .before .before .before .before .pre) (c .before .before .before .before .before .before .before .before .before .loop .inv) (c .before .before .before .before .before .before .before .before .loop-test .taken) (c .before .before .before .before .before .before .get-cell .ensures) (c .before .before .before .before .resolved .ensures) (c .before .before .put-cell .ensures)
+
+returns : tie.Need-returns Inv-loop μ-loop
+returns c = search kept-done
+
+pub map-kept-spec : {M : Type 1} → statement M
+map-kept-spec =
+    tie.close
+    (tie.spec
+    Inv-loop
+    μ-loop
+    loop-holds
+    (λ c. search needs)
+    (λ c. search needs)
+    (λ c κs. search needs)
+    resolved-requires
+    (λ c. search needs)
+    (λ c. search needs)
+    (λ c κs. search needs)
+    (λ c. search needs)
+    (λ c. search needs)
+    loop-again
+    (λ c. search needs)
+    returns)
