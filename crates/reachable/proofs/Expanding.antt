@@ -16,7 +16,7 @@ use Rattle.reachable.proofs.Tests.{not-both}
 use Rattle.reachable.proofs.Seeds.{closure-round}
 use Rattle.reachable.proofs.Flags.{flagged-within}
 use Rattle.reachable.proofs.Frames.{kept-after}
-use Rattle.reachable.proofs.Rows.{edge-of, of-edge, sides-kept, edges-kept}
+use Rattle.reachable.proofs.Rows.{edge-of, of-edge, within-sides, sides-kept, edges-kept}
 use Rattle.reachable.proofs.Worklist.{work-closed, more-takes}
 use Rattle.reachable.proofs.Marks.{begun-marks, begun-flags, begun-flagged, begun-rows}
 use Rattle.reachable.proofs.Entering.{sets-fresh}
@@ -82,7 +82,7 @@ module _ {n : ℕ} {v w : List ℕ} (r : Room n v) (s : SidesWithin v n) (b : Be
   reach-expands = record {
     at = record { lent = record { short = r .short; room = omega (arith, r .room, b .wipes .kept) }; inside = omega arith };
     small = omega arith;
-    within = record { within = λ x t h i. s .within x t h (rw (sides-kept v w n (begun-rows b) x h) at i) };
+    within = within-sides (sides-kept v w n (begun-rows b)) s;
     closed = record { sides = λ x t h i. not-both (rw (begun-flagged b) at h) refl };
   }
 

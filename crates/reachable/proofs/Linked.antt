@@ -12,7 +12,7 @@ use Rattle.reachable.specs.Contracts.{Begun}
 use Rattle.reachable.specs.Pruning.{Chains, Links, Linked, Pruning, PrunedFrom, Prunes, RowsStay, LinkedBoth, Pruned}
 use Rattle.reachable.proofs.Flags.{flagged-none}
 use Rattle.reachable.proofs.Frames.{num-in, part-in}
-use Rattle.reachable.proofs.Rows.{sides-kept, edges-kept}
+use Rattle.reachable.proofs.Rows.{within-sides, sides-kept, edges-kept}
 use Rattle.reachable.proofs.Marks.{begun-num, begun-part, begun-rows}
 use Rattle.reachable.proofs.Entering.{sets-fresh}
 use Rattle.reachable.proofs.EdgeRows as rows
@@ -81,7 +81,7 @@ module _ {n m : ℕ} {w r w₁ : List ℕ} (p : Prunes n m w r) (b : Begun n w w
       pruning : Pruning n m w₃ r₂
       pruning = record {
         lent = record { short = p .lent .short; room = omega (arith, links-witnesses .lent .room, d .heads .long) };
-        within = record { within = λ x t h i. p .within .within x t h (rw (sides-kept w w₃ n same-rows x h) at i) };
+        within = within-sides (sides-kept w w₃ n same-rows) (p .within);
         rows = rows-kept (d .links) (links-witnesses .rows);
         places = places r₂ (λ i h. same i h .place);
         witnesses = witnesses r₂ (λ i h. same i h .witness);

@@ -8,7 +8,7 @@ use native.Mathlib.Omega.{arith}
 use lib.Dec.{eqb}
 use lib.ListN.{take}
 use borrow.Author.Tests.{eq-eqb, ne-eqb}
-use Rattle.spec.specs.Lists.{if, gather}
+use Rattle.spec.specs.Lists.{if, mem, gather}
 use Rattle.spec.specs.Blocks.{Block}
 use Rattle.spec.specs.Reach.{Edge, edge}
 use Rattle.spec.specs.Search.{Node, sides, edges}
@@ -16,7 +16,10 @@ use Rattle.theorems.proofs.Branch.{if-true, if-false}
 use Rattle.theorems.proofs.Members.{In, here, there, in-left, in-right, in-gather, in-map}
 use Rattle.initial.specs.Rows.{rowBlocks, tagAt, kindAt, blockAt, blocksAt}
 use Rattle.initial.proofs.Rows.{here-prefix, blocks-prefix, found, block-in}
+use Rattle.reachable.specs.Marks.{flagged}
 use Rattle.reachable.specs.Edges.{sidesAt, blockEdges, rowEdges}
+use Rattle.reachable.specs.Contracts.{SidesWithin, Closed}
+use Rattle.reachable.proofs.Flags.{flagged-within}
 
 pub gather-in : {A B : Type 0} (f : A → List B) {a : A} {b : B} {xs : List A} → In a xs → In b (f a) → In b (gather f xs)
 gather-in f (here {xs}) j = in-left j (gather f xs)
@@ -75,6 +78,19 @@ module _ (w : List ℕ) (n : ℕ) where
       split (no ne) =
           gather-in edges-from (block-in w n x h ne)
           (map-in (edge x x) (rw (sides-of w x ∙ if-false (eqb (tagAt w x) 0) [] (sides (kindAt w x)) (ne-eqb _ 0 ne)) at i))
+
+-- ---- sides that stay, whatever else of W changes
+
+module _ {w w′ : List ℕ} {n : ℕ} (e : (x : ℕ) → x ≤ n → sidesAt w′ x ≡ sidesAt w x) where
+  pub within-sides : SidesWithin w n → SidesWithin w′ n
+  within-sides s = record { within = λ x t h i. s .within x t h (rw (e x h) at i) }
+
+  pub closed-sides : flagged w′ n ≡ flagged w n → Closed w n → Closed w′ n
+  closed-sides f c = record {
+    sides = λ x t h i.
+      let was : mem x (flagged w n) ≡ true = rw f at h in
+      rw f (c .sides x t was (rw (e x (flagged-within w n x was)) at i));
+  }
 
 -- ---- rows that stay, and the search's edges
 

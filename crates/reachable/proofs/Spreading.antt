@@ -19,7 +19,7 @@ use Rattle.reachable.proofs.Tests.{mem-one}
 use Rattle.reachable.proofs.Seeds.{closure-test, closure-members}
 use Rattle.reachable.proofs.Flags.{flagged-within, flagged-few}
 use Rattle.reachable.proofs.Frames.{kept-none, kept-after}
-use Rattle.reachable.proofs.Rows.{sides-kept}
+use Rattle.reachable.proofs.Rows.{within-sides, sides-kept}
 use Rattle.reachable.proofs.Worklist.{Work, work-start, work-turn, work-done, more-keeps}
 use Rattle.reachable.proofs.Entering.{sets-none, sets-after}
 
@@ -38,7 +38,7 @@ pub room-kept : {n : ℕ} {w w′ : List ℕ} → Kept n w w′ → Room n w →
 room-kept k r = record { short = r .short; room = omega (arith, k .long, r .room) }
 
 pub within-kept : {n : ℕ} {w w′ : List ℕ} → Kept n w w′ → SidesWithin w n → SidesWithin w′ n
-within-kept {n} {w} {w′} k s = record { within = λ x t h i. s .within x t h (rw (sides-kept w w′ n (k .rows) x h) at i) }
+within-kept {n} {w} {w′} k = within-sides (sides-kept w w′ n (k .rows))
 
 -- ---- the start: seeds over a closed set
 

@@ -99,7 +99,7 @@ pub record Expanded (n : ℕ) (w : List ℕ) (a when : ℕ) (w′ : List ℕ) : 
   pub closed : Closed w′ n
   pub kept : Kept n w w′
 
--- The search's start: what is reached from 0 is flagged and marked 1, all else of the marks, flags and others' fields is 0.
+-- The search's start: what is reached from 0 is flagged and marked 1, and all else of the marks, flags and others' fields is 0; the worklist is scratch.
 pub record Reaches (n : ℕ) (w w′ : List ℕ) : Type 0 where
   pub reached : (x : ℕ) → mem x (flagged w′ n) ≡ mem x (closure (rowEdges w n) (0 ∷ []))
   pub fresh : Fresh n w′

@@ -55,7 +55,7 @@ pub fn enter(w: &mut [u8], n: usize, x: usize, when: usize, count: usize) -> usi
     count + 1
 }
 
-// Takes the static sides of the block at x, of a DynamicJumpi the false side only.
+// Takes the static sides of the block at x; a kind that is none of the others is DynamicJumpi, of which only the false side is taken.
 pub fn follow(w: &mut [u8], n: usize, x: usize, when: usize, count: usize) -> usize
     requires { ⌜ Going n (now w) x when count ⌝ }
     requires { ⌜ SidesWithin (now w) n ⌝ }

@@ -1,5 +1,5 @@
 // The symbolic stack of a block, and composing it with a parent, over lent bytes.
-mod cell;
+pub mod cell;
 pub mod compose;
 pub mod read;
 pub mod run;
