@@ -106,7 +106,7 @@ module _ {code w₀ : List ℕ} {end : ℕ} (l : Lent code w₀ end) {w : List �
           let r : Node = nodeAt code w₀ a in
           let later : List Node = nodesFrom code w₀ (suc a) in
           rw (here-block w₀ a n) (
-            more-takers w (length code) (l .short) r h later (shape r (r .block .kind)) (goes-small (length code) _ (l .short) (run-goes code (block-of l a h n)))
+            more-takers w (length code) (l .short) r h later (shape r (r .block .kind)) (goes-small (length code) _ (l .short) (run-goes code (r .block .start)))
                 (typeOf (r .block .kind)) _ _ _ (own-there a h n) (links-there a h n) (more .0),
             more-parents w (length code) (l .short) a (takerPast (turnsOf r) later) h (r .own .stack) later (more .1) (r .block .kind) (links-there a h n),
           )

@@ -117,7 +117,7 @@ settled-within n m (some (jumpdest t)) (dynamic-jumpi f) h w = (omega arith, w)
 
 pub node-within : (code : List ℕ) {b : Block} → In b (blocks code (instructions code))
     → Within (length code) (settled (run code (instructions code) (b .start) .goes) (b .kind))
-node-within code {b} i = settled-within (length code) (17 * length code + 17) (run code (instructions code) (b .start) .goes) (b .kind) (run-goes code i) (block-within code i)
+node-within code {b} i = settled-within (length code) (17 * length code + 17) (run code (instructions code) (b .start) .goes) (b .kind) (run-goes code (b .start)) (block-within code i)
 
 pub sides-within : (n : ℕ) (k : Kind) → Within n k → {t : ℕ} → In t (sides k) → t ≤ n
 sides-within n (terminate success) h i = elim i [ ]

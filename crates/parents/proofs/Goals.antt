@@ -1,4 +1,4 @@
--- Where a block's own run can go: a Jumpdest lies in the code, and a Before no deeper than its instructions reach. Assumes nothing.
+-- Where a block's own run can go, and what its stack holds: a Jumpdest lies in the code, and a Before no deeper than its instructions reach. Assumes nothing.
 use mathlib.Core.Path.{_≡_}
 use mathlib.Core.Option.{Option, none, some}
 use mathlib.Core.List.{List, [], _∷_, _++_}
@@ -11,13 +11,13 @@ use borrow.Author.Tests.{eqb-true, leb-true}
 use Rattle.spec.specs.Lists.{within}
 use Rattle.spec.specs.Opcodes.{row}
 use Rattle.spec.specs.Walk.{Ins, instructions, from}
-use Rattle.spec.specs.Blocks.{Block, blocks}
-use Rattle.spec.specs.Stacks.{Sym, before, constant, jumpdest, other, known-value, from-value, is, mask, anded, summed, Stack, entry, reads, read, span, pops, push, pushes, swap, trade, Does, pushes-value, pushes-pc, dups, swaps, ands, adds, jumps, jumpis, lands, halts, plain, does, act, Ran, after, runs, run}
+use Rattle.spec.specs.Stacks.{Sym, before, constant, jumpdest, other, known-value, from-value, is, mask, anded, summed, Stack, entry, reads, read, span, pops, push, pushes, swap, trade, Does, pushes-value, pushes-pc, dups, swaps, ands, adds, jumps, jumpis, lands, halts, plain, does, act, Ran, after, runs, joins, settle, trims, trim, run}
 use Rattle.theorems.proofs.Branch.{both}
-use Rattle.theorems.proofs.Members.{In, and-both}
+use Rattle.theorems.proofs.Members.{In, here, there, and-both}
 use Rattle.theorems.proofs.Counts.{few}
-use Rattle.theorems.proofs.Walking.{Walked, stops, steps}
-use Rattle.theorems.proofs.Cutting.{made, block-walk}
+use Rattle.theorems.proofs.Walking.{Walked, stops, steps, walked}
+use Rattle.state.specs.Cells.{depth, deepest, reach}
+use Rattle.state.proofs.Reach.{reach-is}
 
 -- ---- symbols: a Jumpdest below n, a Before below m
 
@@ -45,6 +45,20 @@ fits-more n m l h (other pc) f = tt
 all-more : {n m l : ℕ} {xs : List Sym} → m ≤ l → All n m xs → All n l xs
 all-more h no-more = no-more
 all-more {n} {m} {l} h (and-more {x} f a) = and-more (fits-more n m l h x f) (all-more h a)
+
+sound-more : {n k m : ℕ} {s : Stack} → k ≤ m → Sound n k s → Sound n m s
+sound-more h o = record { all = all-more (omega arith) (o .all); low = omega (arith, o .low) }
+
+fits-deep : (n m : ℕ) (x : Sym) → Fits n m x → depth x ≤ m
+fits-deep n m (before p) f = omega arith
+fits-deep n m (constant v) f = omega arith
+fits-deep n m (jumpdest t) f = omega arith
+fits-deep n m (other pc) f = omega arith
+
+all-deep : {n m : ℕ} {xs : List Sym} → All n m xs → deepest xs ≤ m
+unfolding deepest
+all-deep no-more = omega arith
+all-deep {n} {m} (and-more {x} f a) = omega (arith, fits-deep n m x f, all-deep a)
 
 module _ {n m : ℕ} where
   all-drop : (k : ℕ) {xs : List Sym} → All n m xs → All n m (drop k xs)
@@ -174,38 +188,85 @@ abbrev pub Goes : ℕ → ℕ → Option Sym → Type 0
 Goes n m none = Unit {0}
 Goes n m (some x) = Fits n m x
 
+-- where it goes, and the stack that it leaves, after m instructions at most
+record Ends (n m : ℕ) (r : Ran) : Type 0 where
+  goes : Goes n (17 * m + 17) (r .goes)
+  stack : Sound n m (r .stack)
+
 module _ (code : List ℕ) (start : ℕ) where
-  abbrev Ends : ℕ → Ran → Type 0
-  Ends k r = Goes (length code) (17 * k + 17) (r .goes)
+  leaps : {k : ℕ} {s t : Stack} → Sound (length code) k s → Sound (length code) (suc k) t → (m : ℕ) → suc k ≤ m
+      → Ends (length code) m (record { stack = t; goes = some (read s 0) })
+  leaps {k} {s} o p m h =
+      record { goes = fits-more (length code) (17 * k + 17) (17 * m + 17) (omega arith) (read s 0) (read-now code o 0 (omega arith)); stack = sound-more h p }
 
-  after-goes : {k : ℕ} {s : Stack} → Sound (length code) k s → (m : ℕ) → k ≤ m → (i : Ins) (t : Stack) (on : Ran) → Ends m on → (d : Does) → Ends m (after start i s t on d)
-  after-goes o m h i t on e pushes-value = e
-  after-goes o m h i t on e pushes-pc = e
-  after-goes o m h i t on e (dups n) = e
-  after-goes o m h i t on e (swaps n) = e
-  after-goes o m h i t on e ands = e
-  after-goes o m h i t on e adds = e
-  after-goes {k} {s} o m h i t on e jumps = fits-more (length code) (17 * k + 17) (17 * m + 17) (omega arith) (read s 0) (read-now code o 0 (omega arith))
-  after-goes {k} {s} o m h i t on e jumpis = fits-more (length code) (17 * k + 17) (17 * m + 17) (omega arith) (read s 0) (read-now code o 0 (omega arith))
-  after-goes o m h i t on e lands = both (Ends m) (eqb (i .pc) start) (λ _. e) (λ _. tt)
-  after-goes o m h i t on e halts = tt
-  after-goes o m h i t on e plain = e
+  after-ends : {k : ℕ} {s t : Stack} → Sound (length code) k s → Sound (length code) (suc k) t → (m : ℕ) → suc k ≤ m
+      → (i : Ins) (on : Ran) → Ends (length code) m on → (d : Does) → Ends (length code) m (after start i s t on d)
+  after-ends o p m h i on e pushes-value = e
+  after-ends o p m h i on e pushes-pc = e
+  after-ends o p m h i on e (dups n) = e
+  after-ends o p m h i on e (swaps n) = e
+  after-ends o p m h i on e ands = e
+  after-ends o p m h i on e adds = e
+  after-ends o p m h i on e jumps = leaps o p m h
+  after-ends o p m h i on e jumpis = leaps o p m h
+  after-ends o p m h i on e lands = both (Ends (length code) m) (eqb (i .pc) start) (λ _. e) (λ _. record { goes = tt; stack = sound-more (omega arith) o })
+  after-ends o p m h i on e halts = record { goes = tt; stack = sound-more h p }
+  after-ends o p m h i on e plain = e
 
-  runs-goes : (is : List Ins) {k : ℕ} {s : Stack} → Sound (length code) k s → (m : ℕ) → k + length is ≤ m → Ends m (runs code start is s)
-  runs-goes [] o m h = tt
-  runs-goes (i ∷ is) o m h =
-      after-goes o m (omega arith) i _ _ (runs-goes is (act-next code o i (does (i .op)) (near (i .op))) m (omega arith)) (does (i .op))
+  runs-ends : (is : List Ins) {k : ℕ} {s : Stack} → Sound (length code) k s → (m : ℕ) → k + length is ≤ m → Ends (length code) m (runs code start is s)
+  runs-ends [] o m h = record { goes = tt; stack = sound-more (omega arith) o }
+  runs-ends (i ∷ is) o m h =
+      let p = act-next code o i (does (i .op)) (near (i .op)) in
+      after-ends o p m (omega arith) i _ (runs-ends is p m (omega arith)) (does (i .op))
 
 -- no walk has more instructions than the code has bytes
 walk-short : {code : List ℕ} {at : ℕ} {is : List Ins} → Walked code at is → at ≤ length code → at + length is ≤ length code
 walk-short (stops h) l = omega arith
 walk-short (steps s w) l = let r = walk-short w (omega arith) in omega arith
 
+from-short : (a : ℕ) (is : List Ins) → length (from a is) ≤ length is
+from-short a [] = omega arith
+from-short a (i ∷ is) =
+    let r = from-short a is in
+    both (λ (l : List Ins). length l ≤ length (i ∷ is)) (leb a (i .pc)) (λ _. omega arith) (λ _. omega arith)
+
 begun : {n : ℕ} → Sound n 0 entry
 begun = record { all = no-more; low = omega arith }
 
-pub run-goes : (code : List ℕ) {b : Block} → In b (blocks code (instructions code)) → Goes (length code) (17 * length code + 17) (run code (instructions code) (b .start) .goes)
-unfolding run
-run-goes code {b} i =
-    runs-goes code (b .start) (from (b .start) (instructions code)) begun (length code)
-    (omega (arith, walk-short (block-walk code i) (omega (arith, made code i .start-inside))))
+-- ---- a trimmed stack: no symbol is new
+
+sound-settle : {n k : ℕ} (x : Sym) (xs : List Sym) (base : ℕ) → Fits n (17 * k + 17) x → Sound n k (record { above = xs; base = base })
+    → Sound n k (settle x xs base)
+sound-settle {n} {k} x [] base f o =
+    both (Sound n k) (joins x base) (λ _. record { all = no-more; low = omega (arith, o .low) }) (λ _. record { all = and-more f no-more; low = o .low })
+sound-settle x (y ∷ ys) base f o = record { all = and-more f (o .all); low = o .low }
+
+sound-trims : {n k : ℕ} {xs : List Sym} {base : ℕ} → All n (17 * k + 17) xs → base ≤ 17 * k → Sound n k (trims xs base)
+sound-trims no-more h = record { all = no-more; low = h }
+sound-trims {base = base} (and-more {x} {xs} f a) h = sound-settle x (trims xs base .above) (trims xs base .base) f (sound-trims a h)
+
+-- ---- the whole run, from any place
+
+module _ (code : List ℕ) (start : ℕ) where
+  ran : Ends (length code) (length code) (runs code start (from start (instructions code)) entry)
+  ran =
+      let few = walk-short (walked code) (omega arith) in
+      runs-ends code start (from start (instructions code)) begun (length code) (omega (arith, from-short start (instructions code)))
+
+  own : Sound (length code) (length code) (run code (instructions code) start .stack)
+  unfolding run trim
+  own = let o = ran .stack in sound-trims (o .all) (o .low)
+
+  pub run-goes : Goes (length code) (17 * length code + 17) (run code (instructions code) start .goes)
+  unfolding run
+  run-goes = ran .goes
+
+  pub run-lands : (t : ℕ) → In (jumpdest t) (run code (instructions code) start .stack .above) → t < length code
+  run-lands t i = lands-in (own .all) i
+    where
+      lands-in : {n m : ℕ} {xs : List Sym} → All n m xs → In (jumpdest t) xs → t < n
+      lands-in (and-more f a) here = f
+      lands-in (and-more f a) (there j) = lands-in a j
+
+  pub run-deep : reach (run code (instructions code) start .stack) ≤ 17 * length code + 17
+  run-deep = let o = own in omega (arith, reach-is (run code (instructions code) start .stack), all-deep (o .all), o .low)

@@ -100,7 +100,7 @@ module _ (code : List ℕ) where
   taker-comes i = let g = taken i in rw (g .2 .start) (node-comes (g .1))
 
   pub taker-near : {k : Taker} → In k (takers (prepared code)) → k .position < 17 * length code + 17
-  taker-near i = let g = taken i in let b = prepares (g .1) in near (ap (λ (r : Node). r .own .goes) (sym (b .is)) ∙ g .2 .goes) (run-goes code (b .there))
+  taker-near i = let g = taken i in let b = prepares (g .1) in near (ap (λ (r : Node). r .own .goes) (sym (b .is)) ∙ g .2 .goes) (run-goes code (b .from-block .start))
     where
       near : {o : Option Sym} {p : ℕ} → o ≡ some (before p) → Goes (length code) (17 * length code + 17) o → p < 17 * length code + 17
       near e h = rw e at h

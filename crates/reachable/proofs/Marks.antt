@@ -42,7 +42,7 @@ mark-sets {n} {a} {m} {w} h e s =
 
 module _ {n a when : ℕ} {w w′ : List ℕ} (at : Address n w a) (m : Marked n w a when w′) where
   -- there was no mark and one is stored, or all stays
-  by-mark : {F : Type 0} → (markAt w n a ≡ 0 → Stored 4 w (20 * (n + 1 + a)) (little 4 when) w′ → F) → ((markAt w n a ≡ 0 → ⊥) → w′ ≡ w → F) → F
+  pub by-mark : {F : Type 0} → (markAt w n a ≡ 0 → Stored 4 w (20 * (n + 1 + a)) (little 4 when) w′ → F) → ((markAt w n a ≡ 0 → ⊥) → w′ ≡ w → F) → F
   by-mark {F} f g = split (ℕ-discrete (markAt w n a) 0)
     where
       split : Dec (markAt w n a ≡ 0) → F

@@ -88,8 +88,8 @@ module _ {w w′ : List ℕ} {n : ℕ} (e : (x : ℕ) → x ≤ n → sidesAt w�
   pub closed-sides : flagged w′ n ≡ flagged w n → Closed w n → Closed w′ n
   closed-sides f c = record {
     sides = λ x t h i.
-      let was : mem x (flagged w n) ≡ true = rw f at h in
-      rw f (c .sides x t was (rw (e x (flagged-within w n x was)) at i));
+        let was : mem x (flagged w n) ≡ true = rw f at h in
+        rw f (c .sides x t was (rw (e x (flagged-within w n x was)) at i));
   }
 
 -- ---- rows that stay, and the search's edges

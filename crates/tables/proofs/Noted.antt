@@ -1,6 +1,7 @@
 -- The laws of recording, one for each way out. Assumes nothing.
 use mathlib.Core.Path.{_≡_, refl, sym, ap, _∙_}
 use mathlib.Core.Bool.{Bool, true, false, _&&_}
+use mathlib.Core.Logic.{inl, inr}
 use mathlib.Core.List.{List, [], _∷_, _++_}
 use Prim.Native.Nat.{ℕ, suc, _+_, _-_, _*_, _^_, _≤_, _<_}
 use native.Mathlib.Numerals.{add-one}
@@ -133,6 +134,7 @@ module _ {p w r q s : List ℕ} {np n buckets : ℕ} {k : Rooms} {c : Counts} {e
           code = λ t st h l o. ap (λ (x : St). shortage l (x .needs)) (doc-known h is) ∙ sym (or-else-zero (shortage l (st .needs)));
           made = λ t st h o. ap clear (doc-known h is) ∙ rw (h .recs);
           refused = λ o. absurd (o refl);
+          grows = inl (refl, refl);
           tables = y .tables;
           keeping = keeping-all n buckets k M c;
           used = refl;
@@ -151,6 +153,7 @@ module _ {p w r q s : List ℕ} {np n buckets : ℕ} {k : Rooms} {c : Counts} {e
             code = noted-code;
             made = λ t st h i. absurd (o i);
             refused = λ i. (refl, refl);
+            grows = inl (refl, refl);
             tables = y .tables;
             keeping = keeping-all n buckets k M c;
             used = refl;
@@ -166,6 +169,7 @@ module _ {p w r q s : List ℕ} {np n buckets : ℕ} {k : Rooms} {c : Counts} {e
             code = λ t st h l i. noted-code t st h l i ∙ ap (or-else (shortage l (st .needs))) o;
             made = λ t st h i. ap clear (doc-made h (sym found-it ∙ z) .is) ∙ rw (h .recs, a .records);
             refused = λ i. absurd (i refl);
+            grows = inr (a .records, ap (λ (x : Counts). x .records) (a .counts));
             tables = a .tables;
             keeping = record {
               rows = v .rows;

@@ -165,7 +165,7 @@ module _ {buckets : ℕ} {t : List ℕ} {m : ℕ} {x : Seen} {sum : ℕ} (p : Pu
     pushed =
         record {
           shelves = record {
-            some = p .shelves .some;
+            some = λ d. p .some;
             inT = omega (arith, p .shelves .inT, r .long, s .kept);
             mostT = omega (arith, p .inT, r .long, s .kept);
             chained =

@@ -40,31 +40,32 @@ pub met-found : (t s : List ℕ) (x : Seen) (m : ℕ) {r : Bool} → r ≡ any (
 met-found t s x m e = e ∙ mets-any t s (seenMet s x) m
 
 module _ {buckets : ℕ} {k : Rooms} {t s : List ℕ} {c : Counts} {x : Seen} where
-  pub fresh-finds : {sum : ℕ} → Remembers buckets k t s c → Fresh s c x → Stamped s x sum → Finds t s buckets (c .rows) x sum
-  fresh-finds h f g = record { state = f .state; stamped = g; rows = h .rows; shelves = h .shelves }
+  pub fresh-finds : {sum : ℕ} → 1 ≤ buckets → Remembers buckets k t s c → Fresh s c x → Stamped s x sum → Finds t s buckets (c .rows) x sum
+  fresh-finds b h f g = record { state = f .state; stamped = g; rows = h .rows; some = b; shelves = h .shelves }
 
   -- ---- a row more
 
-  module _ {sum : ℕ} (h : Memorizes buckets k t s c x sum) where
-    pub row-short : k .t < c .rows + 1 → Memorized buckets k t s c x t (record { code = 6; counts = c })
-    unfolding shortOf if
-    row-short l =
-        record {
-          code = rw (lt-leb (c .rows + 1) (k .t) l);
-          made = λ e. absurd (omega arith);
-          counts = λ e. absurd (omega arith);
-          refused = λ e. (refl, refl);
-          remembers = h .remembers;
-          packs = λ first p. p;
-          long = refl;
-        }
+  pub row-short : Remembers buckets k t s c → k .t < c .rows + 1 → Memorized buckets k t s c x t (record { code = 6; counts = c })
+  unfolding shortOf if
+  row-short h l =
+      record {
+        code = rw (lt-leb (c .rows + 1) (k .t) l);
+        made = λ e. absurd (omega arith);
+        counts = λ e. absurd (omega arith);
+        refused = λ e. (refl, refl);
+        remembers = h;
+        packs = λ first p. p;
+        long = refl;
+      }
 
+  module _ {sum : ℕ} (h : Memorizes buckets k t s c x sum) where
     module _ (l : c .rows + 1 ≤ k .t) where
       pub row-pushes : Pushes buckets t (c .rows) x sum
       row-pushes =
           let r = h .remembers in
           let f = h .fresh in
           record {
+            some = h .some;
             shelves = r .shelves;
             inT = omega arith;
             small = omega arith;
@@ -184,7 +185,7 @@ unfolding newest
 emptied b o z =
     record {
       shelves = record {
-        some = b .some;
+        some = λ d. absurd (d refl);
         inT = omega (arith, b .inT, o .long);
         mostT = omega arith;
         chained = record { links = λ i l. absurd (omega arith); heads = z };
@@ -214,6 +215,10 @@ module _ {buckets : ℕ} {t : List ℕ} where
     unfolding newest
     forgets-none = record { most = omega arith; keeps = λ h l e. refl; zeros = λ h l d. absurd (d refl); heads = heads-none buckets t }
 
+    -- a row in hand stands on a shelf
+    pub forgets-some : {i : ℕ} → i < m → 1 ≤ buckets
+    forgets-some l = c .some (λ z. omega arith)
+
     module _ {i : ℕ} {t₁ : List ℕ} (o : Forgetting buckets t m i t₁) where
       pub forgets-more : {v h : ℕ} {t₂ : List ℕ} → i < m → Holds 4 t₁ (32 * i + 20) v → h ≡ v % buckets → h < buckets → Stored 4 t₁ (32 * h + 28) (little 4 0) t₂
           → Forgetting buckets t m (i + 1) t₂
@@ -242,7 +247,7 @@ module _ {buckets : ℕ} {t : List ℕ} where
 
       pub forgets-all : m ≤ i → Emptied buckets t t₁
       forgets-all l =
-          emptied (record { some = c .some; inT = c .inT }) (o .heads) (λ k b. go k b (keyed (newest (shelfAt buckets t) k i) 0))
+          emptied (record { inT = c .inT }) (o .heads) (λ k b. go k b (keyed (newest (shelfAt buckets t) k i) 0))
         where
           last : i ≡ m
           last = omega (arith, o .most)

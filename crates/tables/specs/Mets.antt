@@ -36,6 +36,7 @@ pub record Fresh (s : List ℕ) (c : Counts) (x : Seen) : Type 0 where
   pub most : c .used + x .cells ≤ 2 ^ 30
 
 pub record Memorizes (buckets : ℕ) (k : Rooms) (t s : List ℕ) (c : Counts) (x : Seen) (sum : ℕ) : Type 0 where
+  pub some : 1 ≤ buckets
   pub remembers : Remembers buckets k t s c
   pub fresh : Fresh s c x
   pub stamped : Stamped s x sum
@@ -65,7 +66,6 @@ pub record Heads (buckets : ℕ) (t t′ : List ℕ) : Type 0 where
   pub long : length t′ ≡ length t
 
 pub record Begins (buckets : ℕ) (t : List ℕ) : Type 0 where
-  pub some : 1 ≤ buckets
   pub inT : 32 * buckets ≤ length t
 
 -- no row is on a shelf

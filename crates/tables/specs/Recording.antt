@@ -1,12 +1,13 @@
 -- Recording, against document 01's: what it answers, and what it leaves. Assumes nothing.
 use mathlib.Core.Path.{_≡_}
+use mathlib.Core.Logic.{_⊎_}
 use Prim.Native.Nat.{ℕ, suc, _+_, _-_, _*_, _^_, _≤_, _<_}
-use mathlib.Core.List.{List, [], _∷_}
+use mathlib.Core.List.{List, [], _∷_, _++_}
 use lib.Dec.{leb}
 use lib.ListN.{length, take, drop}
 use Rattle.spec.specs.Lists.{if}
 use Rattle.spec.specs.Stacks.{Stack}
-use Rattle.spec.specs.Search.{Found, nowhere, found, Room, P, S, T, R, Q, Need, St, Turn, in-use, record-nowhere, record-found}
+use Rattle.spec.specs.Search.{Found, nowhere, found, Rec, Room, P, S, T, R, Q, Need, St, Turn, in-use, record-nowhere, record-found}
 use Rattle.spec.specs.Rooms.{Lent, room, refusal, or-else, shortage}
 use Rattle.theorems.proofs.Older.{clear}
 use Rattle.tables.specs.Addrs.{addrs}
@@ -75,12 +76,17 @@ pub record Keeping (n buckets : ℕ) (k : Rooms) (m : Mem) (c : Counts) (m′ : 
   pub longQ : length (m′ .q) ≡ length (m .q)
   pub longS : length (m′ .s) ≡ length (m .s)
 
+-- the records are as they were, or there is one more
+abbrev pub Grows : Rooms → Mem → Counts → Rec → Mem → Counts → Type 0
+Grows k m c x m′ d = ((recs k m′ d ≡ recs k m c) × (d .records ≡ c .records)) ⊎ ((recs k m′ d ≡ recs k m c ++ x ∷ []) × (d .records ≡ c .records + 1))
+
 -- The code is the first shortage of what document 01 notes; where it is 0 the buffers hold what document 01 makes, and else they are untouched.
 pub record Recorded (p : List ℕ) (np n buckets : ℕ) (k : Rooms) (m : Mem) (c : Counts) (start : ℕ) (x : Found) (m′ : Mem) (a : Answer) : Type 0 where
   pub code : (t : Turn) (st : St) → Holding k m c start t st → (l : Lent) → Lends l k
       → shortage l (noted t x (addrs p 0 np) st .needs) ≡ or-else (shortage l (st .needs)) (a .code)
   pub made : (t : Turn) (st : St) → Holding k m c start t st → a .code ≡ 0 → clear (noted t x (addrs p 0 np) st) ≡ with-recs k m′ (a .counts) st
   pub refused : (a .code ≡ 0 → ⊥) → (m′ ≡ m) × (a .counts ≡ c)
+  pub grows : Grows k m c (record { start = start; to = x; path = addrs p 0 np }) m′ (a .counts)
   pub tables : Tables n buckets k m′ (a .counts)
   pub keeping : Keeping n buckets k m c m′
   pub used : a .counts .used ≡ c .used

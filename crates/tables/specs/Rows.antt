@@ -86,8 +86,9 @@ pub record MetRow (t s : List ℕ) (i : ℕ) : Type 0 where
   pub state : State s (9 * placeAt t i) (cellsAt t i)
   pub stamped : stampAt t i ≡ stamp (blockAt t i) (symAt t (32 * i + 2)) (symsAt s (9 * placeAt t i) (cellsAt t i))
 
+-- where T has no room at all there is no shelf, and no row
 pub record Shelves (buckets : ℕ) (t : List ℕ) (m : ℕ) : Type 0 where
-  pub some : 1 ≤ buckets
+  pub some : (m ≡ 0 → ⊥) → 1 ≤ buckets
   pub inT : 32 * buckets ≤ length t
   pub mostT : 32 * m ≤ length t
   pub chained : Chained (shelfAt buckets t) (chainAt t) (topAt t) buckets m
@@ -106,6 +107,7 @@ pub record Finds (t s : List ℕ) (buckets m : ℕ) (x : Seen) (sum : ℕ) : Typ
   pub state : State s (9 * x .from) (x .cells)
   pub stamped : Stamped s x sum
   pub rows : (i : ℕ) → i < m → MetRow t s i
+  pub some : 1 ≤ buckets
   pub shelves : Shelves buckets t m
 
 -- r is the sum with the symbols
@@ -164,6 +166,7 @@ pub record RowPut (t : List ℕ) (i : ℕ) (x : Seen) (sum link : ℕ) (t′ : L
 
 -- a row is put on its shelf: there is room for it
 pub record Pushes (buckets : ℕ) (t : List ℕ) (m : ℕ) (x : Seen) (sum : ℕ) : Type 0 where
+  pub some : 1 ≤ buckets
   pub shelves : Shelves buckets t m
   pub inT : 32 * m + 32 ≤ length t
   pub small : m + 1 < 2 ^ 32

@@ -9,7 +9,7 @@ ghost use Rattle.tables.specs.Addrs.{addrs};
 ghost use Rattle.tables.specs.Records.{endOf, isRec, hasRec, Compare, Seek};
 
 // Where the path of record i begins in Q: at the end of the one before it.
-fn end_before(r: &[u8], i: usize) -> usize
+pub fn end_before(r: &[u8], i: usize) -> usize
     requires { ⌜ 32 * i ≤ length (now r) ⌝ }
     ensures { λ x. ⌜ x ≡ endOf (now (r .entry)) i ⌝ }
 {

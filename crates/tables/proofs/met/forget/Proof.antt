@@ -2,7 +2,7 @@
 use Prim.Native.Nat.{_-_}
 use borrow.Author.Needs.{needs}
 use Rattle.tables.specs.Mets.{Forgetting}
-use Rattle.tables.proofs.Turns.{forgets-none, forgets-more, forgets-all}
+use Rattle.tables.proofs.Turns.{forgets-none, forgets-some, forgets-more, forgets-all}
 use Rattle.tables.proofs.met.forget.Statement.{statement}
 use Rattle.tables.proofs.met.forget.Tie as tie
 
@@ -14,6 +14,9 @@ abbrev μ-loop : tie.MeasureT-loop
 
 loop-holds : tie.Need-loop-holds Inv-loop μ-loop
 loop-holds c = search forgets-none
+
+bucket-of-requires : tie.Need-bucket-of-requires Inv-loop μ-loop
+bucket-of-requires c κs = search forgets-some
 
 loop-again : tie.Need-loop-again Inv-loop μ-loop
 loop-again c = search forgets-more
@@ -31,7 +34,7 @@ forget-spec =
     (λ c. search needs)
     (λ c. search needs)
     (λ c κs. search needs)
-    (λ c κs. search needs)
+    bucket-of-requires
     (λ c. search needs)
     (λ c. search needs)
     (λ c κs. search needs)

@@ -1,0 +1,99 @@
+-- The numbers of the parents, as the functions compute them. Assumes nothing.
+use mathlib.Core.Path.{_≡_, refl, sym, ap, _∙_}
+use mathlib.Core.Bool.{_&&_}
+use mathlib.Core.List.{List}
+use Prim.Native.Nat.{ℕ, zero, suc, _+_, _-_, _*_, _≤_, _<_}
+use native.Mathlib.Omega.{arith}
+use lib.Dec.{ltb, leb}
+use lib.ListN.{length}
+use borrow.Author.Tests.{ltb-true, lt-ltb, le-ltb, le-leb, lt-leb}
+use Rattle.spec.specs.Lists.{if}
+use Rattle.spec.specs.Rooms.{or-else}
+use Rattle.lent.specs.Bytes.{numAt, Holds}
+use Rattle.tables.specs.Records.{endOf}
+use Rattle.parents.specs.Links as links
+use Rattle.parents.specs.Links.{startOf}
+use Rattle.parents.specs.Contracts.{Number, Link}
+use Rattle.theorems.proofs.Branch.{both}
+use Rattle.theorems.proofs.Members.{and-both}
+use Rattle.steps.specs.Cursors.{foundFirst, clipped, firstCursor, nextCursor, lastCursor, Cursor, Asks}
+
+-- ---- a link to a found parent
+
+module _ (opened link : ℕ) where
+  pub clip-none : link ≡ 0 → 0 ≡ clipped opened link
+  unfolding clipped if
+  clip-none e = rw e
+
+  pub clip-late : opened < link → 0 ≡ clipped opened link
+  unfolding clipped if
+  clip-late l = rw (lt-ltb 0 link (omega arith), lt-leb link opened l)
+
+  pub clip-there : (link ≡ 0 → ⊥) → link ≤ opened → 0x10000 + (link - 1) ≡ clipped opened link
+  unfolding clipped if
+  clip-there d l = rw (lt-ltb 0 link (omega arith), le-leb link opened l)
+
+  pub clip-some : (clipped opened link ≡ 0 → ⊥) → (1 ≤ link) × (clipped opened link ≡ 0x10000 + (link - 1))
+  unfolding clipped
+  clip-some =
+      both (λ (x : ℕ). (x ≡ 0 → ⊥) → (1 ≤ link) × (x ≡ 0x10000 + (link - 1))) (ltb 0 link && leb link opened)
+      (λ e d. (ltb-true 0 link (and-both (ltb 0 link) (leb link opened) e .0), refl)) (λ _ d. absurd (d refl))
+
+-- ---- one number or, where that is 0, another
+
+or-first : (a b : ℕ) → (a ≡ 0 → ⊥) → a ≡ or-else a b
+or-first zero b d = absurd (d refl)
+or-first (suc a) b d = refl
+
+-- ---- what they read
+
+module _ {w r : List ℕ} {n at : ℕ} where
+  pub row-found : Cursor w r n at → 0x10000 ≤ at → 32 * (at - 0x10000) + 32 ≤ length r
+  row-found h l = h .found l
+
+  pub row-direct : Cursor w r n at → at < 0x10000 → Link w at
+  row-direct h l = record { some = h .some; inside = h .direct l }
+
+module _ {r q : List ℕ} {at : ℕ} where
+  pub row-asked : Asks r q at → 0x10000 ≤ at → 32 * (at - 0x10000) + 32 ≤ length r
+  row-asked h l = h .row l
+
+  pub path-asked : {x : ℕ} → Asks r q at → 0x10000 ≤ at → Holds 4 r (32 * (at - 0x10000) + 4) x → (1 ≤ x) × (2 * x ≤ length q)
+  unfolding endOf
+  path-asked h l e = rw (e .is) (h .path l)
+
+-- ---- what they give
+
+module _ (w : List ℕ) (n b opened : ℕ) where
+  pub found-first : {x y : ℕ} → Holds 4 w (20 * (n + 1) + 20 * b + 4) x → y ≡ clipped opened x → y ≡ clipped opened (foundFirst w n b)
+  found-first h e = e ∙ ap (clipped opened) (h .is)
+
+  pub first-direct : {x : ℕ} → Number x (links.firstAt w b) 2 → (x ≡ 0 → ⊥) → x ≡ firstCursor w n b opened
+  unfolding firstCursor
+  first-direct h d = or-first _ _ d ∙ ap (λ (a : ℕ). or-else a (clipped opened (foundFirst w n b))) (h .is)
+
+  pub first-other : {x y : ℕ} → Number x (links.firstAt w b) 2 → x ≡ 0 → y ≡ clipped opened (foundFirst w n b) → y ≡ firstCursor w n b opened
+  unfolding firstCursor
+  first-other h z e = e ∙ ap (λ (a : ℕ). or-else a (clipped opened (foundFirst w n b))) (sym z ∙ h .is)
+
+  module _ (r : List ℕ) (at : ℕ) where
+    pub next-found : {x y : ℕ} → 0x10000 ≤ at → Holds 4 r (32 * (at - 0x10000) + 12) x → y ≡ clipped opened x → y ≡ nextCursor w r n b opened at
+    unfolding nextCursor if
+    next-found l h e = rw (le-ltb at 0x10000 l) (e ∙ ap (clipped opened) (h .is))
+
+    pub next-direct : {x : ℕ} → at < 0x10000 → Number x (links.nextAt w at) 2 → (x ≡ 0 → ⊥) → x ≡ nextCursor w r n b opened at
+    unfolding nextCursor if
+    next-direct l h d = rw (lt-ltb at 0x10000 l) (or-first _ _ d ∙ ap (λ (a : ℕ). or-else a (clipped opened (foundFirst w n b))) (h .is))
+
+    pub next-other : {x y : ℕ} → at < 0x10000 → Number x (links.nextAt w at) 2 → x ≡ 0 → y ≡ clipped opened (foundFirst w n b) → y ≡ nextCursor w r n b opened at
+    unfolding nextCursor if
+    next-other l h z e = rw (lt-ltb at 0x10000 l) (e ∙ ap (λ (a : ℕ). or-else a (clipped opened (foundFirst w n b))) (sym z ∙ h .is))
+
+module _ (r q : List ℕ) (at : ℕ) where
+  pub last-direct : {x : ℕ} → at < 0x10000 → x ≡ startOf at → x ≡ lastCursor r q at
+  unfolding lastCursor if
+  last-direct l e = rw (lt-ltb at 0x10000 l) e
+
+  pub last-found : {x y : ℕ} → 0x10000 ≤ at → Holds 4 r (32 * (at - 0x10000) + 4) x → Holds 2 q (2 * (x - 1)) y → y ≡ lastCursor r q at
+  unfolding lastCursor if endOf
+  last-found l h e = rw (le-ltb at 0x10000 l) (e .is ∙ ap (λ (x : ℕ). numAt 2 q (2 * (x - 1))) (h .is))

@@ -1,0 +1,150 @@
+-- A level's parents one after the other: where the cursor stands at first, what it stands for, and that it rises. Assumes nothing.
+use mathlib.Core.Path.{_≡_, refl, ap, _∙_, subst}
+use mathlib.Core.Bool.{Bool, true, false, _&&_}
+use mathlib.Core.List.{List, [], _∷_, _++_, map}
+use Prim.Native.Nat.{ℕ, zero, suc, _+_, _-_, _*_, _≤_, _<_}
+use native.Mathlib.Omega.{arith}
+use lib.Dec.{eqb}
+use lib.ListN.{length}
+use borrow.Author.Tests.{lt-ltb, le-ltb, ne-eqb, eqb-false}
+use Rattle.spec.specs.Lists.{if, keep}
+use Rattle.spec.specs.Walk.{instructions}
+use Rattle.spec.specs.Stacks.{run}
+use Rattle.spec.specs.Search.{Parent, Rec, found-parents, direct, Turn, St, parents}
+use Rattle.spec.specs.Answer.{prepared}
+use Rattle.spec.specs.Rooms.{or-else}
+use Rattle.lent.specs.Bytes.{numAt}
+use Rattle.tables.specs.Records as records
+use Rattle.tables.specs.Records.{endOf, pathAt, recsOf}
+use Rattle.tables.specs.Tables.{mem, recs, Tables}
+use Rattle.tables.specs.declared.Rooms.{Rooms}
+use Rattle.tables.specs.declared.Counts.{Counts}
+use Rattle.parents.specs.Links as links
+use Rattle.parents.specs.Links.{startOf, Parents, directTo, fromOf}
+use Rattle.parents.specs.Contracts.{Known}
+use Rattle.parents.proofs.Chains.{walk-parents, end-parents}
+use Rattle.parents.proofs.Knows.{parentOf, Comes, direct-comes, parents-again}
+use Rattle.theorems.proofs.Branch.{both}
+use Rattle.theorems.proofs.Members.{In, in-keep, in-map}
+use Rattle.theorems.proofs.Lists.{Rising, one-more}
+use Rattle.steps.specs.Cursors.{foundFirst, clipped, firstCursor, nextCursor, pathCursor, lastCursor, stackCursor, foundTo, live, Left, none-left, direct-left, found-left}
+use Rattle.steps.proofs.Rises.{direct-rises}
+use Rattle.steps.proofs.Founds.{stateAt, following-left}
+
+-- ---- the parents of a level are those stored for its block, of which the live ones are tried
+
+module _ {A : Type 0} where
+  keep-append : (f : A → Bool) (xs ys : List A) → keep f (xs ++ ys) ≡ keep f xs ++ keep f ys
+  unfolding if
+  keep-append f [] ys = refl
+  keep-append f (x ∷ xs) ys = rw (keep-append f xs ys) (go (f x))
+    where
+      go : (b : Bool) → if b (x ∷ keep f xs ++ keep f ys) (keep f xs ++ keep f ys) ≡ if b (x ∷ keep f xs) (keep f xs) ++ keep f ys
+      go true = refl
+      go false = refl
+
+  keep-both : (f g : A → Bool) (xs : List A) → keep (λ (x : A). f x && g x) xs ≡ keep g (keep f xs)
+  unfolding if
+  keep-both f g [] = refl
+  keep-both f g (x ∷ xs) = rw (keep-both f g xs) (go (f x))
+    where
+      go : (b : Bool) → if (b && g x) (x ∷ keep g (keep f xs)) (keep g (keep f xs)) ≡ keep g (if b (x ∷ keep f xs) (keep f xs))
+      go true = refl
+      go false = refl
+
+pub level-parents : (code : List ℕ) (t : Turn) (b : ℕ) (st : St) → t .stored ≡ direct (prepared code)
+    → parents t b st ≡ keep (live (t .reached) (st .recs)) (directTo b (prepared code) ++ foundTo b (st .recs))
+unfolding parents
+level-parents code t b st e =
+    keep-both (λ (p : Parent). eqb b (p .to)) (live (t .reached) (st .recs)) (t .stored ++ found-parents (st .recs))
+    ∙ ap (keep (live (t .reached) (st .recs)))
+    (keep-append (λ (p : Parent). eqb b (p .to)) (t .stored) (found-parents (st .recs))
+    ∙ ap (λ (ps : List Parent). keep (λ (p : Parent). eqb b (p .to)) ps ++ foundTo b (st .recs)) e)
+
+-- ---- what is left
+
+-- a direct parent, and if there is none what else is left
+pub or-left : {code w starts : List ℕ} {n b lo x : ℕ} {rs : List Rec} (link : ℕ) → Parents w n link starts → Rising lo starts → ((a : ℕ) → In a starts → Comes code a)
+    → Left code w n b rs x (foundTo b rs) → Left code w n b rs (or-else link x) (map (parentOf code b) starts ++ foundTo b rs)
+or-left zero p h c l = rw (end-parents p refl) l
+or-left (suc link) p h c l = direct-left {link = suc link} (omega arith) p h c
+
+pub end-left : {code w : List ℕ} {n b at : ℕ} {rs : List Rec} {ps : List Parent} → Left code w n b rs at ps → at ≡ 0 → ps ≡ []
+end-left none-left e = refl
+end-left (direct-left l p h c) e = absurd (omega arith)
+end-left (found-left h) e = absurd (omega arith)
+
+-- the found ones, from the first on
+pub all-found : (code : List ℕ) {w r q s : List ℕ} {n buckets : ℕ} {k : Rooms} {c : Counts} → Tables n buckets k (mem w r q s) c → (b : ℕ) → b ≤ n → (opened : ℕ) → opened ≤ c .records
+    → Left code w n b (recsOf r q s (k .s) opened) (clipped opened (foundFirst w n b)) (foundTo b (recsOf r q s (k .s) opened))
+all-found code {w} {r} {q} {s} {n} {k = k} {c = c} t b inside opened most =
+    rw (t .parents .firsts b inside) (following-left r q s (k .s) b opened code w n (c .records) (omega (arith, t .few)) most 0 (omega arith))
+
+pub first-left : {code w r q s : List ℕ} {head buckets : ℕ} {k : Rooms} {c : Counts} → Tables (length code) buckets k (mem w r q s) c → Known code w head
+    → (b : ℕ) → b ≤ length code → (opened : ℕ) → c .records ≡ opened
+    → Left code w (length code) b (recs k (mem w r q s) c) (firstCursor w (length code) b opened) (directTo b (prepared code) ++ foundTo b (recs k (mem w r q s) c))
+unfolding firstCursor
+first-left {code} {w} {r} {q} {s} {k = k} {c = c} t known b inside opened e =
+    rw (e, parents-again code b)
+    (or-left (links.firstAt w b) (known .parents b inside) (direct-rises code b) comes (all-found code t b inside opened (omega arith)))
+  where
+    comes : (a : ℕ) → In a (map fromOf (directTo b (prepared code))) → Comes code a
+    comes a i =
+        let g = in-map fromOf (directTo b (prepared code)) i in
+        rw (g .2) (direct-comes code (in-keep (λ (p : Parent). eqb b (p .to)) (direct (prepared code)) (g .1) .1))
+
+-- ---- what a number stands for
+
+module _ (at : ℕ) (l : at < 0x10000) where
+  pub direct-path : (r q : List ℕ) → pathCursor r q at ≡ startOf at ∷ []
+  unfolding pathCursor if
+  direct-path r q = rw (lt-ltb at 0x10000 l)
+
+  pub direct-last : (r q : List ℕ) → lastCursor r q at ≡ startOf at
+  unfolding lastCursor if
+  direct-last r q = rw (lt-ltb at 0x10000 l)
+
+  pub direct-stack : (code r s : List ℕ) (room : ℕ) → stackCursor code r s room at ≡ run code (instructions code) (startOf at) .stack
+  unfolding stackCursor if
+  direct-stack code r s room = rw (lt-ltb at 0x10000 l)
+
+  pub direct-next : (w r : List ℕ) (n b opened : ℕ) → nextCursor w r n b opened at ≡ or-else (links.nextAt w at) (clipped opened (foundFirst w n b))
+  unfolding nextCursor if
+  direct-next w r n b opened = rw (lt-ltb at 0x10000 l)
+
+module _ (at : ℕ) (l : 0x10000 ≤ at) where
+  pub found-path : (r q : List ℕ) → pathCursor r q at ≡ pathAt r q (at - 0x10000)
+  unfolding pathCursor if
+  found-path r q = rw (le-ltb at 0x10000 l)
+
+  pub found-last : (r q : List ℕ) → lastCursor r q at ≡ numAt 2 q (2 * (endOf r (suc (at - 0x10000)) - 1))
+  unfolding lastCursor if
+  found-last r q = rw (le-ltb at 0x10000 l)
+
+  pub found-stack : (code r s : List ℕ) (room : ℕ) → stackCursor code r s room at ≡ stateAt r s room (at - 0x10000)
+  unfolding stackCursor if
+  found-stack code r s room = rw (le-ltb at 0x10000 l)
+
+  pub found-next : (w r : List ℕ) (n b opened : ℕ) → nextCursor w r n b opened at ≡ clipped opened (records.nextAt r (at - 0x10000))
+  unfolding nextCursor if
+  found-next w r n b opened = rw (le-ltb at 0x10000 l)
+
+-- ---- a level's loop ends, since its cursor rises: the loop's measure
+
+unfoldable pub fuel : ℕ → ℕ
+fuel at = if (eqb at 0) 0 (0x80000000 - at)
+
+pub fuel-falls : (at next : ℕ) → (at ≡ 0 → ⊥) → at < 0x80000000 → ((next ≡ 0 → ⊥) → at < next) → fuel next < fuel at
+unfolding fuel if
+fuel-falls at next d l h =
+    rw (ne-eqb at 0 d) (both (λ (x : ℕ). x < 0x80000000 - at) (eqb next 0) (λ _. omega arith) (λ e. omega (arith, h (eqb-false next 0 e))))
+
+pub link-rises : {w starts : List ℕ} {n lo link : ℕ} → Parents w n link starts → Rising lo starts → (link ≡ 0 → ⊥) → 2 * lo + 1 ≤ link
+link-rises {lo = lo} {link = link} p h d = go (subst (Rising lo) (walk-parents p d .is) h)
+  where
+    go : {rest : List ℕ} → Rising lo (startOf link ∷ rest) → 2 * lo + 1 ≤ link
+    go (one-more l r) = omega arith
+
+pub or-rises : (at link x : ℕ) → ((link ≡ 0 → ⊥) → at < link) → ((x ≡ 0 → ⊥) → at < x) → (or-else link x ≡ 0 → ⊥) → at < or-else link x
+or-rises at zero x f g = g
+or-rises at (suc link) x f g = f

@@ -1,0 +1,252 @@
+-- The laws of what a path ends in: when an address counts as reached, and what a record more adds to that. Assumes nothing.
+use mathlib.Core.Path.{_≡_, refl, sym, ap, subst, _∙_}
+use mathlib.Core.Logic.{inl, inr}
+use mathlib.Core.Bool.{Bool, true, false, _&&_, _||_, or-assoc}
+use mathlib.Core.List.{List, [], _∷_, _++_, append-nil}
+use Prim.Native.Nat.{ℕ, zero, suc, _+_, _*_, _^_, _≤_, _<_}
+use native.Mathlib.Decide.{ℕ-discrete}
+use native.Mathlib.Omega.{arith}
+use lib.Dec.{eqb, ltb, leb}
+use lib.ListN.{length, take, drop, length-append}
+use lib.Seq.{take-all, take-append-le}
+use borrow.Author.Tests.{lt-ltb, le-leb, lt-leb, eq-eqb, ne-eqb}
+use Rattle.spec.specs.Lists.{if, mem, little}
+use Rattle.spec.specs.Search.{Found, nowhere, found, Rec, dest, dests}
+use Rattle.theorems.proofs.Branch.{both, if-false, and-false}
+use Rattle.theorems.proofs.Members.{gather-append}
+use Rattle.lent.specs.Bytes.{Stored}
+use Rattle.lent.proofs.Stored.{kept-take, kept-drop, kept-part, kept-num}
+use Rattle.state.specs.Cells.{stackAt}
+use Rattle.reachable.specs.Marks.{markAt}
+use Rattle.reachable.specs.Contracts.{Address, Marked}
+use Rattle.reachable.proofs.Tests.{mem-append, mem-one}
+use Rattle.reachable.proofs.Frames.{num-in}
+use Rattle.reachable.proofs.Marks.{by-mark, marked-others, marked-one}
+use Rattle.tables.specs.Addrs.{addrs}
+use Rattle.tables.specs.Tables as tables
+use Rattle.tables.specs.Tables.{recs, SameLinks}
+use Rattle.tables.specs.Recording.{Grows, Recorded}
+use Rattle.tables.specs.declared.Rooms.{Rooms}
+use Rattle.tables.specs.declared.Counts.{Counts}
+use Rattle.tables.specs.declared.Entry.{Entry}
+use Rattle.tables.specs.declared.Answer.{Answer}
+use Rattle.tables.proofs.Counted.{recs-length}
+use Rattle.tables.proofs.Uses.{tables-kept}
+use Rattle.steps.specs.Lands.{Marks, Lands, Noted}
+use Rattle.steps.specs.declared.Plan.{Plan}
+
+-- ---- the mark f of an address, when the record after the first l leads there (d) or not
+
+abbrev counts : ℕ → ℕ → Bool
+counts f by = ltb 0 f && leb f by
+
+abbrev remarked : Bool → ℕ → ℕ → ℕ
+remarked d l f = if (d && eqb f 0) (l + 2) f
+
+-- an older mark stays
+still : (d : Bool) (l f : ℕ) → (f ≡ 0 → ⊥) → remarked d l f ≡ f
+still d l f z = if-false (d && eqb f 0) _ _ (and-false d (ne-eqb f 0 z))
+
+-- for those who have the older records only, nothing is new
+counts-before : (d : Bool) (l f : ℕ) {j : ℕ} → j ≤ l → counts (remarked d l f) (j + 1) ≡ counts f (j + 1)
+unfolding if
+counts-before true l zero {j} h = and-false (ltb 0 (l + 2)) (lt-leb (l + 2) (j + 1) (omega arith))
+counts-before true l (suc f) {j} h = ap (λ (m : ℕ). counts m (j + 1)) (still true l (suc f) (λ z. omega arith))
+counts-before false l f h = refl
+
+-- for those who have it too, it counts
+counts-after : (d : Bool) (l f : ℕ) {j : ℕ} → f ≤ l + 1 → j ≡ l + 1 → counts (remarked d l f) (j + 1) ≡ counts f (l + 1) || d
+unfolding if
+counts-after true l zero {j} h e = rw (lt-ltb 0 (l + 2) (omega arith), le-leb (l + 2) (j + 1) (omega arith))
+counts-after false l zero h e = refl
+counts-after d l (suc f) {j} h e =
+    rw (still d l (suc f) (λ z. omega arith), lt-ltb 0 (suc f) (omega arith), le-leb (suc f) (j + 1) (omega arith), le-leb (suc f) (l + 1) h)
+
+-- ---- marks
+
+-- the destinations with a new one
+mem-dests : (rs : List Rec) (x : Rec) (a : ℕ) → mem a (dests (rs ++ x ∷ [])) ≡ mem a (dests rs) || mem a (dest (x .to))
+mem-dests rs x a =
+    ap (mem a) (gather-append (λ (r : Rec). dest (r .to)) rs (x ∷ [])) ∙ mem-append a (dests rs) (dest (x .to) ++ [])
+    ∙ ap (λ (ds : List ℕ). mem a (dests rs) || mem a ds) (append-nil (dest (x .to)))
+
+module _ {n since : ℕ} {w reached : List ℕ} {rs : List Rec} (o : Marks n w reached since rs) where
+  pub marks-kept : {w′ : List ℕ} → ((a : ℕ) → a ≤ n → markAt w′ n a ≡ markAt w n a) → Marks n w′ reached since rs
+  marks-kept e =
+      record {
+        by = λ j h g a b. ap (λ (f : ℕ). counts f (j + 1)) (e a b) ∙ o .by j h g a b;
+        most = λ a b. omega (arith, e a b, o .most a b);
+      }
+
+  module _ (w′ : List ℕ) (x : Rec) {l : ℕ} (long : length rs ≡ l) (old : since ≤ l)
+      (e : (a : ℕ) → a ≤ n → markAt w′ n a ≡ remarked (mem a (dest (x .to))) l (markAt w n a)) where
+    longer : length (rs ++ x ∷ []) ≡ l + 1
+    longer = length-append rs (x ∷ []) ∙ ap (λ (m : ℕ). m + 1) long
+
+    by-more : (j : ℕ) → since ≤ j → j ≤ l + 1 → (a : ℕ) → a ≤ n → Dec (j ≡ l + 1)
+        → counts (markAt w′ n a) (j + 1) ≡ mem a reached || mem a (dests (take j (rs ++ x ∷ [])))
+    by-more j h g a b (yes q) =
+        ap (λ (f : ℕ). counts f (j + 1)) (e a b)
+        ∙ counts-after (mem a (dest (x .to))) l (markAt w n a) (omega (arith, o .most a b, long)) q
+        ∙ ap (λ (u : Bool). u || mem a (dest (x .to))) (o .by l old (omega arith) a b)
+        ∙ or-assoc (mem a reached) (mem a (dests (take l rs))) (mem a (dest (x .to)))
+        ∙ ap (λ (ys : List Rec). mem a reached || (mem a (dests ys) || mem a (dest (x .to)))) (take-all l rs (omega arith))
+        ∙ ap (λ (u : Bool). mem a reached || u) (sym (mem-dests rs x a))
+        ∙ ap (λ (ys : List Rec). mem a reached || mem a (dests ys)) (sym (take-all j (rs ++ x ∷ []) (omega (arith, longer))))
+    by-more j h g a b (no d) =
+        ap (λ (f : ℕ). counts f (j + 1)) (e a b)
+        ∙ counts-before (mem a (dest (x .to))) l (markAt w n a) (omega arith)
+        ∙ o .by j h (omega arith) a b
+        ∙ ap (λ (ys : List Rec). mem a reached || mem a (dests ys)) (sym (take-append-le j rs (x ∷ []) (omega arith)))
+
+    pub marks-more : Marks n w′ reached since (rs ++ x ∷ [])
+    marks-more =
+        record {
+          by = λ j h g a b. by-more j h (omega (arith, longer)) a b (ℕ-discrete j (l + 1));
+          most = λ a b.
+              let now : remarked (mem a (dest (x .to))) l (markAt w n a) ≤ l + 2 =
+              both (λ (f : ℕ). f ≤ l + 2) (mem a (dest (x .to)) && eqb (markAt w n a) 0) (λ _. omega arith) (λ _. omega (arith, o .most a b)) in
+              omega (arith, e a b, longer);
+        }
+
+-- ---- W with a mark more: what else stands there stays
+
+record Spared (n buckets : ℕ) (w w′ : List ℕ) : Type 0 where
+  links : SameLinks n buckets w w′
+  front : take (20 * (n + 1)) w′ ≡ take (20 * (n + 1)) w
+  rests : (a : ℕ) → a ≤ n → take 8 (drop (20 * (n + 1) + 20 * a + 12) w′) ≡ take 8 (drop (20 * (n + 1) + 20 * a + 12) w)
+  work : take (2 * (n + 1)) (drop (40 * (n + 1)) w′) ≡ take (2 * (n + 1)) (drop (40 * (n + 1)) w)
+  back : drop (42 * (n + 1) + 4 * buckets) w′ ≡ drop (42 * (n + 1) + 4 * buckets) w
+
+spared-all : {n buckets : ℕ} {w : List ℕ} → Spared n buckets w w
+spared-all =
+    record {
+      links = record { firsts = λ a l. refl; lasts = λ a l. refl; heads = λ h l. refl; long = refl };
+      front = refl;
+      rests = λ a l. refl;
+      work = refl;
+      back = refl;
+    }
+
+spared-mark : {n buckets a when : ℕ} {w w′ : List ℕ} → Address n w a → Marked n w a when w′ → Spared n buckets w w′
+spared-mark {n} {buckets} {a} {when} {w} {w′} i m = by-mark i m (λ _ s. stored s) (λ _ e. rw e spared-all)
+  where
+    stored : Stored 4 w (20 * (n + 1 + a)) (little 4 when) w′ → Spared n buckets w w′
+    stored s =
+        let b = i .inside in
+        record {
+          links = record {
+            firsts = λ y l. kept-num s 4 (20 * (n + 1) + 20 * y + 4) (λ g. omega arith);
+            lasts = λ y l. kept-num s 4 (20 * (n + 1) + 20 * y + 8) (λ g. omega arith);
+            heads = λ h l. kept-num s 4 (42 * (n + 1) + 4 * h) (λ g. omega arith);
+            long = s .kept;
+          };
+          front = kept-take s (20 * (n + 1)) (omega arith);
+          rests = λ y l. kept-part s 8 (20 * (n + 1) + 20 * y + 12) (λ g. omega arith);
+          work = kept-part s (2 * (n + 1)) (40 * (n + 1)) (λ g. omega arith);
+          back = kept-drop s (42 * (n + 1) + 4 * buckets) (omega arith);
+        }
+
+-- ---- noted: recorded, and marked if it is new
+
+-- recording leaves the marks
+mark-recorded : {p : List ℕ} {np n buckets start : ℕ} {k : Rooms} {m m′ : tables.Mem} {c : Counts} {x : Found} {a : Answer}
+    → Recorded p np n buckets k m c start x m′ a → (y : ℕ) → y ≤ n → markAt (m′ .w) n y ≡ markAt (m .w) n y
+mark-recorded {n = n} {m = m} {m′} h y l =
+    num-in (m′ .w) (m .w) 4 (20 * (n + 1) + 20 * y) (h .keeping .beyond .apart .marks y l) 4 (20 * (n + 1 + y)) (omega arith) (omega arith)
+
+module _ {p : List ℕ} {np start : ℕ} {k : Plan} {w r q s w₁ r₁ q₁ s₁ : List ℕ} {c : Counts} {x : Found} {a : Answer}
+    (h : Recorded p np (k .n) (k .buckets) (k .rooms) (tables.mem w r q s) c start x (tables.mem w₁ r₁ q₁ s₁) a) where
+  -- what recording leaves, with W marked or as it is
+  noted-by : {w₂ : List ℕ} → Spared (k .n) (k .buckets) w₁ w₂ → ((a .code ≡ 0 → ⊥) → w₂ ≡ w₁)
+      → (a .counts .records ≡ c .records → (y : ℕ) → y ≤ k .n → markAt w₂ (k .n) y ≡ markAt w₁ (k .n) y)
+      → (a .counts .records ≡ c .records + 1 → (y : ℕ) → y ≤ k .n → markAt w₂ (k .n) y ≡ remarked (mem y (dest x)) (c .records) (markAt w₁ (k .n) y))
+      → Noted p np k (tables.mem w r q s) c start x (tables.mem w₂ r₁ q₁ s₁) a
+  noted-by {w₂} o stays same more =
+      let v = h .keeping in
+      let b = v .beyond in
+      record {
+        code = h .code;
+        made = h .made;
+        refused = λ d. (ap (λ (u : List ℕ). tables.mem u r₁ q₁ s₁) (stays d) ∙ h .refused d .0, h .refused d .1);
+        grows = h .grows;
+        tables = tables-kept (h .tables) w₂ s₁ (o .links) refl refl (a .counts .used) (a .counts .rows) (h .tables .within .fitsS);
+        marks = λ reached since l g. go l g (h .grows);
+        around = record {
+          front = o .front ∙ b .apart .front;
+          rests = λ y l. o .rests y l ∙ b .apart .rests y l;
+          work = o .work ∙ b .work;
+          back = o .back ∙ b .back;
+          frontQ = v .frontQ;
+          bottom = v .bottom;
+          top = v .top;
+          longW = o .links .long ∙ b .apart .long;
+          longR = v .longR;
+          longQ = v .longQ;
+          longS = v .longS;
+        };
+        used = h .used;
+        rows = h .rows;
+      }
+    where
+      go : {reached : List ℕ} {since : ℕ} → since ≤ c .records → Marks (k .n) w reached since (recs (k .rooms) (tables.mem w r q s) c)
+          → Grows (k .rooms) (tables.mem w r q s) c (record { start = start; to = x; path = addrs p 0 np }) (tables.mem w₁ r₁ q₁ s₁) (a .counts)
+          → Marks (k .n) w₂ reached since (recs (k .rooms) (tables.mem w₂ r₁ q₁ s₁) (a .counts))
+      go l g (inl e) =
+          subst (Marks (k .n) w₂ _ _) (sym (e .0)) (marks-kept g (λ y b. same (e .1) y b ∙ mark-recorded h y b))
+      go l g (inr e) =
+          subst (Marks (k .n) w₂ _ _) (sym (e .0)) (marks-more g w₂ _ (recs-length r q s (k .rooms .s) (c .records)) l
+          (λ y b. more (e .1) y b ∙ ap (remarked (mem y (dest x)) (c .records)) (mark-recorded h y b)))
+
+  -- nothing was added, so nothing is marked
+  pub landed-old : a .counts .records ≡ c .records → Noted p np k (tables.mem w r q s) c start x (tables.mem w₁ r₁ q₁ s₁) a
+  landed-old e = noted-by spared-all (λ _. refl) (λ _ y l. refl) (λ g. absurd (omega arith))
+
+-- no destination: nothing to mark
+pub strayed : {p : List ℕ} {np start : ℕ} {k : Plan} {w r q s w₁ r₁ q₁ s₁ : List ℕ} {c : Counts} {a : Answer}
+    → Recorded p np (k .n) (k .buckets) (k .rooms) (tables.mem w r q s) c start nowhere (tables.mem w₁ r₁ q₁ s₁) a
+    → Noted p np k (tables.mem w r q s) c start nowhere (tables.mem w₁ r₁ q₁ s₁) a
+strayed h = noted-by h spared-all (λ _. refl) (λ _ y l. refl) (λ _ y l. sym (if-false false _ _ refl))
+
+-- the number of records, of which there are few, and two more
+pub lands-few : {p : List ℕ} {np : ℕ} {k : Plan} {m : tables.Mem} {c : Counts} {e : Entry} → Lands p np k m c e → c .records + 2 < 2 ^ 32
+lands-few y = let i = y .somewhere .tables .within in omega (arith, i .fitsR, i .mostR)
+
+module _ {p : List ℕ} {np : ℕ} {k : Plan} {w r q s w₁ r₁ q₁ s₁ : List ℕ} {c : Counts} {e : Entry} {a : Answer} (y : Lands p np k (tables.mem w r q s) c e)
+    (h : Recorded p np (k .n) (k .buckets) (k .rooms) (tables.mem w r q s) c (e .start) (found (e .to) (stackAt s (9 * e .from) (e .cells))) (tables.mem w₁ r₁ q₁ s₁) a) where
+  -- what `mark` asks
+  pub lands-address : Address (k .n) w₁ (e .to)
+  lands-address =
+      record {
+        lent = record { short = y .lent .short; room = omega (arith, y .lent .room, h .keeping .beyond .apart .long) };
+        inside = y .somewhere .to;
+      }
+
+  -- a record was added, so its destination is marked
+  pub landed-new : {w₂ : List ℕ} → (a .counts .records ≡ c .records → ⊥) → Marked (k .n) w₁ (e .to) (c .records + 2) w₂
+      → Noted p np k (tables.mem w r q s) c (e .start) (found (e .to) (stackAt s (9 * e .from) (e .cells))) (tables.mem w₂ r₁ q₁ s₁) a
+  landed-new {w₂} d m =
+      noted-by h (spared-mark lands-address m) (λ z. absurd (d (ap (λ (u : Counts). u .records) (h .refused z .1)))) (λ g. absurd (d g)) (λ _ z l. marked z (ℕ-discrete z (e .to)))
+    where
+      marked : (z : ℕ) → Dec (z ≡ e .to) → markAt w₂ (k .n) z ≡ remarked (mem z (e .to ∷ [])) (c .records) (markAt w₁ (k .n) z)
+      marked z (yes i) =
+          rw (mem-one z (e .to), eq-eqb z (e .to) i, i) (marked-one lands-address m (lands-few y))
+      marked z (no i) =
+          marked-others lands-address m z i ∙ sym (if-false (mem z (e .to ∷ []) && eqb (markAt w₁ (k .n) z) 0) _ _ (rw (mem-one z (e .to), ne-eqb z (e .to) i)))
+
+-- ---- for the caller: the older records stay
+
+pub noted-older : {p : List ℕ} {np start : ℕ} {k : Plan} {m m′ : tables.Mem} {c : Counts} {x : Found} {a : Answer} → Noted p np k m c start x m′ a
+    → take (c .records) (recs (k .rooms) m′ (a .counts)) ≡ recs (k .rooms) m c
+noted-older {p} {np} {start} {k} {m} {m′} {c} {x} {a} h = go (h .grows)
+  where
+    long : length (recs (k .rooms) m c) ≡ c .records
+    long = recs-length (m .r) (m .q) (m .s) (k .rooms .s) (c .records)
+
+    all : take (c .records) (recs (k .rooms) m c) ≡ recs (k .rooms) m c
+    all = take-all (c .records) (recs (k .rooms) m c) (omega (arith, long))
+
+    go : Grows (k .rooms) m c (record { start = start; to = x; path = addrs p 0 np }) m′ (a .counts)
+        → take (c .records) (recs (k .rooms) m′ (a .counts)) ≡ recs (k .rooms) m c
+    go (inl e) = ap (take (c .records)) (e .0) ∙ all
+    go (inr e) = ap (take (c .records)) (e .0) ∙ take-append-le (c .records) (recs (k .rooms) m c) _ (omega (arith, long)) ∙ all

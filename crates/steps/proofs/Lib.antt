@@ -1,0 +1,15 @@
+pub mod Clips
+pub mod Rises
+pub mod Founds
+pub mod Cursors
+pub mod Nexts
+pub mod Splits
+pub mod Occurs
+pub mod Paths
+pub mod Counting
+pub mod Growing
+pub mod Found
+pub mod Sound
+pub mod Takes
+pub mod Lands
+pub mod Meets

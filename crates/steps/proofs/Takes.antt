@@ -1,0 +1,212 @@
+-- A parent's state behind a level's: what the calls ask, and what is answered, for a block's own state and for a kept one. Assumes nothing.
+use mathlib.Core.Path.{_≡_, refl, sym, ap, _∙_}
+use Prim.Native.Nat.{ℕ, zero, suc, _+_, _-_, _*_, _≤_, _<_}
+use mathlib.Core.List.{List, [], _∷_}
+use native.Mathlib.Omega.{arith}
+use lib.Dec.{ltb}
+use borrow.Author.Tests.{lt-ltb, le-ltb, le-leb, lt-leb}
+use Rattle.spec.specs.Lists.{if}
+use Rattle.spec.specs.Walk.{instructions}
+use Rattle.spec.specs.Stacks.{Stack, cells, read, run, compose}
+use Rattle.spec.specs.Search.{S}
+use Rattle.theorems.proofs.Branch.{if-true, if-false}
+use Rattle.lent.specs.Bytes.{Holds}
+use Rattle.lent.proofs.Stored.{kept-take, kept-drop}
+use Rattle.state.specs.Symbols.{symOf}
+use Rattle.state.specs.Cells.{stackAt, State, reach}
+use Rattle.state.specs.Stored.{Readable}
+use Rattle.state.specs.Composed.{Composes, ComposesKept, Composed}
+use Rattle.state.specs.Owns.{Runs, Inside, Owned}
+use Rattle.state.specs.declared.sym.StackSym.{StackSym}
+use Rattle.state.specs.declared.run.Own.{Own}
+use Rattle.state.proofs.States.{state-lies, lies-count}
+use Rattle.state.proofs.Composing.{cells-compose}
+use Rattle.tables.specs.Records.{keptOf}
+use Rattle.tables.specs.Recording.{shortOf}
+use Rattle.tables.specs.declared.Rooms.{Rooms}
+use Rattle.tables.specs.declared.Counts.{Counts}
+use Rattle.parents.specs.Links.{startOf}
+use Rattle.steps.specs.Cursors.{stackCursor}
+use Rattle.steps.specs.States.{Composing, Took}
+use Rattle.steps.specs.declared.Plan.{Plan}
+use Rattle.steps.specs.declared.Level.{Level}
+
+-- ---- the kept cells of the records before one
+
+pub kept-none : {i : ℕ} (r : List ℕ) → i ≡ 0 → 0 ≡ keptOf r i
+unfolding keptOf
+kept-none r e = rw e
+
+pub kept-some : (i v : ℕ) (r : List ℕ) → (i ≡ 0 → ⊥) → Holds 4 r (32 * (i - 1) + 8) v → v ≡ keptOf r i
+unfolding keptOf
+kept-some zero v r n h = absurd (n refl)
+kept-some (suc i) v r n h = let e : suc i - 1 ≡ i = omega arith in rw e at (h .is)
+
+-- ---- the stack that a number stands for
+
+module _ (code r s : List ℕ) (room at : ℕ) where
+  pub cursor-own : at < 0x10000 → stackCursor code r s room at ≡ run code (instructions code) (startOf at) .stack
+  unfolding stackCursor
+  cursor-own h = if-true (ltb at 0x10000) _ _ (lt-ltb at 0x10000 h)
+
+  pub cursor-kept : 0x10000 ≤ at
+      → stackCursor code r s room at ≡ stackAt s (9 * (room - keptOf r (suc (at - 0x10000)))) (keptOf r (suc (at - 0x10000)) - keptOf r (at - 0x10000))
+  unfolding stackCursor
+  cursor-kept h = if-false (ltb at 0x10000) _ _ (le-ltb at 0x10000 h)
+
+-- ---- S is short, or not
+
+module _ (k : Rooms) (units : ℕ) where
+  one-short : k .s < units → 5 ≡ shortOf k (record { room = S; units = units } ∷ [])
+  unfolding shortOf if
+  one-short h = rw (lt-leb units (k .s) h)
+
+  one-fits : units ≤ k .s → 0 ≡ shortOf k (record { room = S; units = units } ∷ [])
+  unfolding shortOf if
+  one-fits h = rw (le-leb units (k .s) h)
+
+module _ {code w s r : List ℕ} {k : Plan} {c : Counts} {l : Level} {at : ℕ} (q : Composing code w s r k c l at) where
+  C : Stack
+  C = stackAt s (9 * l .from) (l .cells)
+
+  P : Stack
+  P = stackCursor code r s (k .rooms .s) at
+
+  -- ---- either parent, which lies in b from `from` on, in n cells
+
+  module _ {b : List ℕ} {from n : ℕ} (e : P ≡ stackAt b from n) (st : State b from n) where
+    readable : Readable b from n (l .position)
+    unfolding P
+    readable = record { state = st; small = omega (arith, ap reach e, q .deeper, q .near) }
+
+    module _ {base m : ℕ} (f : base ≡ stackAt s (9 * l .from) (l .cells) .base) (g : m ≡ l .cells + (n - (base + 1))) where
+      count : m ≡ cells (compose C (stackAt b from n))
+      unfolding C
+      count = omega (arith, cells-compose C (stackAt b from n), lies-count (state-lies s (9 * l .from) (l .cells) (q .child)), lies-count (state-lies b from n st))
+
+      composes : c .kept + c .used + m ≤ k .rooms .s → Composes s (9 * l .from) (l .cells) (9 * c .used) b from n
+      unfolding C P
+      composes h =
+          record {
+            child-state = q .child;
+            parent-state = st;
+            apart = omega (arith, q .low);
+            room = omega (arith, count, q .lentS);
+            small = omega (arith, ap reach e, q .deep, q .deeper);
+          }
+
+      module _ {w′ : List ℕ} (o : Inside code w (k .end) w′) {y : StackSym} (x : symOf y ≡ read (stackAt b from n) (l .position)) where
+        took-short : k .rooms .s < c .kept + c .used + m → Took code w s k c l P w′ s (record { code = 5; cells = m; symbol = y })
+        unfolding C
+        took-short h =
+            record {
+              cells-are = rw e count;
+              code-is = one-short (k .rooms) (c .kept + c .used + m) h;
+              symbol-is = rw e x;
+              fits = λ z. absurd (omega (arith, z));
+              lies = λ z. absurd (omega (arith, z));
+              bottom = refl;
+              top = refl;
+              longS = refl;
+              front = o .front;
+              back = o .back;
+              longW = o .kept;
+            }
+
+        took-all : {s′ : List ℕ} {v : ℕ} → c .kept + c .used + m ≤ k .rooms .s → Composed s (9 * c .used) (compose C (stackAt b from n)) s′ v
+            → Took code w s k c l P w′ s′ (record { code = 0; cells = v; symbol = y })
+        unfolding C
+        took-all {s′} {v} h d =
+            let room : c .kept + c .used + v ≤ k .rooms .s = omega (arith, count, d .count) in
+            record {
+              cells-are = rw e (d .count);
+              code-is = one-fits (k .rooms) (c .kept + c .used + v) room;
+              symbol-is = rw e x;
+              fits = λ _. room;
+              lies = λ _. rw e (d .lies);
+              bottom = kept-take (d .stored) (9 * c .used) (omega arith);
+              top = kept-drop (d .stored) (9 * (k .rooms .s - c .kept)) (omega arith);
+              longS = d .stored .kept;
+              front = o .front;
+              back = o .back;
+              longW = o .kept;
+            }
+
+  -- ---- a block's own state, which is run into W
+
+  module _ (h : at < 0x10000) {start : ℕ} (a : start ≡ startOf at) where
+    pub direct-runs : Runs code start w (k .end)
+    direct-runs = record { stands = rw a (q .direct h); short = q .short; inside = q .inW; room = q .scratch }
+
+    module _ {w′ : List ℕ} {x : Own} (o : Owned code start w (k .end) w′ x) where
+      own-is : P ≡ stackAt w′ (x .at) (x .n)
+      unfolding P
+      own-is = cursor-own code r s (k .rooms .s) at h ∙ ap (λ (i : ℕ). run code (instructions code) i .stack) (sym a) ∙ sym (o .lies .is)
+
+      pub direct-readable : Readable w′ (x .at) (x .n) (l .position)
+      direct-readable = readable own-is (o .lies .state)
+
+      module _ {base m : ℕ} (f : base ≡ stackAt s (9 * l .from) (l .cells) .base) (g : m ≡ l .cells + (x .n - (base + 1))) where
+        pub direct-composes : c .kept + c .used + m ≤ k .rooms .s → Composes s (9 * l .from) (l .cells) (9 * c .used) w′ (x .at) (x .n)
+        direct-composes = composes own-is (o .lies .state) f g
+
+        module _ {y : StackSym} (z : symOf y ≡ read (stackAt w′ (x .at) (x .n)) (l .position)) where
+          pub direct-short : k .rooms .s < c .kept + c .used + m
+              → Took code w s k c l (stackCursor code r s (k .rooms .s) at) w′ s (record { code = 5; cells = m; symbol = y })
+          unfolding P
+          direct-short = took-short own-is (o .lies .state) f g (o .inside) z
+
+          pub direct-took : {s′ : List ℕ} {v : ℕ} → c .kept + c .used + m ≤ k .rooms .s
+              → Composed s (9 * c .used) (compose (stackAt s (9 * l .from) (l .cells)) (stackAt w′ (x .at) (x .n))) s′ v
+              → Took code w s k c l (stackCursor code r s (k .rooms .s) at) w′ s′ (record { code = 0; cells = v; symbol = y })
+          unfolding C P
+          direct-took = took-all own-is (o .lies .state) f g (o .inside) z
+
+  -- ---- a found parent's, which is kept in S
+
+  same : Inside code w (k .end) w
+  same = record { front = refl; back = refl; kept = refl }
+
+  module _ (h : 0x10000 ≤ at) {kept : ℕ} (a : Holds 4 r (32 * (at - 0x10000) + 8) kept) where
+    kept-is : kept ≡ keptOf r (suc (at - 0x10000))
+    unfolding keptOf
+    kept-is = a .is
+
+    pub found-inside : kept ≤ k .rooms .s
+    found-inside = omega (arith, kept-is, q .kept h, q .fits)
+
+    module _ {before : ℕ} (b : before ≡ keptOf r (at - 0x10000)) where
+      found-state : State s (9 * (k .rooms .s - kept)) (kept - before)
+      found-state = rw (kept-is, b) (q .parent h)
+
+      found-is : P ≡ stackAt s (9 * (k .rooms .s - kept)) (kept - before)
+      unfolding P
+      found-is = rw (kept-is, b) (cursor-kept code r s (k .rooms .s) at h)
+
+      pub found-rises : before ≤ kept
+      found-rises = omega (arith, found-state .some)
+
+      pub found-readable : Readable s (9 * (k .rooms .s - kept)) (kept - before) (l .position)
+      found-readable = readable found-is found-state
+
+      module _ {base m : ℕ} (f : base ≡ stackAt s (9 * l .from) (l .cells) .base) (g : m ≡ l .cells + (kept - before - (base + 1))) where
+        -- the new cells end below all that are kept
+        pub found-composes : c .kept + c .used + m ≤ k .rooms .s → ComposesKept s (9 * l .from) (l .cells) (9 * c .used) (9 * (k .rooms .s - kept)) (kept - before)
+        unfolding C
+        found-composes i =
+            record {
+              both = composes found-is found-state f g i;
+              clear = λ j. absurd (omega (arith, count found-is found-state f g, kept-is, q .kept h));
+            }
+
+        module _ {y : StackSym} (z : symOf y ≡ read (stackAt s (9 * (k .rooms .s - kept)) (kept - before)) (l .position)) where
+          pub found-short : k .rooms .s < c .kept + c .used + m
+              → Took code w s k c l (stackCursor code r s (k .rooms .s) at) w s (record { code = 5; cells = m; symbol = y })
+          unfolding P
+          found-short = took-short found-is found-state f g same z
+
+          pub found-took : {s′ : List ℕ} {v : ℕ} → c .kept + c .used + m ≤ k .rooms .s
+              → Composed s (9 * c .used) (compose (stackAt s (9 * l .from) (l .cells)) (stackAt s (9 * (k .rooms .s - kept)) (kept - before))) s′ v
+              → Took code w s k c l (stackCursor code r s (k .rooms .s) at) w s′ (record { code = 0; cells = v; symbol = y })
+          unfolding C P
+          found-took = took-all found-is found-state f g same z

@@ -1,0 +1,64 @@
+-- When an address counts as reached, and what a path's end adds to that and to the records. Assumes nothing.
+use mathlib.Core.Path.{_≡_}
+use mathlib.Core.Bool.{_||_}
+use Prim.Native.Nat.{ℕ, _+_, _-_, _*_, _≤_}
+use mathlib.Core.List.{List, _∷_, []}
+use lib.ListN.{length, take, drop}
+use Rattle.spec.specs.Lists.{mem}
+use Rattle.spec.specs.Search.{Found, Rec, dests, St, Turn}
+use Rattle.spec.specs.Rooms.{Lent, or-else, shortage}
+use Rattle.theorems.proofs.Older.{clear}
+use Rattle.reachable.specs.Marks.{markAt, markedBy}
+use Rattle.reachable.specs.Contracts.{Room}
+use Rattle.tables.specs.Addrs.{addrs}
+use Rattle.tables.specs.Tables as tables
+use Rattle.tables.specs.Tables.{recs, Tables, Nowhere, Somewhere}
+use Rattle.tables.specs.Recording.{Lends, noted, Holding, with-recs, Grows}
+use Rattle.tables.specs.declared.Counts.{Counts}
+use Rattle.tables.specs.declared.Entry.{Entry}
+use Rattle.tables.specs.declared.Answer.{Answer}
+use Rattle.steps.specs.declared.Plan.{Plan}
+
+-- An address counts as reached, for a level that opens with j records, if the round began with it reached or one of those records leads there. That holds
+-- from the `since` records on with which the round began.
+pub record Marks (n : ℕ) (w reached : List ℕ) (since : ℕ) (rs : List Rec) : Type 0 where
+  pub by : (j : ℕ) → since ≤ j → j ≤ length rs → (a : ℕ) → a ≤ n → markedBy w n a (j + 1) ≡ mem a reached || mem a (dests (take j rs))
+  pub most : (a : ℕ) → a ≤ n → markAt w n a ≤ length rs + 1
+
+pub record Lands (p : List ℕ) (np : ℕ) (k : Plan) (m : tables.Mem) (c : Counts) (e : Entry) : Type 0 where
+  pub lent : Room (k .n) (m .w)
+  pub somewhere : Somewhere p np (k .n) (k .buckets) (k .rooms) m c e
+
+pub record Strays (p : List ℕ) (np : ℕ) (k : Plan) (m : tables.Mem) (c : Counts) (start : ℕ) : Type 0 where
+  pub lent : Room (k .n) (m .w)
+  pub nowhere : Nowhere p np (k .n) (k .buckets) (k .rooms) m c start
+
+-- what stays: W's rows, the fields of each address from the twelfth byte on, the worklist and what lies past the buckets; the records' paths; the cells in
+-- use at the bottom of S, and those kept at its top
+pub record Around (k : Plan) (m : tables.Mem) (c : Counts) (m′ : tables.Mem) : Type 0 where
+  pub front : take (20 * (k .n + 1)) (m′ .w) ≡ take (20 * (k .n + 1)) (m .w)
+  pub rests : (a : ℕ) → a ≤ k .n → take 8 (drop (20 * (k .n + 1) + 20 * a + 12) (m′ .w)) ≡ take 8 (drop (20 * (k .n + 1) + 20 * a + 12) (m .w))
+  pub work : take (2 * (k .n + 1)) (drop (40 * (k .n + 1)) (m′ .w)) ≡ take (2 * (k .n + 1)) (drop (40 * (k .n + 1)) (m .w))
+  pub back : drop (42 * (k .n + 1) + 4 * k .buckets) (m′ .w) ≡ drop (42 * (k .n + 1) + 4 * k .buckets) (m .w)
+  pub frontQ : take (2 * c .addresses) (m′ .q) ≡ take (2 * c .addresses) (m .q)
+  pub bottom : take (9 * c .used) (m′ .s) ≡ take (9 * c .used) (m .s)
+  pub top : drop (9 * (k .rooms .s - c .kept)) (m′ .s) ≡ drop (9 * (k .rooms .s - c .kept)) (m .s)
+  pub longW : length (m′ .w) ≡ length (m .w)
+  pub longR : length (m′ .r) ≡ length (m .r)
+  pub longQ : length (m′ .q) ≡ length (m .q)
+  pub longS : length (m′ .s) ≡ length (m .s)
+
+-- The code is the first shortage of what document 01 notes; where it is 0 the buffers hold what document 01 makes, and W's marks say what is reached; else
+-- all is untouched.
+pub record Noted (p : List ℕ) (np : ℕ) (k : Plan) (m : tables.Mem) (c : Counts) (start : ℕ) (x : Found) (m′ : tables.Mem) (a : Answer) : Type 0 where
+  pub code : (t : Turn) (st : St) → Holding (k .rooms) m c start t st → (l : Lent) → Lends l (k .rooms)
+      → shortage l (noted t x (addrs p 0 np) st .needs) ≡ or-else (shortage l (st .needs)) (a .code)
+  pub made : (t : Turn) (st : St) → Holding (k .rooms) m c start t st → a .code ≡ 0 → clear (noted t x (addrs p 0 np) st) ≡ with-recs (k .rooms) m′ (a .counts) st
+  pub refused : (a .code ≡ 0 → ⊥) → (m′ ≡ m) × (a .counts ≡ c)
+  pub grows : Grows (k .rooms) m c (record { start = start; to = x; path = addrs p 0 np }) m′ (a .counts)
+  pub tables : Tables (k .n) (k .buckets) (k .rooms) m′ (a .counts)
+  pub marks : (reached : List ℕ) (since : ℕ) → since ≤ c .records → Marks (k .n) (m .w) reached since (recs (k .rooms) m c)
+      → Marks (k .n) (m′ .w) reached since (recs (k .rooms) m′ (a .counts))
+  pub around : Around k m c m′
+  pub used : a .counts .used ≡ c .used
+  pub rows : a .counts .rows ≡ c .rows

@@ -1,0 +1,74 @@
+// The path in hand, in P: growing it by a parent's path, and how often each address is on it, in W.
+use crate::cursor::FOUND;
+use lent::copy;
+use lent::get16;
+use lent::get32;
+use lent::put16;
+use lent::put32;
+use parents::link::parent_start;
+use tables::record::end_before;
+ghost use mathlib.Core.Path.{_≡_};
+ghost use mathlib.Core.Bool.{not};
+ghost use lib.Dec.{eqb};
+ghost use Rattle.tables.specs.Addrs.{addrs};
+ghost use Rattle.reachable.specs.Contracts.{Address};
+ghost use Rattle.steps.specs.Cursors.{pathCursor};
+ghost use Rattle.steps.specs.Paths.{countAt, Growing, Grown, Counting, Counted, Uncounting};
+
+// Where an address has its count on the path, among its 20 bytes.
+const COUNT: usize = 12;
+
+// Puts the path of the parent at `at` behind the np addresses in hand; gives how many there are then, or 0 if the room is short.
+pub fn grow(p: &mut [u8], r: &[u8], q: &[u8], room: usize, np: usize, at: usize) -> usize
+    requires { ⌜ Growing (now p) (now r) (now q) room np at ⌝ }
+    ensures { λ x. ⌜ Grown (now (p .entry)) np room (pathCursor (now (r .entry)) (now (q .entry)) at) (now (p .exit)) x ⌝ }
+{
+    if at < FOUND {
+        if room < np + 1 {
+            return 0;
+        }
+        put16(p, 2 * np, parent_start(at));
+        return np + 1;
+    }
+    let from = end_before(r, at - FOUND);
+    let len = get32(r, 32 * (at - FOUND) + 4) - from;
+    if room < np + len {
+        return 0;
+    }
+    copy(p, 2 * np, q, 2 * from, 2 * len);
+    np + len
+}
+
+// Whether a is on the path in hand.
+pub fn on_path(w: &[u8], n: usize, a: usize) -> bool
+    requires { ⌜ Address n (now w) a ⌝ }
+    ensures { λ r. ⌜ r ≡ not (eqb (countAt (now (w .entry)) n a) 0) ⌝ }
+{
+    get32(w, 20 * (n + 1 + a) + COUNT) != 0
+}
+
+// Counts the addresses of the path from `from` to `to`.
+pub fn count(w: &mut [u8], n: usize, p: &[u8], from: usize, to: usize)
+    requires { ⌜ Counting n (now w) (now p) from to ⌝ }
+    ensures { λ _. ⌜ Counted n (now (w .entry)) (now (p .entry)) to (now (w .exit)) ⌝ }
+{
+    let mut i = from;
+    while i < to {
+        let at = 20 * (n + 1 + get16(p, 2 * i)) + COUNT;
+        put32(w, at, get32(w, at) + 1);
+        i += 1;
+    }
+}
+
+// Takes the addresses of the path from `from` to `to` off the counts.
+pub fn uncount(w: &mut [u8], n: usize, p: &[u8], from: usize, to: usize)
+    requires { ⌜ Uncounting n (now w) (now p) from to ⌝ }
+    ensures { λ _. ⌜ Counted n (now (w .entry)) (now (p .entry)) from (now (w .exit)) ⌝ }
+{
+    let mut i = to;
+    while from < i {
+        i -= 1;
+        let at = 20 * (n + 1 + get16(p, 2 * i)) + COUNT;
+        put32(w, at, get32(w, at) - 1);
+    }
+}
