@@ -8,3 +8,4 @@ pub mod Pass
 pub mod Chains
 pub mod Ends
 pub mod Knows
+pub mod Rises

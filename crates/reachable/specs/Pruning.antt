@@ -25,7 +25,7 @@ pub record EdgeRow (n : ℕ) (r : List ℕ) (i : ℕ) : Type 0 where
   pub to : (toAt r i ≡ 0x8000 → ⊥) → toAt r i ≤ n
 
 pub record EdgeRows (n m : ℕ) (r : List ℕ) : Type 0 where
-  pub few : m < 1073741824
+  pub few : m ≤ 1073741824
   pub each : (i : ℕ) → i < m → EdgeRow n r i
 
 -- the place, or the witness

@@ -1,0 +1,92 @@
+-- What the calls of `graph` leave together. Assumes nothing.
+use mathlib.Core.Path.{_≡_, refl, sym, ap, subst, _∙_}
+use mathlib.Core.List.{List, map}
+use Prim.Native.Nat.{ℕ, zero, suc, _+_, _-_, _*_, _≤_, _<_}
+use native.Mathlib.Omega.{arith}
+use lib.ListN.{length}
+use Rattle.spec.specs.Blocks.{blocks}
+use Rattle.spec.specs.Search.{Rec}
+use Rattle.spec.specs.Ending.{Final, finals}
+use Rattle.spec.specs.Answer.{prepared}
+use Rattle.theorems.proofs.Members.{In}
+use Rattle.lent.specs.Bytes.{numAt}
+use Rattle.initial.specs.Rows.{blocksAt}
+use Rattle.initial.proofs.Rows.{blocks-prefix}
+use Rattle.tables.specs.Records.{endOf, pathAt, recAt, recsOf}
+use Rattle.tables.proofs.Counted.{recs-length}
+use Rattle.reachable.specs.Pruning.{Pruned}
+use Rattle.reachable.proofs.Frames.{num-in}
+use Rattle.reachable.proofs.Chaining.{chains-kept}
+use Rattle.reachable.proofs.Finals.{pruning-edges}
+use Rattle.graph.specs.Border.{endAt, EdgeOf, Finished}
+use Rattle.graph.specs.Notes.{noteOf, mergedBlock}
+use Rattle.graph.specs.Contracts.{Settled, Rewrote, Fits, Graphed}
+use Rattle.graph.proofs.Finals.{note-of, finals-blocks}
+use Rattle.graph.proofs.Recs.{rec-in, in-rec, rec-at, rec-destination}
+use Rattle.graph.proofs.Edges.{RowOf, same-edges}
+use Rattle.graph.proofs.Asking.{start-lies, rec-last, row-of}
+
+module _ {code s : List ℕ} {room m : ℕ} {w r q w₁ r₁ w₂ r₂ : List ℕ} (f : Fits code s room (length code) m w r q) (t : Settled (length code) m w r w₁)
+    (e : Rewrote m w₁ r q r₁) (p : Pruned (length code) m w₁ r₁ w₂ r₂) where
+  all : List Rec
+  all = recsOf r q s room m
+
+  merged-blocks : blocksAt w₁ (length code) ≡ map (λ (x : Final). x .block) (finals (prepared code) all)
+  unfolding all
+  merged-blocks =
+      t .blocks ∙ ap (map (mergedBlock (length code) (λ (a : ℕ). noteOf r a m))) (f .blocks)
+      ∙ sym (finals-blocks (length code) (f .lent .short) (recsOf r q s room m) (λ (a : ℕ). noteOf r a m) (λ a. note-of r q s room a m) (λ x u i. f .lie x i .to u) (prepared code))
+
+  -- a field before the links, and the end of a path after them
+  front : (i : ℕ) → i < m → (o : ℕ) → o ≤ 6 → numAt 2 r₂ (32 * i + o) ≡ numAt 2 r₁ (32 * i + o)
+  front i h o g = num-in r₂ r₁ 8 (32 * i) (p .stay .before i h) 2 (32 * i + o) (omega arith) (omega arith)
+
+  ends : (i : ℕ) → i ≤ m → endAt r₂ i ≡ endOf r i
+  unfolding endAt endOf
+  ends zero h = refl
+  ends (suc i) h = num-in r₂ r₁ 16 (32 * i + 16) (p .stay .after i (omega arith)) 4 (32 * i + 16) (omega arith) (omega arith) ∙ e .rows i (omega arith) .end
+
+  edge-of : (i : ℕ) → i < m → EdgeOf (length code) w₂ r₂ q i (recAt r q s room i)
+  unfolding recAt pathAt
+  edge-of i h = record {
+    start = num-in r₂ r₁ 8 (32 * i) (p .stay .before i h) 2 (32 * i) (omega arith) (omega arith) ∙ e .rows i h .start;
+    to = front i h 6 (omega arith) ∙ e .rows i h .to ∙ sym (rec-destination r q s room i);
+    last = front i h 4 (omega arith) ∙ e .rows i h .last ∙ sym (rec-last f i h);
+    path = rw (ends i (omega arith), ends (suc i) (omega arith));
+    rises = rw (ends i (omega arith), ends (suc i) (omega arith)) (f .rows i h .rises);
+    inQ = rw (ends (suc i) (omega arith)) (f .rows i h .inQ);
+    inR = omega (arith, f .rows i h .inR, e .long, p .stay .long);
+    starts = start-lies f i h;
+  }
+
+  rows-found : (i : ℕ) → i < m → (x : Rec) × In x all × RowOf w₁ r₁ i x
+  unfolding all
+  rows-found i h = (recAt r q s room i, rec-in r q s room m i h, row-of f t e i h)
+
+  recs-found : (x : Rec) → In x all → (i : ℕ) × (i < m) × RowOf w₁ r₁ i x
+  unfolding all
+  recs-found x j = let g = in-rec r q s room m j in (g .0, g .1, subst (RowOf w₁ r₁ (g .0)) (sym (g .2)) (row-of f t e (g .0) (g .1)))
+
+  finish : Finished code (recsOf r q s room m) w₂ r₂ q
+  unfolding all
+  finish =
+      let long : length (recsOf r q s room m) ≡ m = recs-length r q s room m in
+      record {
+        blocks = blocks-prefix w₂ w₁ (length code) (p .rows) ∙ merged-blocks;
+        rows = λ i h x rest d. subst (EdgeOf (length code) w₂ r₂ q i) (sym (rec-at r q s room m i (rw long at h) d)) (edge-of i (rw long at h));
+        kept = λ a h. p .reached a
+            ∙ pruning-edges w₁ r₁ (length code) m (finals (prepared code) all) merged-blocks
+            (same-edges w₁ r₁ (length code) m (prepared code) all (f .lent .short) merged-blocks (λ x i. (f .lie x i .start, f .lie x i .to)) rows-found recs-found) a;
+        places = rw long (chains-kept r₂ w₂ r₂ (p .places) (λ i h. front i h 0 (omega arith)) (λ x h. refl) (λ i h. refl));
+        lent = record { short = f .lent .short; room = omega (arith, f .lent .room, t .long, p .long) };
+        few = rw long (omega (arith, f .few));
+      }
+
+pub graphed : {n m : ℕ} {w r q w₁ r₁ w₂ r₂ : List ℕ} → Settled n m w r w₁ → Rewrote m w₁ r q r₁ → Pruned n m w₁ r₁ w₂ r₂ → Graphed n m w r q w₂ r₂
+graphed {m} {w} {r} {q} {w₁} {r₁} {w₂} {r₂} t e p = record {
+  finished = λ code s room f.
+      subst (λ (k : ℕ). Fits code s room k m w r q → Settled k m w r w₁ → Pruned k m w₁ r₁ w₂ r₂ → Finished code (recsOf r q s room m) w₂ r₂ q) (f .size)
+      (λ g u v. finish g u e v) f t p;
+  longW = p .long ∙ t .long;
+  longR = p .stay .long ∙ e .long;
+}

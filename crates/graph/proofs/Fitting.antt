@@ -1,0 +1,50 @@
+-- What `graph` asks follows from what the search leaves: its tables, and document 01's records in them. Assumes nothing.
+use mathlib.Core.Path.{_≡_, subst, _∙_}
+use mathlib.Core.List.{List, [], _∷_, map}
+use Prim.Native.Nat.{ℕ, _≤_}
+use native.Mathlib.Omega.{arith}
+use lib.Dec.{eqb}
+use lib.ListN.{length}
+use borrow.Author.Tests.{eq-eqb}
+use Rattle.spec.specs.Search.{Node, Rec, dest, search}
+use Rattle.spec.specs.Answer.{prepared}
+use Rattle.theorems.proofs.Branch.{if-true}
+use Rattle.theorems.proofs.Members.{In}
+use Rattle.initial.specs.Rows.{blocksAt}
+use Rattle.tables.specs.Records.{none, toAt, recAt}
+use Rattle.tables.specs.Tables.{mem, recs, Goes, leads-nowhere, leads, Tables}
+use Rattle.tables.specs.declared.Rooms.{Rooms}
+use Rattle.tables.specs.declared.Counts.{Counts}
+use Rattle.reachable.specs.Contracts.{Room}
+use Rattle.graph.specs.Contracts.{Fits}
+use Rattle.graph.proofs.Finals.{dest-at}
+use Rattle.graph.proofs.Recs.{in-rec, rec-destination}
+use Rattle.graph.proofs.Edges.{dest-is}
+use Rattle.graph.proofs.Paths.{record-passes}
+
+-- a record's destination, as the tables have it
+goes-within : (n room : ℕ) (r q s : List ℕ) (i : ℕ) → Goes n room r s i → (t : ℕ) → In t (dest (recAt r q s room i .to)) → t ≤ n
+unfolding recAt
+goes-within n room r q s i (leads-nowhere e k) t j =
+    elim (subst (In t) (dest-at r q s room i ∙ if-true (eqb (toAt r i) none) [] (toAt r i ∷ []) (eq-eqb (toAt r i) none e)) j) [ ]
+goes-within n room r q s i (leads h k) t j = omega (arith, dest-is (recAt r q s room i .to) j, rec-destination r q s room i)
+
+pub search-fits : (limit : ℕ) (code : List ℕ) {n buckets : ℕ} {k : Rooms} {c : Counts} {w r q s : List ℕ} → Tables n buckets k (mem w r q s) c → length code ≡ n
+    → blocksAt w n ≡ map (λ (x : Node). x .block) (prepared code) → Room n w → recs k (mem w r q s) c ≡ search limit (prepared code) .recs
+    → Fits code s (k .s) n (c .records) w r q
+search-fits limit code {n} {k} {c} {r} {q} {s} t z b l e = record {
+  size = z;
+  blocks = b;
+  lent = l;
+  few = omega (arith, t .within .fitsR, t .within .mostR);
+  rows = t .rows;
+  lie = λ x i.
+      let g = in-rec r q s (k .s) (c .records) i in
+      let p = record-passes limit code x (subst (In x) e i) in
+      record {
+        start = omega (arith, p .start, z);
+        to = λ u j. goes-within n (k .s) r q s (g .0) (t .goes (g .0) (g .1)) u (subst (λ (y : Rec). In u (dest (y .to))) (g .2) j);
+        some = p .along .some;
+        path = λ a j. omega (arith, p .along .within a j, z);
+      };
+}

@@ -1,0 +1,11 @@
+pub mod Notes
+pub mod Merging
+pub mod Rewriting
+pub mod Finals
+pub mod Recs
+pub mod Edges
+pub mod Sides
+pub mod Asking
+pub mod Finished
+pub mod Paths
+pub mod Fitting

@@ -1,0 +1,150 @@
+-- The laws of the merge: one row by its note, all rows, and the notes that the records give. Assumes nothing.
+use mathlib.Core.Path.{_≡_, refl, sym, ap, ap₂, _∙_}
+use mathlib.Core.List.{List, [], _∷_, _++_, map, map-append}
+use Prim.Native.Nat.{ℕ, zero, suc, _+_, _-_, _*_, _≤_, _<_}
+use native.Mathlib.Decide.{ℕ-discrete}
+use native.Mathlib.Omega.{arith}
+use lib.Dec.{eqb}
+use lib.ListN.{length, drop}
+use borrow.Author.Tests.{eqb-true, eq-eqb, ne-eqb, le-leb, lt-leb}
+use Rattle.spec.specs.Blocks.{Kind, jump, dynamic-jump, Block, block}
+use Rattle.theorems.proofs.Branch.{both, if-true, if-false}
+use Rattle.theorems.proofs.Members.{In, here, there}
+use Rattle.lent.specs.Bytes.{numAt, Holds}
+use Rattle.lent.proofs.Parts.{drop-more}
+use Rattle.lent.proofs.Numbers.{num-suffix}
+use Rattle.lent.proofs.Stored.{kept-take, kept-drop}
+use Rattle.initial.specs.Rows.{typed, typeAt, kindOf, kindAt, rowBlocks, blocksFrom, blocksAt}
+use Rattle.initial.specs.Contracts.{Put}
+use Rattle.initial.specs.declared.row.BlockType.{BlockType}
+use Rattle.initial.proofs.Types.{kind-dynamic-jump, good-jump, kind-type}
+use Rattle.initial.proofs.Rows.{here-prefix, here-suffix, here-block, by-row, blocks-prefix, found}
+use Rattle.initial.proofs.Writing.{put-here}
+use Rattle.reachable.specs.Contracts.{Room}
+use Rattle.graph.specs.Notes.{noteAt, noteOf, byNote, mergedKind, mergedBy, mergedBlock}
+use Rattle.graph.specs.Contracts.{Noted, MergedRow, Merged, Settled}
+
+-- ---- by a note
+
+module _ (n note : ℕ) where
+  pub by-none : note ≡ 0 → byNote n note ≡ dynamic-jump
+  unfolding byNote
+  by-none e = if-true _ _ _ (eq-eqb note 0 e)
+
+  pub by-one : (note ≡ 0 → ⊥) → note ≤ n + 1 → byNote n note ≡ jump (note - 1)
+  unfolding byNote
+  by-one z h = if-false _ _ _ (ne-eqb note 0 z) ∙ if-true _ _ _ (le-leb note (n + 1) h)
+
+  pub by-several : n + 1 < note → byNote n note ≡ dynamic-jump
+  unfolding byNote
+  by-several h = if-false _ _ _ (ne-eqb note 0 (λ z. omega arith)) ∙ if-false _ _ _ (lt-leb note (n + 1) h)
+
+  Same : Kind → Type 0
+  Same k = mergedKind n note k ≡ k
+
+  other-kind : (t : BlockType) → (t .kind ≡ 5 → ⊥) → mergedKind n note (kindOf t) ≡ kindOf t
+  unfolding kindOf Same
+  other-kind t h =
+      both Same (eqb (t .kind) 1) (λ _. refl)
+      (λ _. both Same (eqb (t .kind) 2) (λ _. refl)
+      (λ _. both Same (eqb (t .kind) 3) (λ _. refl)
+      (λ _. both Same (eqb (t .kind) 4) (λ _. refl)
+      (λ _. both Same (eqb (t .kind) 5) (λ e. absurd (h (eqb-true _ _ e))) (λ _. refl)))))
+
+-- ---- one row
+
+dynamic : (w : List ℕ) (a : ℕ) {kind : ℕ} → Holds 1 w (20 * a) kind → kind ≡ 5 → kindAt w a ≡ dynamic-jump
+dynamic w a k e = kind-dynamic-jump (typeAt w a) (sym (k .is) ∙ e)
+
+module _ {n a kind : ℕ} {w : List ℕ} (k : Holds 1 w (20 * a) kind) where
+  row-stays : mergedKind n (noteAt w n a) (kindAt w a) ≡ kindAt w a → MergedRow n w a w
+  row-stays e = record {
+    same = by-row w a (λ (bs : List Block). bs ≡ map (mergedBy n (noteAt w n a)) bs) (λ _. refl)
+        (λ _. ap {B = List Block} (λ (x : Kind). block a a (numAt 2 w (20 * a + 2)) x ∷ []) (sym e));
+    before = refl;
+    past = refl;
+    long = refl;
+  }
+
+  pub row-other : (kind ≡ 5 → ⊥) → MergedRow n w a w
+  row-other h = row-stays (other-kind n (noteAt w n a) (typeAt w a) (λ e. h (k .is ∙ e)))
+
+  module _ {note : ℕ} (e : kind ≡ 5) (t : Holds 4 w (20 * (n + 1 + a) + 4) note) where
+    pub row-none : note ≡ 0 → MergedRow n w a w
+    row-none z = row-stays (rw (dynamic w a k e) (by-none n (noteAt w n a) (sym (t .is) ∙ z)))
+
+    pub row-several : n + 1 < note → MergedRow n w a w
+    row-several h = row-stays (rw (dynamic w a k e) (by-several n (noteAt w n a) (rw (t .is) at h)))
+
+    pub row-one : {end : ℕ} {w′ : List ℕ} → Room n w → (note ≡ 0 → ⊥) → note ≤ n + 1 → Holds 2 w (20 * a + 2) end → Put w a end (typed 3 (note - 1) 0) w′ → MergedRow n w a w′
+    row-one {end} {w′} l z h d p = record {
+      same = put-here p (good-jump (note - 1) (omega (arith, l .short))) (d .small)
+          ∙ rw (kind-type (jump (note - 1)), d .is)
+          (sym (ap (map (mergedBy n (noteAt w n a))) (here-block w a (λ o. omega (arith, k .is)))
+          ∙ rw (dynamic w a k e, ← t .is, by-one n note z h)));
+      before = kept-take (p .stored) (20 * a) (omega arith);
+      past = kept-drop (p .stored) (20 * (a + 1)) (omega arith);
+      long = p .stored .kept;
+    }
+
+-- ---- all rows
+
+-- those before a are merged, and all from a on is as it was
+pub record Merging (n : ℕ) (w₀ w : List ℕ) (a : ℕ) : Type 0 where
+  pub front : (x : ℕ) → x < a → rowBlocks w x ≡ map (mergedBlock n (noteAt w₀ n)) (rowBlocks w₀ x)
+  pub back : drop (20 * a) w ≡ drop (20 * a) w₀
+  pub long : length w ≡ length w₀
+  pub inside : a ≤ n + 1
+
+pub merge-start : {n : ℕ} {w : List ℕ} → Merging n w w 0
+merge-start = record { front = λ x h. absurd (omega arith); back = refl; long = refl; inside = omega arith }
+
+-- the block of a row has its own address's note
+own-note : (n : ℕ) (notes : ℕ → ℕ) (w : List ℕ) (a : ℕ) → map (mergedBy n (notes a)) (rowBlocks w a) ≡ map (mergedBlock n notes) (rowBlocks w a)
+own-note n notes w a = by-row w a (λ (bs : List Block). map (mergedBy n (notes a)) bs ≡ map (mergedBlock n notes) bs) (λ _. refl) (λ _. refl)
+
+all-rows : (f : Block → Block) (w v : List ℕ) (a m : ℕ) → ((x : ℕ) → a ≤ x → x < a + m → rowBlocks w x ≡ map f (rowBlocks v x)) → blocksFrom w a m ≡ map f (blocksFrom v a m)
+unfolding blocksFrom
+all-rows f w v a zero h = refl
+all-rows f w v a (suc m) h =
+    ap₂ (λ (x y : List Block). x ++ y) (h a (omega arith) (omega arith)) (all-rows f w v (suc a) m (λ x l g. h x (omega arith) (omega arith)))
+    ∙ sym (map-append f (rowBlocks v a) (blocksFrom v (suc a) m))
+
+module _ {n a : ℕ} {w₀ w : List ℕ} (g : Merging n w₀ w a) where
+  pub merge-room : Room n w₀ → Room n w
+  merge-room l = record { short = l .short; room = omega (arith, l .room, g .long) }
+
+  pub merge-turn : {w′ : List ℕ} → a ≤ n → MergedRow n w a w′ → Merging n w₀ w′ (a + 1)
+  merge-turn {w′} h t = record {
+    front = λ x l. split x l (ℕ-discrete x a);
+    back = t .past ∙ drop-more w w₀ (20 * a) (g .back) (20 * (a + 1)) (omega arith);
+    long = t .long ∙ g .long;
+    inside = omega arith;
+  }
+    where
+      split : (x : ℕ) → x < a + 1 → Dec (x ≡ a) → rowBlocks w′ x ≡ map (mergedBlock n (noteAt w₀ n)) (rowBlocks w₀ x)
+      split x l (yes q) =
+          let note : noteAt w n a ≡ noteAt w₀ n a = num-suffix w w₀ (20 * a) (g .back) 4 (20 * (n + 1 + a) + 4) (omega arith) in
+          rw q (rw (note, here-suffix w w₀ a (20 * a) (g .back) (omega arith)) at (t .same) ∙ own-note n (noteAt w₀ n) w₀ a)
+      split x l (no q) = here-prefix w′ w x (20 * a) (t .before) (omega arith) ∙ g .front x (omega arith)
+
+  pub merge-done : n < a → Merged n w₀ w
+  merge-done h = record { blocks = all-rows (mergedBlock n (noteAt w₀ n)) w w₀ 0 (suc n) (λ x _ l. g .front x (omega arith)); long = g .long }
+
+-- ---- by the notes of the records
+
+map-agrees : (f g : Block → Block) (bs : List Block) → ((b : Block) → In b bs → f b ≡ g b) → map f bs ≡ map g bs
+map-agrees f g [] h = refl
+map-agrees f g (b ∷ bs) h = ap₂ {C = List Block} (λ (x : Block) (xs : List Block). x ∷ xs) (h b here) (map-agrees f g bs (λ c i. h c (there i)))
+
+pub noted-room : {n m : ℕ} {w r w₁ : List ℕ} → Room n w → Noted n m w r w₁ → Room n w₁
+noted-room l t = record { short = l .short; room = omega (arith, l .room, t .kept .long) }
+
+pub settled : {n m : ℕ} {w r w₁ w₂ : List ℕ} → Noted n m w r w₁ → Merged n w₁ w₂ → Settled n m w r w₂
+settled {n} {m} {w} {r} {w₁} t g = record {
+  blocks = g .blocks
+      ∙ map-agrees (mergedBlock n (noteAt w₁ n)) (mergedBlock n (λ (a : ℕ). noteOf r a m)) (blocksAt w₁ n)
+      (λ b i. ap (λ (note : ℕ). mergedBy n note b) (t .notes (b .start) (found w₁ n i .0)))
+      ∙ ap (map (mergedBlock n (λ (a : ℕ). noteOf r a m))) (blocks-prefix w₁ w n (t .kept .rows));
+  long = g .long ∙ t .kept .long;
+}

@@ -1,0 +1,43 @@
+-- The sides of the merged blocks are addresses of the code, or its length. Assumes nothing.
+use mathlib.Core.Path.{subst}
+use mathlib.Core.List.{List}
+use Prim.Native.Nat.{ℕ, _+_, _-_, _≤_}
+use native.Mathlib.Omega.{arith}
+use lib.Dec.{eqb, leb}
+use lib.ListN.{length}
+use borrow.Author.Tests.{leb-true}
+use Rattle.spec.specs.Walk.{instructions}
+use Rattle.spec.specs.Blocks.{Kind, terminate, jump, jumpi, dynamic-jump, dynamic-jumpi, Block, blocks}
+use Rattle.spec.specs.Stacks.{run}
+use Rattle.spec.specs.Search.{Node, node, sides}
+use Rattle.spec.specs.Answer.{prepared}
+use Rattle.theorems.proofs.Branch.{both}
+use Rattle.theorems.proofs.Members.{In, in-map}
+use Rattle.initial.specs.Rows.{blocksAt}
+use Rattle.parents.proofs.Falls.{Within, node-within, sides-within}
+use Rattle.graph.specs.Notes.{noteOf, byNote, mergedKind, mergedBlock}
+use Rattle.graph.specs.Contracts.{Settled, Fits}
+
+prepared-within : (code : List ℕ) {x : Node} → In x (prepared code) → Within (length code) (x .block .kind)
+unfolding prepared
+prepared-within code i =
+    let g = in-map (λ (b : Block). node b (run code (instructions code) (b .start))) (blocks code (instructions code)) i in
+    rw (g .2) (node-within code (g .1))
+
+merged-within : (n note : ℕ) (k : Kind) → Within n k → Within n (mergedKind n note k)
+unfolding byNote
+merged-within n note (terminate success) h = h
+merged-within n note (jump t) h = h
+merged-within n note (jumpi t f) h = h
+merged-within n note dynamic-jump h =
+    both (Within n) (eqb note 0) (λ _. tt) (λ _. both (Within n) (leb note (n + 1)) (λ e. omega (arith, leb-true note (n + 1) e)) (λ _. tt))
+merged-within n note (dynamic-jumpi f) h = h
+
+module _ {code s : List ℕ} {room n m : ℕ} {w r q w₁ : List ℕ} (f : Fits code s room n m w r q) (t : Settled n m w r w₁) where
+  pub block-sides : (b : Block) (u : ℕ) → In b (blocksAt w₁ n) → In u (sides (b .kind)) → u ≤ n
+  block-sides b u i j =
+      let g = in-map (mergedBlock n (λ (a : ℕ). noteOf r a m)) (blocksAt w n) (subst (λ (bs : List Block). In b bs) (t .blocks) i) in
+      let k = in-map (λ (x : Node). x .block) (prepared code) (subst (λ (bs : List Block). In (g .0) bs) (f .blocks) (g .1)) in
+      let was : Within n (g .0 .kind) = rw (k .2) (rw (f .size) at (prepared-within code (k .1))) in
+      sides-within n (mergedKind n (noteOf r (g .0 .start) m) (g .0 .kind)) (merged-within n (noteOf r (g .0 .start) m) (g .0 .kind) was)
+      (subst (λ (c : Block). In u (sides (c .kind))) (g .2) j)

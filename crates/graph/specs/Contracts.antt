@@ -1,0 +1,131 @@
+-- What each function asks and promises, a record each. Assumes nothing.
+use mathlib.Core.Path.{_≡_}
+use mathlib.Core.List.{List, map}
+use Prim.Native.Nat.{ℕ, _+_, _-_, _*_, _^_, _≤_, _<_}
+use lib.ListN.{length, take, drop}
+use Rattle.spec.specs.Search.{Node, Rec, dest}
+use Rattle.spec.specs.Answer.{prepared}
+use Rattle.theorems.proofs.Members.{In}
+use Rattle.lent.specs.Bytes.{numAt}
+use Rattle.initial.specs.Rows.{tagAt, rowBlocks, blocksAt}
+use Rattle.tables.specs.Records.{startAt, toAt, recsOf, Row}
+use Rattle.reachable.specs.Contracts.{Room}
+use Rattle.graph.specs.Border.{Finished}
+use Rattle.graph.specs.Notes.{noteAt, stepped, noteOf, mergedBy, mergedBlock, edgeTo}
+
+-- ---- notes
+
+-- record i stands in R, and starts at an address
+pub record Starts (n : ℕ) (r : List ℕ) (i : ℕ) : Type 0 where
+  pub inR : 32 * i + 32 ≤ length r
+  pub start : startAt r i ≤ n
+
+-- the rows of W stay
+pub record RowsKept (n : ℕ) (w w′ : List ℕ) : Type 0 where
+  pub rows : take (20 * (n + 1)) w′ ≡ take (20 * (n + 1)) w
+  pub long : length w′ ≡ length w
+
+pub record NotedRow (n : ℕ) (w r : List ℕ) (i : ℕ) (w′ : List ℕ) : Type 0 where
+  pub notes : (a : ℕ) → a ≤ n → noteAt w′ n a ≡ stepped r i a (noteAt w n a)
+  pub kept : RowsKept n w w′
+
+pub record Notes (n m : ℕ) (w r : List ℕ) : Type 0 where
+  pub lent : Room n w
+  pub each : (i : ℕ) → i < m → Starts n r i
+
+pub record Noted (n m : ℕ) (w r w′ : List ℕ) : Type 0 where
+  pub notes : (a : ℕ) → a ≤ n → noteAt w′ n a ≡ noteOf r a m
+  pub kept : RowsKept n w w′
+
+-- ---- the merge
+
+pub record MergedRow (n : ℕ) (w : List ℕ) (a : ℕ) (w′ : List ℕ) : Type 0 where
+  pub same : rowBlocks w′ a ≡ map (mergedBy n (noteAt w n a)) (rowBlocks w a)
+  pub before : take (20 * a) w′ ≡ take (20 * a) w
+  pub past : drop (20 * (a + 1)) w′ ≡ drop (20 * (a + 1)) w
+  pub long : length w′ ≡ length w
+
+-- every block is merged by the note that stands in W, and by that of the records
+pub record Merged (n : ℕ) (w w′ : List ℕ) : Type 0 where
+  pub blocks : blocksAt w′ n ≡ map (mergedBlock n (noteAt w n)) (blocksAt w n)
+  pub long : length w′ ≡ length w
+
+pub record Settled (n m : ℕ) (w r w′ : List ℕ) : Type 0 where
+  pub blocks : blocksAt w′ n ≡ map (mergedBlock n (λ (a : ℕ). noteOf r a m)) (blocksAt w n)
+  pub long : length w′ ≡ length w
+
+-- ---- the rows of edges
+
+-- v is the destination of an edge from a
+pub record EdgeIs (w : List ℕ) (a to v : ℕ) : Type 0 where
+  pub is : v ≡ edgeTo (tagAt w a) to
+  pub small : v < 65536
+
+-- the fields of row i are stored, and its start stays
+pub record EdgePut (r : List ℕ) (i to last own end : ℕ) (r′ : List ℕ) : Type 0 where
+  pub start : numAt 2 r′ (32 * i) ≡ startAt r i
+  pub edge : numAt 2 r′ (32 * i + 2) ≡ to
+  pub witness : numAt 2 r′ (32 * i + 4) ≡ last
+  pub leads : numAt 2 r′ (32 * i + 6) ≡ own
+  pub ends : numAt 4 r′ (32 * i + 16) ≡ end
+  pub before : take (32 * i) r′ ≡ take (32 * i) r
+  pub past : drop (32 * (i + 1)) r′ ≡ drop (32 * (i + 1)) r
+  pub long : length r′ ≡ length r
+
+pub record RewritesRow (w r q : List ℕ) (i : ℕ) : Type 0 where
+  pub inR : 32 * i + 32 ≤ length r
+  pub inW : 20 * startAt r i + 20 ≤ length w
+  pub some : 0 < numAt 4 r (32 * i + 4)
+  pub inQ : 2 * numAt 4 r (32 * i + 4) ≤ length q
+
+-- row i of r′, against that of r
+pub record EdgeFrom (w r q : List ℕ) (i : ℕ) (r′ : List ℕ) : Type 0 where
+  pub start : numAt 2 r′ (32 * i) ≡ startAt r i
+  pub edge : numAt 2 r′ (32 * i + 2) ≡ edgeTo (tagAt w (startAt r i)) (toAt r i)
+  pub last : numAt 2 r′ (32 * i + 4) ≡ numAt 2 q (2 * (numAt 4 r (32 * i + 4) - 1))
+  pub to : numAt 2 r′ (32 * i + 6) ≡ toAt r i
+  pub end : numAt 4 r′ (32 * i + 16) ≡ numAt 4 r (32 * i + 4)
+
+pub record RewroteRow (w r q : List ℕ) (i : ℕ) (r′ : List ℕ) : Type 0 where
+  pub row : EdgeFrom w r q i r′
+  pub before : take (32 * i) r′ ≡ take (32 * i) r
+  pub past : drop (32 * (i + 1)) r′ ≡ drop (32 * (i + 1)) r
+  pub long : length r′ ≡ length r
+
+pub record Rewrites (m : ℕ) (w r q : List ℕ) : Type 0 where
+  pub each : (i : ℕ) → i < m → RewritesRow w r q i
+
+pub record Rewrote (m : ℕ) (w r q r′ : List ℕ) : Type 0 where
+  pub rows : (i : ℕ) → i < m → EdgeFrom w r q i r′
+  pub long : length r′ ≡ length r
+
+-- ---- the whole
+
+-- a record's addresses are those of a code of n bytes, and its path has one at least
+pub record Lies (n : ℕ) (x : Rec) : Type 0 where
+  pub start : x .start ≤ n
+  pub to : (t : ℕ) → In t (dest (x .to)) → t ≤ n
+  pub some : 0 < length (x .path)
+  pub path : (a : ℕ) → In a (x .path) → a ≤ n
+
+-- the blocks of the code stand in W, and the m records in R and Q
+pub record Fits (code s : List ℕ) (room n m : ℕ) (w r q : List ℕ) : Type 0 where
+  pub size : length code ≡ n
+  pub blocks : blocksAt w n ≡ map (λ (x : Node). x .block) (prepared code)
+  pub lent : Room n w
+  pub few : m ≤ 2 ^ 30
+  pub rows : (i : ℕ) → i < m → Row r q i
+  pub lie : (x : Rec) → In x (recsOf r q s room m) → Lies n x
+
+-- so for some code, and states in some S that are not asked for
+pub record Graphs (n m : ℕ) (w r q : List ℕ) : Type 0 where
+  pub code : List ℕ
+  pub states : List ℕ
+  pub room : ℕ
+  pub fits : Fits code states room n m w r q
+
+-- and for each such, all is finished
+pub record Graphed (n m : ℕ) (w r q w′ r′ : List ℕ) : Type 0 where
+  pub finished : (code s : List ℕ) (room : ℕ) → Fits code s room n m w r q → Finished code (recsOf r q s room m) w′ r′ q
+  pub longW : length w′ ≡ length w
+  pub longR : length r′ ≡ length r

@@ -1,0 +1,3 @@
+pub mod Border
+pub mod Notes
+pub mod Contracts
