@@ -1,0 +1,238 @@
+-- The start of a search: what is reached by static sides alone is flagged and marked, and nothing is recorded, linked or remembered. Assumes nothing.
+use mathlib.Core.Path.{_≡_, refl, sym, ap, _∙_}
+use mathlib.Core.Bool.{Bool, true, false, _&&_, _||_, or-false}
+use mathlib.Core.List.{List, [], _∷_, map}
+use Prim.Native.Nat.{ℕ, _+_, _*_, _/_, _≤_}
+use native.Mathlib.Omega.{arith}
+use lib.Dec.{ltb, leb}
+use lib.ListN.{length, take, replicate, length-replicate}
+use Rattle.spec.specs.Lists.{if, mem}
+use Rattle.spec.specs.Blocks.{Block}
+use Rattle.spec.specs.Search as search
+use Rattle.spec.specs.Search.{Node, parent, sides, dests, reached-by, begin, St, Room, P, S, T, R, Q}
+use Rattle.spec.specs.Rooms.{Lent, units, shortage, room}
+use Rattle.spec.specs.Answer.{prepared}
+use Rattle.theorems.proofs.Branch.{both}
+use Rattle.theorems.proofs.Members.{In, in-map}
+use Rattle.theorems.proofs.Older.{clear}
+use Rattle.lent.specs.Bytes.{Stored, numAt}
+use Rattle.lent.proofs.Numbers.{num-zeros}
+use Rattle.lent.proofs.Stored.{stored, kept-take, kept-num, read-num}
+use Rattle.tables.specs.Records.{recsOf}
+use Rattle.tables.specs.Rows.{metOf}
+use Rattle.tables.specs.Tables.{NoLinks}
+use Rattle.tables.specs.Mets.{Begins, Emptied}
+use Rattle.tables.specs.Recording.{Lends, roomOf}
+use Rattle.tables.specs.declared.Rooms.{Rooms}
+use Rattle.tables.proofs.Uses.{tables-none}
+use Rattle.parents.specs.Contracts.{Known}
+use Rattle.parents.proofs.Knows.{direct-within, known-prefix}
+use Rattle.initial.specs.Rows.{blocksAt}
+use Rattle.reachable.specs.Marks.{markAt, flagged, markedBy, wiped}
+use Rattle.reachable.specs.Contracts.{SidesWithin, Begun, Reaches}
+use Rattle.reachable.specs.Contracts as reachable
+use Rattle.reachable.proofs.Tests.{not-both}
+use Rattle.reachable.proofs.Within.{blocks-within}
+use Rattle.reachable.proofs.Flags.{flagged-same}
+use Rattle.reachable.proofs.Frames.{num-in}
+use Rattle.reachable.proofs.Marks.{begun-num, begun-rows}
+use Rattle.reachable.proofs.Rows.{gather-in, map-in, within-sides, closed-sides, sides-kept, node-edges}
+use Rattle.steps.specs.Paths.{occurs}
+use Rattle.steps.specs.Runs.{Mem, buffers, stOf}
+use Rattle.resolver.specs.Turns.{Idle, RoundsAsks, Rounds, SearchAsks, Searched, roomsOf, planOf, plan, begunRun}
+use Rattle.steps.specs.declared.Plan.{Plan}
+use Rattle.steps.specs.declared.Run.{Run}
+
+-- ---- what `reach` asks
+
+-- the rows' blocks have their sides in the code
+pub known-within : {code w : List ℕ} {head : ℕ} → Known code w head → SidesWithin w (length code)
+known-within {code} {w} k = blocks-within w (length code) side
+  where
+    side : (b : Block) (t : ℕ) → In b (blocksAt w (length code)) → In t (sides (b .kind)) → t ≤ length code
+    side b t i j =
+        let g = in-map (λ (x : Node). x .block) (prepared code) (rw (k .blocks) at i) in
+        let there : In t (sides (g .0 .block .kind)) = rw (g .2) at j in
+        direct-within code {p = parent t (g .0 .block .start ∷ []) (g .0 .own .stack)}
+        (gather-in (λ (x : Node). map (λ (u : ℕ). parent u (x .block .start ∷ []) (x .own .stack)) (sides (x .block .kind))) (g .1)
+        (map-in (λ (u : ℕ). parent u (g .0 .block .start ∷ []) (g .0 .own .stack)) there))
+
+pub search-room : {code w : List ℕ} {limit head : ℕ} → SearchAsks code w limit head → reachable.Room (length code) w
+search-room a = record { short = a .short; room = a .lent }
+
+-- ---- a mark of 1, or none
+
+fresh-mark : (b : Bool) → ltb 0 (if b 1 0) && leb (if b 1 0) 1 ≡ b
+unfolding if
+fresh-mark true = refl
+fresh-mark false = refl
+
+-- ---- W once the heads of the buckets are wiped
+
+abbrev buckets : List ℕ → ℕ
+buckets code = (13 * length code + 52) / 4
+
+module _ {code w w₁ w₂ : List ℕ} {limit head : ℕ} (a : SearchAsks code w limit head) (r : Reaches (length code) w w₁)
+    (s : Stored (4 * buckets code) w₁ (42 * (length code + 1)) (replicate (4 * buckets code) 0) w₂) where
+  abbrev n : ℕ
+  n = length code
+
+  begun : Begun n w (wiped n w)
+  begun = record { wipes = stored (20 * (n + 1)) w (20 * (n + 1)) (replicate (20 * (n + 1)) 0) (wiped n w) refl (length-replicate (20 * (n + 1)) 0) (omega (arith, a .lent)) }
+
+  begin-long : length w₂ ≡ length w
+  begin-long = s .kept ∙ r .kept .long ∙ begun .wipes .kept
+
+  begin-rows : take (20 * (n + 1)) w₂ ≡ take (20 * (n + 1)) w
+  begin-rows = kept-take s (20 * (n + 1)) (omega arith) ∙ r .kept .rows ∙ begun-rows begun
+
+  -- what is before the heads stays
+  stays : (k i : ℕ) → i + k ≤ 42 * (n + 1) → numAt k w₂ i ≡ numAt k w₁ i
+  stays k i h = kept-num s k i (λ _. h)
+
+  -- the fields of others are 0
+  zero-fields : (k x o : ℕ) → x ≤ n → 4 ≤ o → o + k ≤ 18 → numAt k w₂ (20 * (n + 1 + x) + o) ≡ 0
+  zero-fields k x o h l m =
+      stays k (20 * (n + 1 + x) + o) (omega arith)
+      ∙ num-in w₁ (wiped n w) 14 (20 * (n + 1 + x) + 4) (r .kept .fields x h) k (20 * (n + 1 + x) + o) (omega arith) (omega arith)
+      ∙ begun-num begun k (20 * (n + 1 + x) + o) (omega arith) (omega arith)
+
+  no-links : NoLinks n (buckets code) w₂
+  no-links = record {
+    some = omega arith;
+    inW = omega (arith, a .lent, begin-long);
+    firsts = λ x h. let same : 20 * (n + 1 + x) + 4 ≡ 20 * (n + 1) + 20 * x + 4 = omega arith in rw same at (zero-fields 4 x 4 h (omega arith) (omega arith));
+    lasts = λ x h. let same : 20 * (n + 1 + x) + 8 ≡ 20 * (n + 1) + 20 * x + 8 = omega arith in rw same at (zero-fields 4 x 8 h (omega arith) (omega arith));
+    heads = λ h l. read-num s 4 (4 * h) (omega arith) ∙ num-zeros 4 (4 * buckets code) (4 * h);
+  }
+
+  same-flagged : flagged w₂ n ≡ flagged w₁ n
+  same-flagged = flagged-same w₁ w₂ n (λ x h. stays 1 (20 * (n + 1 + x) + 18) (omega arith))
+
+  begin-flags : (x : ℕ) → mem x (flagged w₂ n) ≡ mem x (reached-by (prepared code) [])
+  begin-flags x = rw same-flagged (r .reached x ∙ rw (node-edges w n (prepared code) (a .known .blocks)))
+
+  begin-marks : (x : ℕ) → x ≤ n → markAt w₂ n x ≡ if (mem x (flagged w₂ n)) 1 0
+  begin-marks x h = stays 4 (20 * (n + 1 + x)) (omega arith) ∙ rw same-flagged (r .fresh .marks x h)
+
+  -- ---- what `rounds` asks
+
+  module _ (p q r′ s′ t t₁ : List ℕ) (e : Emptied (plan code limit head (buffers w p s′ t r′ q) .shelves) t t₁) where
+    abbrev k : Plan
+    k = plan code limit head (buffers w p s′ t r′ q)
+
+    begin-idle : Idle code k (reached-by (prepared code) []) 0 (buffers w₂ p s′ t₁ r′ q) begunRun
+    unfolding recsOf occurs
+    begin-idle = record {
+      planned = record {
+        is = refl;
+        limit = a .limited;
+        lentW = record { short = a .short; room = omega (arith, a .lent, begin-long) };
+        ends = omega (arith, a .lent, begin-long);
+        scratch = omega arith;
+        lentP = omega arith;
+        mostP = omega arith;
+        shelves = λ h. omega arith;
+      };
+      tables = tables-none (omega (arith, a .short)) (record {
+        fitsR = omega arith;
+        fitsQ = omega arith;
+        fitsS = omega arith;
+        lentR = omega arith;
+        lentQ = omega arith;
+        lentS = omega arith;
+        mostR = omega arith;
+        mostQ = omega arith;
+        mostS = omega arith;
+      }) no-links refl refl refl;
+      remembers = record {
+        rows = λ i l. absurd (omega arith);
+        inside = λ i l. absurd (omega arith);
+        shelves = e .shelves;
+        fitsT = omega arith;
+        lentT = omega (arith, e .heads .long);
+        mostT = omega arith;
+        fitsS = omega arith;
+        mostS = omega arith;
+      };
+      known = known-prefix w₂ (sym begin-rows) (a .known);
+      began = omega arith;
+      marks = record {
+        by = λ j l m x h. by j m x h;
+        most = λ x h. rw (begin-marks x h) (both (λ (v : ℕ). v ≤ 1) (mem x (flagged w₂ n)) (λ _. omega arith) (λ _. omega arith));
+      };
+      sound = record { each = λ x i. elim i [ ] };
+      counts = record { counts = λ x h. zero-fields 4 x 12 h (omega arith) (omega arith) };
+      unused = refl;
+      rowless = refl;
+      within = within-sides (sides-kept w w₂ n begin-rows) (known-within (a .known));
+      closed = closed-sides (sides-kept w₁ w₂ n (kept-take s (20 * (n + 1)) (omega arith))) same-flagged (r .closed);
+      unrefused = refl;
+      energy = omega arith;
+      dests-in = λ x h. not-both h refl;
+    }
+      where
+        by : (j : ℕ) → j ≤ 0 → (x : ℕ) → x ≤ n → markedBy w₂ n x (j + 1) ≡ mem x (reached-by (prepared code) []) || mem x (dests (take j []))
+        by j m x h =
+            let z : j ≡ 0 = omega arith in
+            rw (z, begin-marks x h) (fresh-mark (mem x (flagged w₂ n)) ∙ begin-flags x ∙ sym (or-false (mem x (reached-by (prepared code) []))))
+
+    begin-asks : RoundsAsks code k (buffers w₂ p s′ t₁ r′ q) begunRun
+    begin-asks = record { idle = begin-idle; none-yet = refl; spent = refl; flags = begin-flags }
+
+    -- ---- what it gives
+
+    lends : (l : Lent) → l .p ≡ length p → l .s ≡ length s′ → l .t ≡ length t → l .r ≡ length r′ → l .q ≡ length q → Lends l (k .rooms)
+    lends l ep es et er eq = record { is = is }
+      where
+        is : (x : Room) → room l x ≡ roomOf (k .rooms) x
+        is P = ap (λ (v : ℕ). units v 2) ep
+        is S = ap (λ (v : ℕ). units v 9) es
+        is T = ap (λ (v : ℕ). units v 32) et
+        is R = ap (λ (v : ℕ). units v 32) er
+        is Q = ap (λ (v : ℕ). units v 2) eq
+
+    begins : clear begin ≡ stOf k (buffers w₂ p s′ t₁ r′ q) begunRun
+    unfolding recsOf metOf
+    begins = refl
+
+    module _ {m′ : Mem} {d : Run} (f : Rounds code k (buffers w₂ p s′ t₁ r′ q) begunRun m′ d) where
+      made : d .code ≡ 0 → clear (search.search limit (prepared code)) ≡ stOf k m′ d
+      unfolding search.search
+      made = f .did .made begin begins
+
+      short : (l : Lent) → Lends l (k .rooms) → shortage l (search.search limit (prepared code) .needs) ≡ d .code
+      unfolding search.search shortage
+      short l h = f .did .short l h begin begins refl
+
+      begin-searched : Searched code limit head (buffers w p s′ t r′ q) m′ d
+      begin-searched = record {
+        short = λ l ep es et er eq. sym (short l (lends l ep es et er eq));
+        recs = λ z. sym (ap (λ (x : St). x .recs) (made z));
+        energy = λ z. sym (ap (λ (x : St). x .energy) (made z));
+        tables = f .tables;
+        sound = f .sound;
+        rows = λ z. f .rows z ∙ begin-rows;
+      }
+
+-- ---- the same, by the values that the functions give
+
+pub search-heads : {code w : List ℕ} {limit head : ℕ} {rooms : Rooms} {k : Plan} → k ≡ planOf (length code) limit head rooms → SearchAsks code w limit head
+    → (42 * (length code + 1) + 4 * k .buckets ≤ length w) × (4 * k .buckets ≤ 500000)
+search-heads ek a = let is = ap (λ (x : Plan). x .buckets) ek in (omega (arith, a .lent, is), omega (arith, a .short, is))
+
+pub search-begins : {n limit head : ℕ} {rooms : Rooms} {k : Plan} (t : List ℕ) → k ≡ planOf n limit head rooms → rooms .t ≡ units (length t) 32 → Begins (k .shelves) t
+search-begins t ek e = record { inT = omega (arith, ap (λ (x : Plan). x .shelves) ek, e) }
+
+module _ {code w p s t r q : List ℕ} {limit head : ℕ} {rooms : Rooms} {k : Plan} (er : rooms ≡ roomsOf p s t r q) (ek : k ≡ planOf (length code) limit head rooms) where
+  module _ {w₁ w₂ t₁ : List ℕ} {o : Run} (a : SearchAsks code w limit head) (e : Reaches (length code) w w₁)
+      (h : Stored (4 * k .buckets) w₁ (42 * (length code + 1)) (replicate (4 * k .buckets) 0) w₂) (f : Emptied (k .shelves) t t₁) (eo : o ≡ begunRun) where
+    pub search-asks : RoundsAsks code k (buffers w₂ p s t₁ r q) o
+    search-asks =
+        let is : k ≡ plan code limit head (buffers w p s t r q) = ek ∙ ap (planOf (length code) limit head) er in
+        rw (is, eo) (begin-asks a e (rw is at h) p q r s t t₁ (rw is at f))
+
+    pub search-done : {m′ : Mem} {d : Run} → Rounds code k (buffers w₂ p s t₁ r q) o m′ d → Searched code limit head (buffers w p s t r q) m′ d
+    search-done g =
+        let is : k ≡ plan code limit head (buffers w p s t r q) = ek ∙ ap (planOf (length code) limit head) er in
+        begin-searched a e (rw is at h) p q r s t t₁ (rw is at f) (rw (is, eo) at g)

@@ -1,0 +1,174 @@
+-- How a turn begins: the block's own state at the bottom of S, and its start in P, counted. Assumes nothing.
+use mathlib.Core.Path.{_≡_, refl, sym, ap, _∙_}
+use mathlib.Core.List.{List, [], _∷_}
+use Prim.Native.Nat.{ℕ, _+_, _-_, _*_, _^_, _≤_, _<_}
+use native.Mathlib.Omega.{arith}
+use lib.ListN.{take, drop}
+use Rattle.spec.specs.Lists.{little, total}
+use Rattle.spec.specs.Walk.{instructions}
+use Rattle.spec.specs.Stacks.{cells, run}
+use Rattle.spec.specs.Search.{Taker, Rec, Met, kept, St, Turn, turn-of, direct, in-use}
+use Rattle.spec.specs.Answer.{prepared}
+use Rattle.theorems.proofs.Members.{in-only}
+use Rattle.theorems.proofs.Older.{clear}
+use Rattle.lent.specs.Bytes.{Stored}
+use Rattle.lent.proofs.Numbers.{num-prefix}
+use Rattle.lent.proofs.Stored.{kept-drop, read-back}
+use Rattle.state.specs.Cells.{Lies}
+use Rattle.state.specs.Owns.{Runs, Owned}
+use Rattle.state.specs.declared.run.Own.{Own}
+use Rattle.state.proofs.States.{lies-copied, lies-count}
+use Rattle.tables.specs.Addrs.{addrs}
+use Rattle.tables.specs.Rows.{metOf, usedOf}
+use Rattle.tables.proofs.Counted.{recs-kept-cells}
+use Rattle.tables.proofs.Uses.{tables-kept, recs-stay}
+use Rattle.parents.specs.Links.{positionAt}
+use Rattle.parents.specs.Contracts.{Number}
+use Rattle.steps.specs.Paths.{Inside, Counting, Counted}
+use Rattle.steps.specs.Runs.{Mem, buffers, recsIn, stOf}
+use Rattle.steps.specs.declared.Plan.{Plan}
+use Rattle.steps.specs.declared.Level.{Level}
+use Rattle.steps.specs.declared.Run.{Run}
+use Rattle.resolver.specs.Fits.{Fits, levelOf, Stands}
+use Rattle.resolver.specs.Turns.{Idle, begunWith}
+use Rattle.resolver.proofs.Works.{Alike, alike-then, alike-counts, alike-run, counts-run, alike-marks, alike-known, alike-room}
+use Rattle.resolver.proofs.Taking.{Taking}
+
+-- the path of one address that was put
+module _ {p p₁ : List ℕ} {start : ℕ} (put : Stored 2 p 0 (little 2 start) p₁) (small : start < 2 ^ 16) where
+  pub path-one : addrs p₁ 0 1 ≡ start ∷ []
+  unfolding addrs
+  path-one = ap (λ (a : ℕ). a ∷ []) (read-back put small)
+
+  pub inside-one : {n : ℕ} → start ≤ n → Inside n (addrs p₁ 0 1)
+  inside-one {n} h = rw path-one (record { each = λ a i. let e : a ≡ start = in-only i in omega (arith, e, h) })
+
+module _ {code : List ℕ} {k : Plan} {reached : List ℕ} {since : ℕ} {m : Mem} {o : Run} (idle : Idle code k reached since m o) where
+  -- the cells in use, with a first state and nothing met yet
+  pub begun-uses : (t : Turn) (mid : St) → clear mid ≡ stOf k m o → in-use t mid ≡ o .counts .kept + cells (t .first)
+  unfolding metOf
+  begun-uses t mid e =
+      let a = idle .tables in
+      let none : metOf (m .t) (m .s) (o .counts .rows) ≡ [] = rw (idle .rowless) in
+      let kept-cells =
+      ap (λ (s : St). total (λ (x : Rec). kept (x .to)) (s .recs)) e ∙ recs-kept-cells (m .r) (m .q) (m .s) (k .rooms .s) (a .few) (a .goes) ∙ a .kept in
+      let met-cells = ap (λ (s : St). total (λ (x : Met). cells (x .stack)) (s .met)) e ∙ ap (total (λ (x : Met). cells (x .stack))) none in
+      omega (arith, kept-cells, met-cells)
+
+  module _ {start : ℕ} {x : Taker} (taking : Taking code (m .w) (k .n) start x) where
+    pub taker-small : start < 2 ^ 16
+    taker-small = omega (arith, taking .inside, idle .planned .lentW .short)
+
+    pub run-asks : Runs code start (m .w) (k .end)
+    run-asks =
+        let g = idle .planned in
+        record { stands = taking .comes; short = omega (arith, g .is, g .lentW .short); inside = g .ends; room = omega (arith, g .scratch) }
+
+    module _ {w₁ : List ℕ} {own : Own} (owned : Owned code start (m .w) (k .end) w₁ own) where
+      pub own-cells : own .n ≡ cells (x .first)
+      own-cells = lies-count (owned .lies) ∙ ap cells (sym (taking .first))
+
+      ran : Alike (k .n) (k .buckets) (m .w) w₁
+      ran = alike-run (k .n) (k .buckets) (owned .inside) (idle .planned .scratch)
+
+      -- its start is counted
+      pub count-asks : {p₁ : List ℕ} → Stored 2 (m .p) 0 (little 2 start) p₁ → Counting (k .n) w₁ p₁ 0 1
+      unfolding addrs
+      count-asks put =
+          record {
+            lent = alike-room ran (idle .planned .lentW);
+            inP = omega (arith, put .fits, put .kept);
+            most = omega arith;
+            order = omega arith;
+            inside = inside-one put taker-small (taking .inside);
+            counts = counts-run (k .n) (k .buckets) (owned .inside) (idle .planned .scratch) (idle .counts);
+          }
+
+      module _ {p₁ s₁ w₂ : List ℕ} (room : o .counts .kept + own .n ≤ k .rooms .s) (copied : Stored (9 * own .n) (m .s) 0 (take (9 * own .n) (drop (own .at) w₁)) s₁)
+          (put : Stored 2 (m .p) 0 (little 2 start) p₁) (counted : Counted (k .n) w₁ p₁ 1 w₂) where
+        abbrev now : Mem
+        now = buffers w₂ p₁ s₁ (m .t) (m .r) (m .q)
+
+        pub begun-alike : Alike (k .n) (k .buckets) (m .w) w₂
+        begun-alike = alike-then ran (alike-counts (counted .only) (k .buckets))
+
+        lies : Lies s₁ 0 (own .n) (run code (instructions code) start .stack)
+        lies = lies-copied copied (owned .lies)
+
+        top : drop (9 * (k .rooms .s - o .counts .kept)) s₁ ≡ drop (9 * (k .rooms .s - o .counts .kept)) (m .s)
+        top = kept-drop copied (9 * (k .rooms .s - o .counts .kept)) (omega (arith, room))
+
+        pub begun-recs : recsIn k now (begunWith o (own .n) .counts) ≡ recsIn k m (o .counts)
+        begun-recs = recs-stay (idle .tables) w₂ s₁ (begun-alike .links) top (copied .kept)
+
+        -- document 01's state is the same
+        pub begun-state : stOf k now (begunWith o (own .n)) ≡ stOf k m o
+        unfolding metOf
+        begun-state =
+            let none : [] ≡ metOf (m .t) (m .s) (o .counts .rows) = rw (idle .rowless) in
+            λ i. record { recs = begun-recs i; energy = o .energy; met = none i; needs = [] }
+
+        pub begun-fits : x .start ≡ start → Fits code k (turn-of (direct (prepared code)) reached x) since start now (begunWith o (own .n) .counts)
+        unfolding usedOf
+        begun-fits is =
+            let g = idle .planned in
+            let r = idle .remembers in
+            record {
+              planned = record {
+                is = g .is;
+                limit = g .limit;
+                lentW = alike-room begun-alike (g .lentW);
+                ends = omega (arith, g .ends, begun-alike .links .long);
+                scratch = g .scratch;
+                lentP = omega (arith, g .lentP, put .kept);
+                mostP = g .mostP;
+                shelves = g .shelves;
+              };
+              stored = refl;
+              started = is;
+              starts = taking .inside;
+              tables = tables-kept (idle .tables) w₂ s₁ (begun-alike .links) top (copied .kept) (own .n) 0 room;
+              remembers = record {
+                rows = λ i l. absurd (omega (arith, l));
+                inside = λ i l. absurd (omega (arith, l));
+                shelves = rw (idle .rowless) at (r .shelves);
+                fitsT = omega arith;
+                lentT = r .lentT;
+                mostT = r .mostT;
+                fitsS = omega (arith, copied .fits, copied .kept);
+                mostS = omega (arith, room, idle .tables .within .mostS);
+              };
+              packs = record { is = sym own-cells };
+              known = alike-known begun-alike (g .is) (idle .known);
+              began = idle .began;
+              marks = rw begun-recs (alike-marks begun-alike (idle .marks));
+              sound = rw begun-recs (idle .sound);
+            }
+
+        module _ {position : ℕ} (reads : Number position (positionAt w₂ start) 4) where
+          abbrev first : Level
+          first = record { np = 1; position = position; from = 0; cells = own .n; left = 255 }
+
+          position-is : position ≡ x .position
+          position-is =
+              reads .is ∙ num-prefix w₂ (m .w) (20 * (k .n + 1)) (begun-alike .rows) 4 (20 * start + 8) (omega (arith, taking .inside)) ∙ sym (taking .position)
+
+          pub begun-stands : (k .rooms .p ≡ 0 → ⊥) → Stands k now (begunWith o (own .n) .counts) first
+          begun-stands some =
+              record {
+                some = omega arith;
+                room = omega (arith, some);
+                inside = inside-one put taker-small (taking .inside);
+                state = lies .state;
+                low = omega arith;
+                sound = rw (lies .is) (taking .sound);
+                near = omega (arith, position-is, taking .near, idle .planned .lentW .short);
+                left = omega arith;
+              }
+
+          -- and its level is the turn's first
+          pub begun-level : x .start ≡ start → levelOf now first ≡ record { path = x .start ∷ []; position = x .position; state = x .first }
+          begun-level is =
+              let path = path-one put taker-small ∙ ap (λ (a : ℕ). a ∷ []) (sym is) in
+              let state = lies .is ∙ sym (taking .first) in
+              λ i. record { path = path i; position = position-is i; state = state i }

@@ -1,0 +1,177 @@
+-- The rounds of the search: what is left to do from here ends where the whole ends. Assumes nothing.
+use mathlib.Core.Path.{_≡_, refl, sym, ap, subst, _∙_}
+use mathlib.Core.List.{List}
+use Prim.Native.Nat.{ℕ, suc, _+_, _-_, _*_, _≤_, _<_}
+use native.Mathlib.Omega.{arith}
+use lib.Dec.{eqb}
+use lib.ListN.{length, take}
+use borrow.Author.Tests.{lt-ltb, le-ltb, eq-eqb, ne-eqb}
+use Rattle.spec.specs.Lists.{if, mem}
+use Rattle.spec.specs.Search.{Node, Rec, St, takers, direct, round, rounds, reached-by}
+use Rattle.spec.specs.Answer.{prepared}
+use Rattle.theorems.proofs.Branch.{both, if-true, if-false}
+use Rattle.theorems.proofs.Older.{clear}
+use Rattle.theorems.proofs.Carried.{carry-rounds}
+use Rattle.theorems.proofs.Growth.{Later, later}
+use Rattle.tables.proofs.Counted.{recs-length}
+use Rattle.reachable.specs.Marks.{flagged}
+use Rattle.steps.specs.Runs.{Mem, buffers, recsIn, stOf, Did}
+use Rattle.resolver.specs.Turns.{Idle, Came, RoundAsks, Rounded, Settles, Settled, RoundsAsks, Rounds}
+use Rattle.steps.specs.declared.Plan.{Plan}
+use Rattle.steps.specs.declared.Run.{Run}
+use Rattle.resolver.proofs.Renewing.{renew-settles, renew-flags, renewed}
+use Rattle.resolver.proofs.Dids.{did-nothing, did-same, did-then, did-stops}
+
+-- ---- one round of document 01
+
+module _ (limit : ℕ) (ns : List Node) where
+  -- the round that starts with some records
+  abbrev pub rolled : List Rec → St → St
+  rolled recs = round limit (direct ns) (reached-by ns recs) (takers ns)
+
+  -- after it: it was the last, if there are still m records, or n more follow
+  abbrev next : ℕ → ℕ → St → St
+  next n m t = if (eqb (length (t .recs)) m) t (rounds n limit ns t)
+
+  next-later : (n m : ℕ) (t : St) → Later t (next n m t)
+  next-later n m t = both (Later t) (eqb (length (t .recs)) m) (λ _. later .keeps t) (λ _. carry-rounds Later later n limit ns t)
+
+  module _ (n : ℕ) (s : St) where
+    rounds-stop : limit ≤ s .energy → rounds (suc n) limit ns s ≡ s
+    unfolding rounds
+    rounds-stop h = if-false _ _ _ (le-ltb (s .energy) limit h)
+
+    rounds-go : (recs : List Rec) → s .recs ≡ recs → s .energy < limit → rounds (suc n) limit ns s ≡ next n (length recs) (rolled recs s)
+    unfolding rounds
+    rounds-go recs e h =
+        subst (λ (x : List Rec). rounds (suc n) limit ns s ≡ next n (length x) (rolled x s)) e (if-true _ _ _ (lt-ltb (s .energy) limit h))
+
+-- ---- the loop
+
+-- the buffers are as long as they were
+pub record Long (m m′ : Mem) : Type 0 where
+  pub w : length (m′ .w) ≡ length (m .w)
+  pub p : length (m′ .p) ≡ length (m .p)
+  pub s : length (m′ .s) ≡ length (m .s)
+  pub t : length (m′ .t) ≡ length (m .t)
+  pub r : length (m′ .r) ≡ length (m .r)
+  pub q : length (m′ .q) ≡ length (m .q)
+
+-- Between rounds: what the records before `since` lead to is flagged, and what `left` rounds from here come to, all of them come to.
+pub record Rolling (code : List ℕ) (k : Plan) (m₀ : Mem) (o : Run) (m : Mem) (cur : Run) (since left : ℕ) : Type 0 where
+  pub idle : Idle code k (reached-by (prepared code) (take since (recsIn k m (cur .counts)))) since m cur
+  pub flags : (x : ℕ) → mem x (flagged (m .w) (k .n)) ≡ mem x (reached-by (prepared code) (take since (recsIn k m (cur .counts))))
+  pub rows : take (20 * (k .n + 1)) (m .w) ≡ take (20 * (k .n + 1)) (m₀ .w)
+  pub long : Long m₀ m
+  pub ends : (number : ℕ) (b : St) → Did (k .rooms) (rounds left (k .limit) (prepared code)) (stOf k m cur) number b
+      → Did (k .rooms) (rounds 128 (k .limit) (prepared code)) (stOf k m₀ o) number b
+
+pub roll-start : {code : List ℕ} {k : Plan} {m : Mem} {o : Run} → RoundsAsks code k m o → Rolling code k m o m o 0 128
+roll-start a = record {
+  idle = a .idle;
+  flags = a .flags;
+  rows = refl;
+  long = record { w = refl; p = refl; s = refl; t = refl; r = refl; q = refl };
+  ends = λ number b d. d;
+}
+
+-- ---- the ways out
+
+module _ {code : List ℕ} {k : Plan} {m₀ : Mem} {o : Run} {m : Mem} {cur : Run} {since left : ℕ} (g : Rolling code k m₀ o m cur since left) where
+  -- the loop is left with what there is
+  roll-out : Did (k .rooms) (rounds left (k .limit) (prepared code)) (stOf k m cur) 0 (stOf k m cur) → Rounds code k m₀ o m cur
+  roll-out d = record {
+    did = rw (g .idle .unrefused) (g .ends 0 (stOf k m cur) d);
+    tables = λ _. g .idle .tables;
+    sound = λ _. g .idle .sound;
+    known = λ _. g .idle .known;
+    rows = λ _. g .rows;
+  }
+
+  -- all rounds are done
+  pub roll-done : left ≡ 0 → Rounds code k m₀ o m cur
+  unfolding rounds
+  roll-done z = roll-out (did-same (λ s. s) (rounds left (k .limit) (prepared code)) (λ mid _. rw z) did-nothing)
+
+  -- the limit is reached
+  pub roll-limit : (left ≡ 0 → ⊥) → k .limit ≤ cur .energy → Rounds code k m₀ o m cur
+  roll-limit ne l =
+      let is : suc (left - 1) ≡ left = omega (arith, ne) in
+      roll-out (did-same (λ s. s) (rounds left (k .limit) (prepared code))
+      (λ mid e. rw is at (rounds-stop (k .limit) (prepared code) (left - 1) mid (omega (arith, l, ap (λ (s : St). s .energy) e)))) did-nothing)
+
+-- ---- a round
+
+module _ {code : List ℕ} {k : Plan} {m₀ : Mem} {o : Run} {w p s t r q : List ℕ} {cur : Run} {since left : ℕ}
+    (g : Rolling code k m₀ o (buffers w p s t r q) cur since left) where
+  pub roll-settles : Settles (k .n) w r since (cur .counts .records)
+  roll-settles = renew-settles (g .idle) (g .flags)
+
+  module _ {w₁ : List ℕ} (e : Settled (k .n) w r since (cur .counts .records) w₁) where
+    abbrev recs : List Rec
+    recs = recsIn k (buffers w p s t r q) (cur .counts)
+
+    renewal : Idle code k (reached-by (prepared code) recs) (cur .counts .records) (buffers w₁ p s t r q) cur
+    renewal = renewed (g .idle) (g .flags) e
+
+    pub roll-asks : RoundAsks code k (buffers w₁ p s t r q) cur
+    roll-asks = record { reached = reached-by (prepared code) recs; idle = renewal }
+
+    module _ (ne : left ≡ 0 → ⊥) (l : cur .energy < k .limit) {m′ : Mem} {d : Run} (v : Rounded code k (buffers w₁ p s t r q) cur m′ d) where
+      came : Came code k (reached-by (prepared code) recs) (cur .counts .records) (rolled (k .limit) (prepared code) recs) (buffers w₁ p s t r q) cur m′ d
+      came = v (reached-by (prepared code) recs) renewal
+
+      -- the state of document 01 goes on to what follows the round
+      goes : (mid : St) → clear mid ≡ stOf k (buffers w p s t r q) cur
+          → rounds left (k .limit) (prepared code) mid ≡ next (k .limit) (prepared code) (left - 1) (length recs) (rolled (k .limit) (prepared code) recs mid)
+      goes mid h =
+          let is : suc (left - 1) ≡ left = omega (arith, ne) in
+          rw is at (rounds-go (k .limit) (prepared code) (left - 1) mid recs (ap (λ (x : St). x .recs) h) (omega (arith, l, ap (λ (x : St). x .energy) h)))
+
+      before : length recs ≡ cur .counts .records
+      before = recs-length r q s (k .rooms .s) (cur .counts .records)
+
+      after : (mid : St) → clear mid ≡ stOf k (buffers w p s t r q) cur → d .code ≡ 0 → length (rolled (k .limit) (prepared code) recs mid .recs) ≡ d .counts .records
+      after mid h z = ap (λ (x : St). length (x .recs)) (came .did .made mid h z) ∙ recs-length (m′ .r) (m′ .q) (m′ .s) (k .rooms .s) (d .counts .records)
+
+      -- a shortage
+      pub roll-short : (d .code ≡ 0 → ⊥) → Rounds code k m₀ o m′ d
+      roll-short nz = record {
+        did = g .ends (d .code) (stOf k m′ d) (did-same (λ x. next (k .limit) (prepared code) (left - 1) (length recs) (rolled (k .limit) (prepared code) recs x)) (rounds left (k .limit) (prepared code)) goes
+            (did-stops (rolled (k .limit) (prepared code) recs) (next (k .limit) (prepared code) (left - 1) (length recs)) (next-later (k .limit) (prepared code) (left - 1) (length recs)) (came .did) nz));
+        tables = λ z. absurd (nz z);
+        sound = λ z. absurd (nz z);
+        known = λ z. absurd (nz z);
+        rows = λ z. absurd (nz z);
+      }
+
+      -- no record more
+      pub roll-last : d .code ≡ 0 → d .counts .records ≡ cur .counts .records → Rounds code k m₀ o m′ d
+      roll-last z no-more = record {
+        did = g .ends (d .code) (stOf k m′ d) (did-same (rolled (k .limit) (prepared code) recs) (rounds left (k .limit) (prepared code))
+            (λ mid h. goes mid h ∙ if-true _ _ _ (eq-eqb _ _ (after mid h z ∙ no-more ∙ sym before))) (came .did));
+        tables = λ _. came .idle z .tables;
+        sound = λ _. came .idle z .sound;
+        known = λ _. came .idle z .known;
+        rows = λ _. came .rows z ∙ e .kept .rows ∙ g .rows;
+      }
+
+      -- the next round
+      pub roll-next : d .code ≡ 0 → (d .counts .records ≡ cur .counts .records → ⊥) → Long (buffers w₁ p s t r q) m′
+          → Rolling code k m₀ o m′ d (cur .counts .records) (left - 1)
+      roll-next z more long = record {
+        idle = rw (came .older z) (came .idle z);
+        flags = λ x. rw (came .older z, came .flags z) (renew-flags (g .idle) (g .flags) e x);
+        rows = came .rows z ∙ e .kept .rows ∙ g .rows;
+        long = record {
+          w = long .w ∙ e .kept .long ∙ g .long .w;
+          p = long .p ∙ g .long .p;
+          s = long .s ∙ g .long .s;
+          t = long .t ∙ g .long .t;
+          r = long .r ∙ g .long .r;
+          q = long .q ∙ g .long .q;
+        };
+        ends = λ number b rest. g .ends number b (did-same (λ x. rounds (left - 1) (k .limit) (prepared code) (rolled (k .limit) (prepared code) recs x)) (rounds left (k .limit) (prepared code))
+            (λ mid h. goes mid h ∙ if-false _ _ _ (ne-eqb _ _ (λ same. more (sym (after mid h z) ∙ same ∙ before))))
+            (did-then (rolled (k .limit) (prepared code) recs) (rounds (left - 1) (k .limit) (prepared code)) (came .did) z rest));
+      }

@@ -1,0 +1,113 @@
+-- What the search reads of W stays where the counts of the path in hand, or the part for runs, change. Assumes nothing.
+use mathlib.Core.Path.{_≡_, sym, _∙_}
+use mathlib.Core.List.{List}
+use Prim.Native.Nat.{ℕ, _+_, _-_, _*_, _≤_}
+use native.Mathlib.Omega.{arith}
+use lib.ListN.{length, take}
+use Rattle.spec.specs.Search.{Rec}
+use Rattle.lent.specs.Bytes.{numAt}
+use Rattle.lent.proofs.Numbers.{num-prefix, num-suffix, num-within}
+use Rattle.lent.proofs.Parts.{take-less}
+use Rattle.state.specs.Owns as owns
+use Rattle.state.specs.Owns.{roomOf}
+use Rattle.tables.specs.Tables.{SameLinks}
+use Rattle.parents.specs.Contracts.{Known}
+use Rattle.parents.proofs.Knows.{known-prefix}
+use Rattle.reachable.specs.Marks.{markAt, flagAt, flagged}
+use Rattle.reachable.specs.Contracts.{Room, SidesWithin, Closed}
+use Rattle.reachable.proofs.Flags.{flagged-same}
+use Rattle.reachable.proofs.Rows.{within-sides, closed-sides, sides-kept}
+use Rattle.steps.specs.Paths.{OnPath, CountsOnly}
+use Rattle.steps.specs.Lands.{Marks}
+
+-- the rows, the records' links, the marks and the flags are the same
+pub record Alike (n buckets : ℕ) (w w′ : List ℕ) : Type 0 where
+  pub rows : take (20 * (n + 1)) w′ ≡ take (20 * (n + 1)) w
+  pub links : SameLinks n buckets w w′
+  pub marks : (a : ℕ) → a ≤ n → markAt w′ n a ≡ markAt w n a
+  pub flags : flagged w′ n ≡ flagged w n
+
+pub alike-then : {n buckets : ℕ} {w w₁ w₂ : List ℕ} → Alike n buckets w w₁ → Alike n buckets w₁ w₂ → Alike n buckets w w₂
+alike-then a b =
+    record {
+      rows = b .rows ∙ a .rows;
+      links = record {
+        firsts = λ x h. b .links .firsts x h ∙ a .links .firsts x h;
+        lasts = λ x h. b .links .lasts x h ∙ a .links .lasts x h;
+        heads = λ x h. b .links .heads x h ∙ a .links .heads x h;
+        long = b .links .long ∙ a .links .long;
+      };
+      marks = λ x h. b .marks x h ∙ a .marks x h;
+      flags = b .flags ∙ a .flags;
+    }
+
+-- ---- other counts
+
+module _ {n : ℕ} {w w′ : List ℕ} (c : CountsOnly n w w′) where
+  -- a number among an address's first twelve bytes
+  early : (a : ℕ) → a ≤ n → (k o : ℕ) → o + k ≤ 12 → numAt k w′ (20 * (n + 1 + a) + o) ≡ numAt k w (20 * (n + 1 + a) + o)
+  early a h = num-within w′ w 12 (20 * (n + 1 + a)) (20 * (n + 1 + a)) (c .before a h)
+
+  field : (a : ℕ) → a ≤ n → (k o : ℕ) → o + k ≤ 12 → {i : ℕ} → i ≡ 20 * (n + 1 + a) + o → numAt k w′ i ≡ numAt k w i
+  field a h k o l e = rw e (early a h k o l)
+
+  flag : (a : ℕ) → a ≤ n → flagAt w′ n a ≡ flagAt w n a
+  flag a h =
+      let e : 20 * (n + 1 + a) + 18 ≡ 20 * (n + 1 + a) + 16 + 2 = omega arith in
+      rw e (num-within w′ w 4 (20 * (n + 1 + a) + 16) (20 * (n + 1 + a) + 16) (c .after a h) 1 2 (omega arith))
+
+  pub alike-counts : (buckets : ℕ) → Alike n buckets w w′
+  alike-counts buckets =
+      record {
+        rows = c .front;
+        links = record {
+          firsts = λ a h. field a h 4 4 (omega arith) (omega arith);
+          lasts = λ a h. field a h 4 8 (omega arith) (omega arith);
+          heads = λ b h. num-suffix w′ w (40 * (n + 1)) (c .back) 4 (42 * (n + 1) + 4 * b) (omega arith);
+          long = c .long;
+        };
+        marks = λ a h. field a h 4 0 (omega arith) (omega arith);
+        flags = flagged-same w w′ n flag;
+      }
+
+-- ---- another part for runs
+
+module _ (n buckets : ℕ) {code : List ℕ} {end : ℕ} {w w′ : List ℕ} (i : owns.Inside code w end w′) (scratch : 42 * (n + 1) + 4 * buckets + roomOf code ≤ end) where
+  low : (k at : ℕ) → at + k ≤ 42 * (n + 1) + 4 * buckets → numAt k w′ at ≡ numAt k w at
+  low k at h = num-prefix w′ w (end - roomOf code) (i .front) k at (omega arith)
+
+  pub alike-run : Alike n buckets w w′
+  alike-run =
+      record {
+        rows = take-less w′ w (end - roomOf code) (i .front) (20 * (n + 1)) (omega arith);
+        links = record {
+          firsts = λ a h. low 4 _ (omega arith);
+          lasts = λ a h. low 4 _ (omega arith);
+          heads = λ b h. low 4 _ (omega arith);
+          long = i .kept;
+        };
+        marks = λ a h. low 4 _ (omega arith);
+        flags = flagged-same w w′ n (λ a h. low 1 _ (omega arith));
+      }
+
+  -- the counts stay too
+  pub counts-run : {path : List ℕ} → OnPath n w path → OnPath n w′ path
+  counts-run o = record { counts = λ a h. low 4 _ (omega arith) ∙ o .counts a h }
+
+-- ---- what follows
+
+module _ {n buckets : ℕ} {w w′ : List ℕ} (e : Alike n buckets w w′) where
+  pub alike-marks : {reached : List ℕ} {since : ℕ} {rs : List Rec} → Marks n w reached since rs → Marks n w′ reached since rs
+  alike-marks m = record { by = λ j s l a h. rw (e .marks a h) (m .by j s l a h); most = λ a h. rw (e .marks a h) (m .most a h) }
+
+  pub alike-known : {code : List ℕ} {head : ℕ} → n ≡ length code → Known code w head → Known code w′ head
+  alike-known is k = known-prefix w′ (sym (rw is at (e .rows))) k
+
+  pub alike-within : SidesWithin w n → SidesWithin w′ n
+  alike-within = within-sides (sides-kept w w′ n (e .rows))
+
+  pub alike-closed : Closed w n → Closed w′ n
+  alike-closed = closed-sides (sides-kept w w′ n (e .rows)) (e .flags)
+
+  pub alike-room : Room n w → Room n w′
+  alike-room r = record { short = r .short; room = omega (arith, r .room, e .links .long) }

@@ -1,0 +1,311 @@
+-- `level` and `parent`: a level tries its parents, and a parent may open a level with less weight left. Assumes nothing.
+use mathlib.Core.Path.{_∙_}
+use native.Mathlib.Omega.{arith}
+use borrow.Author.Needs.{needs}
+use Rattle.steps.specs.Runs.{buffers}
+use Rattle.steps.proofs.Cursors.{fuel}
+use Rattle.resolver.proofs.Leveling.{Going, level-at-block, level-starts, going-block, going-cursor, going-asks, going-address, going-falls, going-spend, going-tries, level-skips, level-passes, level-refused, level-tried, level-ends}
+use Rattle.resolver.proofs.Deeper.{parent-shut, opens-lighter, parent-counts, parent-opens, parent-refused, parent-uncounts, parent-done}
+use Prim.Native.Nat.{ℕ, _+_, _*_, _<_}
+use borrow.Fn.Kinds.{In}
+use borrow.Fn.PlainCycle.{Measures, is, falls, and}
+use Rattle.resolver.proofs.levels.level.Reads as level
+use Rattle.resolver.proofs.levels.level.Kinds as level-kinds
+use Rattle.resolver.proofs.levels.+level+parent.Lts-level as level-lts
+use Rattle.resolver.proofs.levels.parent.Reads as parent
+use Rattle.resolver.proofs.levels.parent.Kinds as parent-kinds
+use Rattle.resolver.proofs.levels.+level+parent.Lts-parent as parent-lts
+use Rattle.lent.proofs.get16.Reads as get16-reads
+use Rattle.reachable.proofs.is_marked.Reads as is-marked-reads
+use Rattle.steps.proofs.cursor.first_cursor.Reads as first-cursor-reads
+use Rattle.steps.proofs.cursor.last_block.Reads as last-block-reads
+use Rattle.steps.proofs.cursor.next_cursor.Reads as next-cursor-reads
+use Rattle.resolver.proofs.enter.enter.Reads as enter-reads
+use Rattle.resolver.proofs.levels.spend.Reads as spend-reads
+use Rattle.steps.proofs.path.count.Reads as count-reads
+use Rattle.steps.proofs.path.uncount.Reads as uncount-reads
+use Rattle.resolver.proofs.levels.+level+parent.{statement}
+use Rattle.resolver.proofs.levels.+level+parent.Tie.{close}
+
+abbrev μ-level : Measures 7 level-kinds.ps ℕ
+μ-level κs a = 2 * a .1 .1 .1 .1 .1 .1 .1 .1 .1 .0 .left + 1
+
+abbrev μ-parent : Measures 7 parent-kinds.ps ℕ
+μ-parent κs a = 2 * a .1 .1 .1 .1 .1 .1 .1 .1 .1 .0 .left
+
+abbrev level-at : ℕ → In 7 level-kinds.ps
+level-at t = and 7 level-kinds.ps (is 7 level-kinds.ps μ-level t) level.Pre
+
+abbrev level-below : ℕ → In 7 level-kinds.ps
+level-below t = and 7 level-kinds.ps (falls 7 level-kinds.ps _<_ μ-level t) level.Pre
+
+abbrev parent-at : ℕ → In 7 parent-kinds.ps
+parent-at t = and 7 parent-kinds.ps (is 7 parent-kinds.ps μ-parent t) parent.Pre
+
+abbrev parent-below : ℕ → In 7 parent-kinds.ps
+parent-below t = and 7 parent-kinds.ps (falls 7 parent-kinds.ps _<_ μ-parent t) parent.Pre
+
+abbrev level-Inv-loop : level-lts.InvT-loop
+level-Inv-loop code w₀ p₀ s₀ t₀ r₀ q₀ k start l opened b at₀ cur₀ w p s t r q at cur =
+    Going code k start l (buffers w₀ p₀ s₀ t₀ r₀ q₀) cur₀ b (buffers w p s t r q) cur at
+
+abbrev level-μ-loop : level-lts.MeasureT-loop
+level-μ-loop code w₀ p₀ s₀ t₀ r₀ q₀ k start l opened b at₀ cur₀ w p s t r q at cur = fuel at
+
+abbrev level-cs : ℕ → level-lts.Claims
+level-cs t = (get16-reads.Asked, get16-reads.Learnt, first-cursor-reads.Asked, first-cursor-reads.Learnt, next-cursor-reads.Asked, next-cursor-reads.Learnt, last-block-reads.Asked, last-block-reads.Learnt, is-marked-reads.Asked, is-marked-reads.Learnt, spend-reads.Asked, spend-reads.Learnt, parent-below t, parent.Post)
+
+abbrev parent-cs : ℕ → parent-lts.Claims
+parent-cs t = (enter-reads.Asked, enter-reads.Learnt, count-reads.Asked, count-reads.Learnt, level-below t, level.Post, uncount-reads.Asked, uncount-reads.Learnt)
+
+level-sub-get16 : (t : ℕ) → level-lts.Need-sub-get16 (level-cs t) (level-at t) level.Post level-Inv-loop level-μ-loop
+level-sub-get16 t c = omega (arith, c .before .before .before .before .before .before .before .before .before .before .pre .1 .stands .some)
+
+level-mul-get16 : (t : ℕ) → level-lts.Need-mul-get16 (level-cs t) (level-at t) level.Post level-Inv-loop level-μ-loop
+level-mul-get16 t c = omega (arith, c .before .before .before .before .before .before .before .before .before .before .pre .1 .stands .room, c .before .before .before .before .before .before .before .before .before .before .pre .1 .fits .planned .mostP)
+
+level-get16-requires : (t : ℕ) → level-lts.Need-get16-requires (level-cs t) (level-at t) level.Post level-Inv-loop level-μ-loop
+level-get16-requires t c κs = omega (arith, c .before .before .before .before .before .before .before .before .before .before .pre .1 .stands .some, c .before .before .before .before .before .before .before .before .before .before .pre .1 .stands .room, c .before .before .before .before .before .before .before .before .before .before .pre .1 .fits .planned .lentP)
+
+level-first-cursor-requires : (t : ℕ) → level-lts.Need-first-cursor-requires (level-cs t) (level-at t) level.Post level-Inv-loop level-μ-loop
+level-first-cursor-requires t c κs = let pre = c .before .before .before .before .before .before .before .before .before .before .before .before .pre .1 in search (level-at-block pre)
+
+level-loop-holds : (t : ℕ) → level-lts.Need-loop-holds (level-cs t) (level-at t) level.Post level-Inv-loop level-μ-loop
+level-loop-holds t c = search level-starts
+
+level-next-cursor-requires : (t : ℕ) → level-lts.Need-next-cursor-requires (level-cs t) (level-at t) level.Post level-Inv-loop level-μ-loop
+level-next-cursor-requires t c κs = (going-block (c .before .before .before .before .before .before .before .before .before .before .before .before .before .before .before .before .before .pre .1) (c .before .before .before .loop .inv), going-cursor (c .before .before .before .before .before .before .before .before .before .before .before .before .before .before .before .before .before .pre .1) (c .before .before .before .loop .inv) (c .before .before .loop-test .taken))
+
+level-last-block-requires : (t : ℕ) → level-lts.Need-last-block-requires (level-cs t) (level-at t) level.Post level-Inv-loop level-μ-loop
+level-last-block-requires t c κs = let pre = c .before .before .before .before .before .before .before .before .before .before .before .before .before .before .before .before .before .before .before .before .before .pre .1 in let g = c .before .before .before .before .before .before .before .loop .inv in search (going-asks pre g)
+
+level-add-is-marked : (t : ℕ) → level-lts.Need-add-is-marked (level-cs t) (level-at t) level.Post level-Inv-loop level-μ-loop
+level-add-is-marked t c = omega (arith, c .before .before .before .before .before .before .before .before .before .before .before .before .before .before .before .before .before .before .before .before .before .before .pre .1 .fits .tables .within .fitsR, c .before .before .before .before .before .before .before .before .before .before .before .before .before .before .before .before .before .before .before .before .before .before .pre .1 .fits .tables .within .mostR)
+
+level-is-marked-requires : (t : ℕ) → level-lts.Need-is-marked-requires (level-cs t) (level-at t) level.Post level-Inv-loop level-μ-loop
+level-is-marked-requires t c κs = let pre = c .before .before .before .before .before .before .before .before .before .before .before .before .before .before .before .before .before .before .before .before .before .before .pre .1 in let g = c .before .before .before .before .before .before .before .before .loop .inv in search (going-address pre g)
+
+level-spend-requires : (t : ℕ) → level-lts.Need-spend-requires (level-cs t) (level-at t) level.Post level-Inv-loop level-μ-loop
+level-spend-requires t c κs = search going-spend
+
+level-same-length : (t : ℕ) → level-lts.Need-same-length (level-cs t) (level-at t) level.Post level-Inv-loop level-μ-loop
+level-same-length t c = c .before .before .before .before .before .before .before .before .before .before .before .before .before .before .loop .inv .long .w
+
+level-same-length-2 : (t : ℕ) → level-lts.Need-same-length-2 (level-cs t) (level-at t) level.Post level-Inv-loop level-μ-loop
+level-same-length-2 t c = c .before .before .before .before .before .before .before .before .before .before .before .before .before .before .loop .inv .long .p
+
+level-same-length-3 : (t : ℕ) → level-lts.Need-same-length-3 (level-cs t) (level-at t) level.Post level-Inv-loop level-μ-loop
+level-same-length-3 t c = c .before .before .before .before .before .before .before .before .before .before .before .before .before .before .loop .inv .long .s
+
+level-same-length-4 : (t : ℕ) → level-lts.Need-same-length-4 (level-cs t) (level-at t) level.Post level-Inv-loop level-μ-loop
+level-same-length-4 t c = c .before .before .before .before .before .before .before .before .before .before .before .before .before .before .loop .inv .long .t
+
+level-same-length-5 : (t : ℕ) → level-lts.Need-same-length-5 (level-cs t) (level-at t) level.Post level-Inv-loop level-μ-loop
+level-same-length-5 t c = c .before .before .before .before .before .before .before .before .before .before .before .before .before .before .loop .inv .long .r
+
+level-same-length-6 : (t : ℕ) → level-lts.Need-same-length-6 (level-cs t) (level-at t) level.Post level-Inv-loop level-μ-loop
+level-same-length-6 t c = c .before .before .before .before .before .before .before .before .before .before .before .before .before .before .loop .inv .long .q
+
+level-returns : (t : ℕ) → level-lts.Need-returns (level-cs t) (level-at t) level.Post level-Inv-loop level-μ-loop
+level-returns t c = level-passes (c .before .before .before .before .before .before .before .before .before .before .before .before .before .before .before .before .before .before .before .before .before .before .before .before .before .before .before .before .pre .1) (c .before .before .before .before .before .before .before .before .before .before .before .before .before .before .loop .inv) (c .before .before .before .before .before .before .before .before .before .before .before .before .before .loop-test .taken) (c .before .before .before .before .before .before .last-block .ensures) (c .before .before .before .before .before .is-marked .ensures) (c .before .before .before .before .if1 .taken) (c .before .before .before .spend .ensures) (c .if2 .taken)
+
+level-parent-requires : (t : ℕ) → level-lts.Need-parent-requires (level-cs t) (level-at t) level.Post level-Inv-loop level-μ-loop
+level-parent-requires t c κs = (omega (arith, c .before .before .before .before .before .before .before .before .before .before .before .before .before .before .before .before .before .before .before .before .before .before .before .before .before .before .before .before .before .before .before .before .before .before .pre .0), going-tries (c .before .before .before .before .before .before .before .before .before .before .before .before .before .before .before .before .before .before .before .before .before .before .before .before .before .before .before .before .before .before .before .before .before .before .pre .1) (c .before .before .before .before .before .before .before .before .before .before .before .before .before .before .before .before .before .before .before .before .loop .inv) (c .before .before .before .before .before .before .before .before .before .before .before .before .before .before .before .before .before .before .before .loop-test .taken) (c .before .before .before .before .before .before .before .before .before .spend .ensures) (c .before .before .before .before .before .before .if2 .left))
+
+level-same-length-7 : (t : ℕ) → level-lts.Need-same-length-7 (level-cs t) (level-at t) level.Post level-Inv-loop level-μ-loop
+level-same-length-7 t c = c .before .before .before .before .before .before .before .before .before .before .before .before .before .before .parent .kept .1 .0 ∙ c .before .before .before .before .before .before .before .before .before .before .before .before .before .before .before .before .before .before .before .before .before .before .before .before .before .before .before .before .before .before .before .before .before .before .before .loop .inv .long .w
+
+level-same-length-8 : (t : ℕ) → level-lts.Need-same-length-8 (level-cs t) (level-at t) level.Post level-Inv-loop level-μ-loop
+level-same-length-8 t c = c .before .before .before .before .before .before .before .before .before .before .before .before .before .before .parent .kept .1 .1 .0 ∙ c .before .before .before .before .before .before .before .before .before .before .before .before .before .before .before .before .before .before .before .before .before .before .before .before .before .before .before .before .before .before .before .before .before .before .before .loop .inv .long .p
+
+level-same-length-9 : (t : ℕ) → level-lts.Need-same-length-9 (level-cs t) (level-at t) level.Post level-Inv-loop level-μ-loop
+level-same-length-9 t c = c .before .before .before .before .before .before .before .before .before .before .before .before .before .before .parent .kept .1 .1 .1 .0 ∙ c .before .before .before .before .before .before .before .before .before .before .before .before .before .before .before .before .before .before .before .before .before .before .before .before .before .before .before .before .before .before .before .before .before .before .before .loop .inv .long .s
+
+level-same-length-10 : (t : ℕ) → level-lts.Need-same-length-10 (level-cs t) (level-at t) level.Post level-Inv-loop level-μ-loop
+level-same-length-10 t c = c .before .before .before .before .before .before .before .before .before .before .before .before .before .before .parent .kept .1 .1 .1 .1 .0 ∙ c .before .before .before .before .before .before .before .before .before .before .before .before .before .before .before .before .before .before .before .before .before .before .before .before .before .before .before .before .before .before .before .before .before .before .before .loop .inv .long .t
+
+level-same-length-11 : (t : ℕ) → level-lts.Need-same-length-11 (level-cs t) (level-at t) level.Post level-Inv-loop level-μ-loop
+level-same-length-11 t c = c .before .before .before .before .before .before .before .before .before .before .before .before .before .before .parent .kept .1 .1 .1 .1 .1 .0 ∙ c .before .before .before .before .before .before .before .before .before .before .before .before .before .before .before .before .before .before .before .before .before .before .before .before .before .before .before .before .before .before .before .before .before .before .before .loop .inv .long .r
+
+level-same-length-12 : (t : ℕ) → level-lts.Need-same-length-12 (level-cs t) (level-at t) level.Post level-Inv-loop level-μ-loop
+level-same-length-12 t c = c .before .before .before .before .before .before .before .before .before .before .before .before .before .before .parent .kept .1 .1 .1 .1 .1 .1 .0 ∙ c .before .before .before .before .before .before .before .before .before .before .before .before .before .before .before .before .before .before .before .before .before .before .before .before .before .before .before .before .before .before .before .before .before .before .before .loop .inv .long .q
+
+level-returns-2 : (t : ℕ) → level-lts.Need-returns-2 (level-cs t) (level-at t) level.Post level-Inv-loop level-μ-loop
+level-returns-2 t c = level-refused (c .before .before .before .before .before .before .before .before .before .before .before .before .before .before .before .before .before .before .before .before .before .before .before .before .before .before .before .before .before .before .before .before .before .before .before .before .before .before .before .before .before .before .before .before .before .before .before .before .before .pre .1) (c .before .before .before .before .before .before .before .before .before .before .before .before .before .before .before .before .before .before .before .before .before .before .before .before .before .before .before .before .before .before .before .before .before .before .before .loop .inv) (c .before .before .before .before .before .before .before .before .before .before .before .before .before .before .before .before .before .before .before .before .before .before .before .before .before .before .before .before .before .before .before .before .before .before .loop-test .taken) (c .before .before .before .before .before .before .before .before .before .before .before .before .before .before .before .before .before .before .before .before .before .before .before .before .before .before .before .last-block .ensures) (c .before .before .before .before .before .before .before .before .before .before .before .before .before .before .before .before .before .before .before .before .before .before .before .before .before .before .is-marked .ensures) (c .before .before .before .before .before .before .before .before .before .before .before .before .before .before .before .before .before .before .before .before .before .before .before .before .before .if1 .taken) (c .before .before .before .before .before .before .before .before .before .before .before .before .before .before .before .before .before .before .before .before .before .before .before .before .spend .ensures) (c .before .before .before .before .before .before .before .before .before .before .before .before .before .before .before .before .before .before .before .before .before .if2 .left) (c .before .before .before .before .before .before .before .before .before .before .before .before .before .before .parent .ensures) (c .if3 .taken)
+
+level-loop-less : (t : ℕ) → level-lts.Need-loop-less (level-cs t) (level-at t) level.Post level-Inv-loop level-μ-loop
+level-loop-less t c = going-falls (c .before .before .before .before .before .before .before .before .before .before .before .before .before .before .before .before .before .before .before .before .before .before .before .before .before .before .before .before .before .before .before .before .before .before .before .before .before .before .before .before .before .before .before .before .before .before .before .before .before .pre .1) (c .before .before .before .before .before .before .before .before .before .before .before .before .before .before .before .before .before .before .before .before .before .before .before .before .before .before .before .before .before .before .before .before .before .before .before .loop .inv) (c .before .before .before .before .before .before .before .before .before .before .before .before .before .before .before .before .before .before .before .before .before .before .before .before .before .before .before .before .before .before .before .before .before .before .loop-test .taken) (c .before .before .before .before .before .before .before .before .before .before .before .before .before .before .before .before .before .before .before .before .before .before .before .before .before .before .before .before .before .before .before .next-cursor .ensures)
+
+level-loop-again : (t : ℕ) → level-lts.Need-loop-again (level-cs t) (level-at t) level.Post level-Inv-loop level-μ-loop
+level-loop-again t c = level-tried (c .before .before .before .before .before .before .before .before .before .before .before .before .before .before .before .before .before .before .before .before .before .before .before .before .before .before .before .before .before .before .before .before .before .before .before .before .before .before .before .before .before .before .before .before .before .before .before .before .before .pre .1) (c .before .before .before .before .before .before .before .before .before .before .before .before .before .before .before .before .before .before .before .before .before .before .before .before .before .before .before .before .before .before .before .before .before .before .before .loop .inv) (c .before .before .before .before .before .before .before .before .before .before .before .before .before .before .before .before .before .before .before .before .before .before .before .before .before .before .before .before .before .before .before .before .before .before .loop-test .taken) (c .before .before .before .before .before .before .before .before .before .before .before .before .before .before .before .before .before .before .before .before .before .before .before .before .before .before .before .last-block .ensures) (c .before .before .before .before .before .before .before .before .before .before .before .before .before .before .before .before .before .before .before .before .before .before .before .before .before .before .is-marked .ensures) (c .before .before .before .before .before .before .before .before .before .before .before .before .before .before .before .before .before .before .before .before .before .before .before .before .before .if1 .taken) (c .before .before .before .before .before .before .before .before .before .before .before .before .before .before .before .before .before .before .before .before .before .before .before .before .spend .ensures) (c .before .before .before .before .before .before .before .before .before .before .before .before .before .before .before .before .before .before .before .before .before .if2 .left) (c .before .before .before .before .before .before .before .before .before .before .before .before .before .before .parent .ensures) (c .before .before .before .before .before .before .before .before .before .before .before .before .before .before .before .before .before .before .before .before .before .before .before .before .before .before .before .before .before .before .before .next-cursor .ensures) (c .if3 .left) (record { w = c .before .before .before .before .before .before .before .before .before .before .before .before .before .before .parent .kept .1 .0; p = c .before .before .before .before .before .before .before .before .before .before .before .before .before .before .parent .kept .1 .1 .0; s = c .before .before .before .before .before .before .before .before .before .before .before .before .before .before .parent .kept .1 .1 .1 .0; t = c .before .before .before .before .before .before .before .before .before .before .before .before .before .before .parent .kept .1 .1 .1 .1 .0; r = c .before .before .before .before .before .before .before .before .before .before .before .before .before .before .parent .kept .1 .1 .1 .1 .1 .0; q = c .before .before .before .before .before .before .before .before .before .before .before .before .before .before .parent .kept .1 .1 .1 .1 .1 .1 .0 })
+
+level-loop-less-2 : (t : ℕ) → level-lts.Need-loop-less-2 (level-cs t) (level-at t) level.Post level-Inv-loop level-μ-loop
+level-loop-less-2 t c = search going-falls
+
+level-loop-again-2 : (t : ℕ) → level-lts.Need-loop-again-2 (level-cs t) (level-at t) level.Post level-Inv-loop level-μ-loop
+level-loop-again-2 t c = let pre = c .before .before .before .before .before .before .before .before .before .before .before .before .before .before .before .before .before .before .before .before .before .before .before .before .pre .1 in let g = c .before .before .before .before .before .before .before .before .before .before .loop .inv in search (level-skips pre g)
+
+level-same-length-13 : (t : ℕ) → level-lts.Need-same-length-13 (level-cs t) (level-at t) level.Post level-Inv-loop level-μ-loop
+level-same-length-13 t c = search needs
+
+level-same-length-14 : (t : ℕ) → level-lts.Need-same-length-14 (level-cs t) (level-at t) level.Post level-Inv-loop level-μ-loop
+level-same-length-14 t c = search needs
+
+level-same-length-15 : (t : ℕ) → level-lts.Need-same-length-15 (level-cs t) (level-at t) level.Post level-Inv-loop level-μ-loop
+level-same-length-15 t c = search needs
+
+level-same-length-16 : (t : ℕ) → level-lts.Need-same-length-16 (level-cs t) (level-at t) level.Post level-Inv-loop level-μ-loop
+level-same-length-16 t c = search needs
+
+level-same-length-17 : (t : ℕ) → level-lts.Need-same-length-17 (level-cs t) (level-at t) level.Post level-Inv-loop level-μ-loop
+level-same-length-17 t c = search needs
+
+level-same-length-18 : (t : ℕ) → level-lts.Need-same-length-18 (level-cs t) (level-at t) level.Post level-Inv-loop level-μ-loop
+level-same-length-18 t c = search needs
+
+level-returns-3 : (t : ℕ) → level-lts.Need-returns-3 (level-cs t) (level-at t) level.Post level-Inv-loop level-μ-loop
+level-returns-3 t c = search level-ends
+
+parent-enter-requires : (t : ℕ) → parent-lts.Need-enter-requires (parent-cs t) (parent-at t) parent.Post
+parent-enter-requires t c κs = c .before .before .before .before .before .before .before .before .before .before .before .before .before .pre .1 .entering
+
+parent-same-length : (t : ℕ) → parent-lts.Need-same-length (parent-cs t) (parent-at t) parent.Post
+parent-same-length t c = search needs
+
+parent-same-length-2 : (t : ℕ) → parent-lts.Need-same-length-2 (parent-cs t) (parent-at t) parent.Post
+parent-same-length-2 t c = search needs
+
+parent-same-length-3 : (t : ℕ) → parent-lts.Need-same-length-3 (parent-cs t) (parent-at t) parent.Post
+parent-same-length-3 t c = search needs
+
+parent-same-length-4 : (t : ℕ) → parent-lts.Need-same-length-4 (parent-cs t) (parent-at t) parent.Post
+parent-same-length-4 t c = search needs
+
+parent-same-length-5 : (t : ℕ) → parent-lts.Need-same-length-5 (parent-cs t) (parent-at t) parent.Post
+parent-same-length-5 t c = search needs
+
+parent-same-length-6 : (t : ℕ) → parent-lts.Need-same-length-6 (parent-cs t) (parent-at t) parent.Post
+parent-same-length-6 t c = search needs
+
+parent-returns : (t : ℕ) → parent-lts.Need-returns (parent-cs t) (parent-at t) parent.Post
+parent-returns t c = let pre = c .before .before .before .before .before .before .before .before .before .before .before .before .before .before .before .before .before .before .before .before .before .before .before .before .before .before .before .before .before .pre .1 in search (parent-shut pre)
+
+parent-count-requires : (t : ℕ) → parent-lts.Need-count-requires (parent-cs t) (parent-at t) parent.Post
+parent-count-requires t c κs = parent-counts (c .before .before .before .before .before .before .before .before .before .before .before .before .before .before .before .before .before .before .before .before .before .before .before .before .before .before .before .before .before .before .before .before .pre .1) (c .before .before .before .before .before .before .before .before .before .before .before .before .before .before .before .before .before .before .enter .ensures) (c .before .before .before .if1 .left)
+
+parent-level-requires : (t : ℕ) → parent-lts.Need-level-requires (parent-cs t) (parent-at t) parent.Post
+parent-level-requires t c κs = (omega (arith, c .before .before .before .before .before .before .before .before .before .before .before .before .before .before .before .before .before .before .before .before .before .before .before .before .before .before .before .before .before .before .before .before .before .before .before .before .before .before .before .before .before .pre .0, opens-lighter (c .before .before .before .before .before .before .before .before .before .before .before .before .before .before .before .before .before .before .before .before .before .before .before .before .before .before .before .before .before .before .before .before .before .before .before .before .before .before .before .before .before .pre .1) (c .before .before .before .before .before .before .before .before .before .before .before .before .before .before .before .before .before .before .before .before .before .before .before .before .before .before .before .enter .ensures) (c .before .before .before .before .before .before .before .before .before .before .before .before .if1 .left)), parent-opens (c .before .before .before .before .before .before .before .before .before .before .before .before .before .before .before .before .before .before .before .before .before .before .before .before .before .before .before .before .before .before .before .before .before .before .before .before .before .before .before .before .before .pre .1) (c .before .before .before .before .before .before .before .before .before .before .before .before .before .before .before .before .before .before .before .before .before .before .before .before .before .before .before .enter .ensures) (c .before .before .before .before .before .before .before .before .before .before .before .before .if1 .left) (c .before .before .before .before .before .before .before .before .count .ensures))
+
+parent-same-length-7 : (t : ℕ) → parent-lts.Need-same-length-7 (parent-cs t) (parent-at t) parent.Post
+parent-same-length-7 t c = c .before .before .before .before .before .before .before .before .before .before .before .before .before .before .level .kept .1 .0 ∙ c .before .before .before .before .before .before .before .before .before .before .before .before .before .before .before .before .before .before .before .before .before .before .before .count .kept .0 ∙ c .before .before .before .before .before .before .before .before .before .before .before .before .before .before .before .before .before .before .before .before .before .before .before .before .before .before .before .before .before .before .before .before .before .before .before .before .before .before .before .before .before .before .enter .kept .1 .0
+
+parent-same-length-8 : (t : ℕ) → parent-lts.Need-same-length-8 (parent-cs t) (parent-at t) parent.Post
+parent-same-length-8 t c = c .before .before .before .before .before .before .before .before .before .before .before .before .before .before .level .kept .1 .1 .0 ∙ c .before .before .before .before .before .before .before .before .before .before .before .before .before .before .before .before .before .before .before .before .before .before .before .before .before .before .before .before .before .before .before .before .before .before .before .before .before .before .before .before .before .before .enter .kept .1 .1 .0
+
+parent-same-length-9 : (t : ℕ) → parent-lts.Need-same-length-9 (parent-cs t) (parent-at t) parent.Post
+parent-same-length-9 t c = c .before .before .before .before .before .before .before .before .before .before .before .before .before .before .level .kept .1 .1 .1 .0 ∙ c .before .before .before .before .before .before .before .before .before .before .before .before .before .before .before .before .before .before .before .before .before .before .before .before .before .before .before .before .before .before .before .before .before .before .before .before .before .before .before .before .before .before .enter .kept .1 .1 .1 .0
+
+parent-same-length-10 : (t : ℕ) → parent-lts.Need-same-length-10 (parent-cs t) (parent-at t) parent.Post
+parent-same-length-10 t c = c .before .before .before .before .before .before .before .before .before .before .before .before .before .before .level .kept .1 .1 .1 .1 .0 ∙ c .before .before .before .before .before .before .before .before .before .before .before .before .before .before .before .before .before .before .before .before .before .before .before .before .before .before .before .before .before .before .before .before .before .before .before .before .before .before .before .before .before .before .enter .kept .1 .1 .1 .1 .0
+
+parent-same-length-11 : (t : ℕ) → parent-lts.Need-same-length-11 (parent-cs t) (parent-at t) parent.Post
+parent-same-length-11 t c = c .before .before .before .before .before .before .before .before .before .before .before .before .before .before .level .kept .1 .1 .1 .1 .1 .0 ∙ c .before .before .before .before .before .before .before .before .before .before .before .before .before .before .before .before .before .before .before .before .before .before .before .before .before .before .before .before .before .before .before .before .before .before .before .before .before .before .before .before .before .before .enter .kept .1 .1 .1 .1 .1 .0
+
+parent-same-length-12 : (t : ℕ) → parent-lts.Need-same-length-12 (parent-cs t) (parent-at t) parent.Post
+parent-same-length-12 t c = c .before .before .before .before .before .before .before .before .before .before .before .before .before .before .level .kept .1 .1 .1 .1 .1 .1 .0 ∙ c .before .before .before .before .before .before .before .before .before .before .before .before .before .before .before .before .before .before .before .before .before .before .before .before .before .before .before .before .before .before .before .before .before .before .before .before .before .before .before .before .before .before .enter .kept .1 .1 .1 .1 .1 .1 .0
+
+parent-returns-2 : (t : ℕ) → parent-lts.Need-returns-2 (parent-cs t) (parent-at t) parent.Post
+parent-returns-2 t c = parent-refused (c .before .before .before .before .before .before .before .before .before .before .before .before .before .before .before .before .before .before .before .before .before .before .before .before .before .before .before .before .before .before .before .before .before .before .before .before .before .before .before .before .before .before .before .before .before .before .before .before .before .before .before .before .before .before .before .before .pre .1) (c .before .before .before .before .before .before .before .before .before .before .before .before .before .before .before .before .before .before .before .before .before .before .before .before .before .before .before .before .before .before .before .before .before .before .before .before .before .before .before .before .before .before .enter .ensures) (c .before .before .before .before .before .before .before .before .before .before .before .before .before .before .before .before .before .before .before .before .before .before .before .before .before .before .before .if1 .left) (c .before .before .before .before .before .before .before .before .before .before .before .before .before .before .before .before .before .before .before .before .before .before .before .count .ensures) (c .before .before .before .before .before .before .before .before .before .before .before .before .before .before .level .ensures) (c .if2 .taken)
+
+parent-uncount-requires : (t : ℕ) → parent-lts.Need-uncount-requires (parent-cs t) (parent-at t) parent.Post
+parent-uncount-requires t c κs = parent-uncounts (c .before .before .before .before .before .before .before .before .before .before .before .before .before .before .before .before .before .before .before .before .before .before .before .before .before .before .before .before .before .before .before .before .before .before .before .before .before .before .before .before .before .before .before .before .before .before .before .before .before .before .before .before .before .before .before .before .before .before .pre .1) (c .before .before .before .before .before .before .before .before .before .before .before .before .before .before .before .before .before .before .before .before .before .before .before .before .before .before .before .before .before .before .before .before .before .before .before .before .before .before .before .before .before .before .before .before .enter .ensures) (c .before .before .before .before .before .before .before .before .before .before .before .before .before .before .before .before .before .before .before .before .before .before .before .before .before .before .before .before .before .if1 .left) (c .before .before .before .before .before .before .before .before .before .before .before .before .before .before .before .before .before .before .before .before .before .before .before .before .before .count .ensures) (c .before .before .before .before .before .before .before .before .before .before .before .before .before .before .before .before .level .ensures) (c .before .before .if2 .left)
+
+parent-same-length-13 : (t : ℕ) → parent-lts.Need-same-length-13 (parent-cs t) (parent-at t) parent.Post
+parent-same-length-13 t c = c .before .before .uncount .kept .0 ∙ c .before .before .before .before .before .before .before .before .before .before .before .before .before .before .before .before .before .before .before .level .kept .1 .0 ∙ c .before .before .before .before .before .before .before .before .before .before .before .before .before .before .before .before .before .before .before .before .before .before .before .before .before .before .before .before .count .kept .0 ∙ c .before .before .before .before .before .before .before .before .before .before .before .before .before .before .before .before .before .before .before .before .before .before .before .before .before .before .before .before .before .before .before .before .before .before .before .before .before .before .before .before .before .before .before .before .before .before .before .enter .kept .1 .0
+
+parent-same-length-14 : (t : ℕ) → parent-lts.Need-same-length-14 (parent-cs t) (parent-at t) parent.Post
+parent-same-length-14 t c = c .before .before .before .before .before .before .before .before .before .before .before .before .before .before .before .before .before .before .before .level .kept .1 .1 .0 ∙ c .before .before .before .before .before .before .before .before .before .before .before .before .before .before .before .before .before .before .before .before .before .before .before .before .before .before .before .before .before .before .before .before .before .before .before .before .before .before .before .before .before .before .before .before .before .before .before .enter .kept .1 .1 .0
+
+parent-same-length-15 : (t : ℕ) → parent-lts.Need-same-length-15 (parent-cs t) (parent-at t) parent.Post
+parent-same-length-15 t c = c .before .before .before .before .before .before .before .before .before .before .before .before .before .before .before .before .before .before .before .level .kept .1 .1 .1 .0 ∙ c .before .before .before .before .before .before .before .before .before .before .before .before .before .before .before .before .before .before .before .before .before .before .before .before .before .before .before .before .before .before .before .before .before .before .before .before .before .before .before .before .before .before .before .before .before .before .before .enter .kept .1 .1 .1 .0
+
+parent-same-length-16 : (t : ℕ) → parent-lts.Need-same-length-16 (parent-cs t) (parent-at t) parent.Post
+parent-same-length-16 t c = c .before .before .before .before .before .before .before .before .before .before .before .before .before .before .before .before .before .before .before .level .kept .1 .1 .1 .1 .0 ∙ c .before .before .before .before .before .before .before .before .before .before .before .before .before .before .before .before .before .before .before .before .before .before .before .before .before .before .before .before .before .before .before .before .before .before .before .before .before .before .before .before .before .before .before .before .before .before .before .enter .kept .1 .1 .1 .1 .0
+
+parent-same-length-17 : (t : ℕ) → parent-lts.Need-same-length-17 (parent-cs t) (parent-at t) parent.Post
+parent-same-length-17 t c = c .before .before .before .before .before .before .before .before .before .before .before .before .before .before .before .before .before .before .before .level .kept .1 .1 .1 .1 .1 .0 ∙ c .before .before .before .before .before .before .before .before .before .before .before .before .before .before .before .before .before .before .before .before .before .before .before .before .before .before .before .before .before .before .before .before .before .before .before .before .before .before .before .before .before .before .before .before .before .before .before .enter .kept .1 .1 .1 .1 .1 .0
+
+parent-same-length-18 : (t : ℕ) → parent-lts.Need-same-length-18 (parent-cs t) (parent-at t) parent.Post
+parent-same-length-18 t c = c .before .before .before .before .before .before .before .before .before .before .before .before .before .before .before .before .before .before .before .level .kept .1 .1 .1 .1 .1 .1 .0 ∙ c .before .before .before .before .before .before .before .before .before .before .before .before .before .before .before .before .before .before .before .before .before .before .before .before .before .before .before .before .before .before .before .before .before .before .before .before .before .before .before .before .before .before .before .before .before .before .before .enter .kept .1 .1 .1 .1 .1 .1 .0
+
+parent-returns-3 : (t : ℕ) → parent-lts.Need-returns-3 (parent-cs t) (parent-at t) parent.Post
+parent-returns-3 t c = parent-done (c .before .before .before .before .before .before .before .before .before .before .before .before .before .before .before .before .before .before .before .before .before .before .before .before .before .before .before .before .before .before .before .before .before .before .before .before .before .before .before .before .before .before .before .before .before .before .before .before .before .before .before .before .before .before .before .before .before .before .before .before .before .pre .1) (c .before .before .before .before .before .before .before .before .before .before .before .before .before .before .before .before .before .before .before .before .before .before .before .before .before .before .before .before .before .before .before .before .before .before .before .before .before .before .before .before .before .before .before .before .before .before .before .enter .ensures) (c .before .before .before .before .before .before .before .before .before .before .before .before .before .before .before .before .before .before .before .before .before .before .before .before .before .before .before .before .before .before .before .before .if1 .left) (c .before .before .before .before .before .before .before .before .before .before .before .before .before .before .before .before .before .before .before .before .before .before .before .before .before .before .before .before .count .ensures) (c .before .before .before .before .before .before .before .before .before .before .before .before .before .before .before .before .before .before .before .level .ensures) (c .before .before .before .before .before .if2 .left) (c .before .before .uncount .ensures)
+
+pub +level+parent-spec : {M : Type 1} → statement M
++level+parent-spec = close μ-level μ-parent (λ t. level-lts.spec (level-cs t) (level-at t)
+    level.Post
+    level-Inv-loop
+    level-μ-loop
+    (level-sub-get16 t)
+    (level-mul-get16 t)
+    (level-get16-requires t)
+    (level-first-cursor-requires t)
+    (level-loop-holds t)
+    (level-next-cursor-requires t)
+    (level-last-block-requires t)
+    (level-add-is-marked t)
+    (level-is-marked-requires t)
+    (level-spend-requires t)
+    (level-same-length t)
+    (level-same-length-2 t)
+    (level-same-length-3 t)
+    (level-same-length-4 t)
+    (level-same-length-5 t)
+    (level-same-length-6 t)
+    (level-returns t)
+    (level-parent-requires t)
+    (level-same-length-7 t)
+    (level-same-length-8 t)
+    (level-same-length-9 t)
+    (level-same-length-10 t)
+    (level-same-length-11 t)
+    (level-same-length-12 t)
+    (level-returns-2 t)
+    (level-loop-less t)
+    (level-loop-again t)
+    (level-loop-less-2 t)
+    (level-loop-again-2 t)
+    (level-same-length-13 t)
+    (level-same-length-14 t)
+    (level-same-length-15 t)
+    (level-same-length-16 t)
+    (level-same-length-17 t)
+    (level-same-length-18 t)
+    (level-returns-3 t))
+    λ t. parent-lts.spec (parent-cs t) (parent-at t)
+    parent.Post
+    (parent-enter-requires t)
+    (parent-same-length t)
+    (parent-same-length-2 t)
+    (parent-same-length-3 t)
+    (parent-same-length-4 t)
+    (parent-same-length-5 t)
+    (parent-same-length-6 t)
+    (parent-returns t)
+    (parent-count-requires t)
+    (parent-level-requires t)
+    (parent-same-length-7 t)
+    (parent-same-length-8 t)
+    (parent-same-length-9 t)
+    (parent-same-length-10 t)
+    (parent-same-length-11 t)
+    (parent-same-length-12 t)
+    (parent-returns-2 t)
+    (parent-uncount-requires t)
+    (parent-same-length-13 t)
+    (parent-same-length-14 t)
+    (parent-same-length-15 t)
+    (parent-same-length-16 t)
+    (parent-same-length-17 t)
+    (parent-same-length-18 t)
+    (parent-returns-3 t)

@@ -1,0 +1,4 @@
+pub mod Fits
+pub mod Enters
+pub mod Levels
+pub mod Turns

@@ -1,0 +1,178 @@
+-- Turns, rounds and the search. Assumes nothing.
+use mathlib.Core.Path.{_≡_}
+use Prim.Native.Nat.{ℕ, zero, suc, _+_, _-_, _*_, _/_, _≤_, _<_, min}
+use mathlib.Core.List.{List, [], _∷_, _++_}
+use mathlib.Core.Logic.{_⊎_}
+use mathlib.Core.Bool.{true, not, _&&_}
+use lib.Dec.{eqb}
+use lib.ListN.{length, take}
+use Rattle.spec.specs.Lists.{if, mem}
+use Rattle.spec.specs.Search as search
+use Rattle.spec.specs.Search.{Taker, takers, direct, edges, Rec, dests, St, turn-of, turn, round, rounds, reached-by}
+use Rattle.spec.specs.Reach.{closure}
+use Rattle.spec.specs.Answer.{prepared}
+use Rattle.spec.specs.Rooms.{Lent, units, shortage}
+use Rattle.theorems.proofs.Members.{In}
+use Rattle.theorems.proofs.Older.{clear}
+use Rattle.tables.specs.Records.{toAt, none}
+use Rattle.tables.specs.Tables.{Tables}
+use Rattle.tables.specs.Mets.{Remembers}
+use Rattle.tables.specs.declared.Rooms.{Rooms}
+use Rattle.tables.specs.declared.Counts.{Counts}
+use Rattle.parents.specs.Contracts.{Known}
+use Rattle.reachable.specs.Marks.{markAt, flagged, markedBy}
+use Rattle.reachable.specs.Edges.{rowEdges}
+use Rattle.reachable.specs.Contracts.{Room, SidesWithin, Closed, Kept}
+use Rattle.steps.specs.Paths.{OnPath}
+use Rattle.steps.specs.Sound.{SoundRecs}
+use Rattle.steps.specs.Lands.{Marks}
+use Rattle.steps.specs.Runs.{Mem, tabled, recsIn, stOf, Did}
+use Rattle.steps.specs.declared.Plan.{Plan}
+use Rattle.steps.specs.declared.Run.{Run}
+use Rattle.resolver.specs.Fits.{Planned}
+
+-- ---- between turns
+
+-- nothing is in use but the records
+pub record Idle (code : List ℕ) (k : Plan) (reached : List ℕ) (since : ℕ) (m : Mem) (o : Run) : Type 0 where
+  pub planned : Planned code k m
+  pub tables : Tables (k .n) (k .buckets) (k .rooms) (tabled m) (o .counts)
+  pub remembers : Remembers (k .shelves) (k .rooms) (m .t) (m .s) (o .counts)
+  pub known : Known code (m .w) (k .head)
+  pub began : since ≤ o .counts .records
+  pub marks : Marks (k .n) (m .w) reached since (recsIn k m (o .counts))
+  pub sound : SoundRecs (k .n) (recsIn k m (o .counts))
+  pub counts : OnPath (k .n) (m .w) []
+  pub unused : o .counts .used ≡ 0
+  pub rowless : o .counts .rows ≡ 0
+  pub within : SidesWithin (m .w) (k .n)
+  pub closed : Closed (m .w) (k .n)
+  pub unrefused : o .code ≡ 0
+  pub energy : o .energy ≤ k .limit + 256
+  pub dests-in : (a : ℕ) → mem a (dests (take since (recsIn k m (o .counts)))) ≡ true → mem a reached ≡ true
+
+-- what a function that does f leaves between turns: the flags, and the older records, stay
+pub record Came (code : List ℕ) (k : Plan) (reached : List ℕ) (since : ℕ) (f : St → St) (m : Mem) (o : Run) (m′ : Mem) (d : Run) : Type 0 where
+  pub did : Did (k .rooms) f (stOf k m o) (d .code) (stOf k m′ d)
+  pub idle : d .code ≡ 0 → Idle code k reached since m′ d
+  pub flags : d .code ≡ 0 → flagged (m′ .w) (k .n) ≡ flagged (m .w) (k .n)
+  pub rows : d .code ≡ 0 → take (20 * (k .n + 1)) (m′ .w) ≡ take (20 * (k .n + 1)) (m .w)
+  pub older : d .code ≡ 0 → take (o .counts .records) (recsIn k m′ (d .counts)) ≡ recsIn k m (o .counts)
+
+-- ---- a turn
+
+abbrev pub begunWith : Run → ℕ → Run
+begunWith o cells =
+    record {
+      code = o .code;
+      energy = o .energy;
+      counts = record { records = o .counts .records; addresses = o .counts .addresses; kept = o .counts .kept; used = cells; rows = 0 };
+    }
+
+abbrev pub endedWith : Run → Run
+endedWith o = begunWith o 0
+
+-- the block at `start` takes turns
+pub record TurnAsks (code : List ℕ) (k : Plan) (start : ℕ) (m : Mem) (o : Run) : Type 0 where
+  pub reached : List ℕ
+  pub since : ℕ
+  pub idle : Idle code k reached since m o
+  pub taker : Taker
+  pub takes : In taker (takers (prepared code))
+  pub is : taker .start ≡ start
+  pub energy : o .energy < k .limit
+
+abbrev pub Turned : List ℕ → Plan → ℕ → Mem → Run → Mem → Run → Type 0
+Turned code k start m o m′ d =
+    (reached : List ℕ) (since : ℕ) → Idle code k reached since m o → (x : Taker) → In x (takers (prepared code)) → x .start ≡ start
+    → Came code k reached since (turn (k .limit) (turn-of (direct (prepared code)) reached x) (x .position)) m o m′ d
+
+-- ---- a round
+
+pub record RoundAsks (code : List ℕ) (k : Plan) (m : Mem) (o : Run) : Type 0 where
+  pub reached : List ℕ
+  pub idle : Idle code k reached (o .counts .records) m o
+
+abbrev pub Rounded : List ℕ → Plan → Mem → Run → Mem → Run → Type 0
+Rounded code k m o m′ d =
+    (reached : List ℕ) → Idle code k reached (o .counts .records) m o
+    → Came code k reached (o .counts .records) (round (k .limit) (direct (prepared code)) reached (takers (prepared code))) m o m′ d
+
+-- ---- what is reached when a round begins
+
+pub record Settles (n : ℕ) (w r : List ℕ) (since records : ℕ) : Type 0 where
+  pub lent : Room n w
+  pub within : SidesWithin w n
+  pub closed : Closed w n
+  pub order : since ≤ records
+  pub inR : 32 * records ≤ length r
+  pub few : records ≤ 1073741824
+  pub goes : (i : ℕ) → i < records → (toAt r i ≡ none) ⊎ (toAt r i ≤ n)
+
+-- the destinations of the records from i on, up to m
+unfoldable pub destsFrom : List ℕ → ℕ → ℕ → List ℕ
+destsFrom r i zero = []
+destsFrom r i (suc m) = if (eqb (toAt r i) none) (destsFrom r (suc i) m) (toAt r i ∷ destsFrom r (suc i) m)
+
+pub record Settled (n : ℕ) (w r : List ℕ) (since records : ℕ) (w′ : List ℕ) : Type 0 where
+  pub reached : (x : ℕ) → mem x (flagged w′ n) ≡ mem x (closure (rowEdges w n) (destsFrom r since (records - since) ++ flagged w n))
+  pub marks : (x : ℕ) → x ≤ n → markAt w′ n x ≡ if (mem x (flagged w′ n) && not (mem x (flagged w n)) && eqb (markAt w n x) 0) (records + 1) (markAt w n x)
+  pub closed : Closed w′ n
+  pub kept : Kept n w w′
+
+-- ---- rounds
+
+pub record RoundsAsks (code : List ℕ) (k : Plan) (m : Mem) (o : Run) : Type 0 where
+  pub idle : Idle code k (reached-by (prepared code) []) 0 m o
+  pub none-yet : o .counts .records ≡ 0
+  pub spent : o .energy ≡ 0
+  pub flags : (x : ℕ) → mem x (flagged (m .w) (k .n)) ≡ mem x (reached-by (prepared code) [])
+
+-- the code is the first shortage of f's needs, and where it is 0 the buffers hold what f makes
+pub record Rounds (code : List ℕ) (k : Plan) (m : Mem) (o : Run) (m′ : Mem) (d : Run) : Type 0 where
+  pub did : Did (k .rooms) (rounds 128 (k .limit) (prepared code)) (stOf k m o) (d .code) (stOf k m′ d)
+  pub tables : d .code ≡ 0 → Tables (k .n) (k .buckets) (k .rooms) (tabled m′) (d .counts)
+  pub sound : d .code ≡ 0 → SoundRecs (k .n) (recsIn k m′ (d .counts))
+  pub known : d .code ≡ 0 → Known code (m′ .w) (k .head)
+  pub rows : d .code ≡ 0 → take (20 * (k .n + 1)) (m′ .w) ≡ take (20 * (k .n + 1)) (m .w)
+
+-- ---- the search
+
+abbrev pub roomsOf : List ℕ → List ℕ → List ℕ → List ℕ → List ℕ → Rooms
+roomsOf p s t r q = record { p = units (length p) 2; s = units (length s) 9; t = units (length t) 32; r = units (length r) 32; q = units (length q) 2 }
+
+abbrev pub planOf : ℕ → ℕ → ℕ → Rooms → Plan
+planOf n limit head rooms =
+    record {
+      n = n;
+      end = 64 * n + 256;
+      head = head;
+      buckets = (13 * n + 52) / 4;
+      shelves = min (rooms .t) (n + 64);
+      limit = limit;
+      rooms = rooms;
+    }
+
+abbrev pub plan : List ℕ → ℕ → ℕ → Mem → Plan
+plan code limit head m = planOf (length code) limit head (roomsOf (m .p) (m .s) (m .t) (m .r) (m .q))
+
+abbrev pub begunRun : Run
+begunRun = record { code = 0; energy = 0; counts = record { records = 0; addresses = 0; kept = 0; used = 0; rows = 0 } }
+
+-- the rows are prepared, and W is not short
+pub record SearchAsks (code w : List ℕ) (limit head : ℕ) : Type 0 where
+  pub short : length code ≤ 24576
+  pub limited : limit ≤ 500000
+  pub lent : 64 * length code + 256 ≤ length w
+  pub known : Known code w head
+
+-- The code is the number of the first shortage of document 01's search, 0 if there is none. Where it is 0, the records, with their paths, destinations,
+-- states and order, and the energy are those of document 01's search; W's rows stay.
+pub record Searched (code : List ℕ) (limit head : ℕ) (m m′ : Mem) (d : Run) : Type 0 where
+  pub short : (l : Lent) → l .p ≡ length (m .p) → l .s ≡ length (m .s) → l .t ≡ length (m .t) → l .r ≡ length (m .r) → l .q ≡ length (m .q)
+      → d .code ≡ shortage l (search.search limit (prepared code) .needs)
+  pub recs : d .code ≡ 0 → recsIn (plan code limit head m) m′ (d .counts) ≡ search.search limit (prepared code) .recs
+  pub energy : d .code ≡ 0 → d .energy ≡ search.search limit (prepared code) .energy
+  pub tables : d .code ≡ 0 → Tables (length code) ((13 * length code + 52) / 4) (plan code limit head m .rooms) (tabled m′) (d .counts)
+  pub sound : d .code ≡ 0 → SoundRecs (length code) (recsIn (plan code limit head m) m′ (d .counts))
+  pub rows : d .code ≡ 0 → take (20 * (length code + 1)) (m′ .w) ≡ take (20 * (length code + 1)) (m .w)

@@ -1,0 +1,250 @@
+// What is done with a parent of a level, up to the level that it may open.
+use lent::get16;
+use parents::link::parent_start;
+use state::sym::StackSym;
+use steps::Level;
+use steps::Plan;
+use steps::Run;
+use steps::cursor::FOUND;
+use steps::land::land;
+use steps::land::stray;
+use steps::meet::meet;
+use steps::path::grow;
+use steps::path::on_path;
+use steps::state_of::take_state;
+use tables::Answer;
+use tables::Entry;
+use tables::row::Seen;
+ghost use mathlib.Core.Path.{_≡_};
+ghost use Prim.Native.Nat.{_*_};
+ghost use Rattle.spec.specs.Search.{nowhere, found};
+ghost use Rattle.state.specs.Cells.{stackAt};
+ghost use Rattle.tables.specs.Tables.{mem};
+ghost use Rattle.steps.specs.Lands.{Lands, Strays};
+ghost use Rattle.steps.specs.Runs.{buffers};
+ghost use Rattle.resolver.specs.Enters.{refusedWith, afterWith, shutWith, SkipAsks, skips, Ended, Arriving, Arrived, Entering, Entered, Following, Followed};
+
+// Whether a level opens, how the search goes, and the level.
+pub struct Opening {
+    pub opens: bool,
+    pub run: Run,
+    pub level: Level,
+}
+
+// A room is short.
+fn refused(o: Run, code: usize) -> Run
+    ensures { λ r. ⌜ r ≡ refusedWith o code ⌝ }
+{
+    let counts = o.counts;
+    Run {
+        code,
+        energy: o.energy,
+        counts,
+    }
+}
+
+// A path was recorded, or found to be, or a room was short.
+fn after(o: Run, a: Answer) -> Run
+    ensures { λ r. ⌜ r ≡ afterWith o a ⌝ }
+{
+    let counts = a.counts;
+    Run {
+        code: a.code,
+        energy: o.energy,
+        counts,
+    }
+}
+
+// No level opens.
+fn shut(o: Run, l: Level) -> Opening
+    ensures { λ r. ⌜ r ≡ shutWith o l ⌝ }
+{
+    Opening {
+        opens: false,
+        run: o,
+        level: l,
+    }
+}
+
+// Whether the parent at `at` has one block, and that is on the path already.
+fn skipped(w: &[u8], n: usize, at: usize) -> bool
+    requires { ⌜ SkipAsks n (now w) at ⌝ }
+    ensures { λ r. ⌜ r ≡ skips (now (w .entry)) n at ⌝ }
+{
+    if FOUND <= at {
+        return false;
+    }
+    on_path(w, n, parent_start(at))
+}
+
+// The path leads nowhere, and no level opens.
+fn end_nowhere(
+    p: &[u8],
+    np: usize,
+    w: &mut [u8],
+    r: &mut [u8],
+    q: &mut [u8],
+    s: &mut [u8],
+    k: Plan,
+    start: usize,
+    l: Level,
+    o: Run,
+) -> Opening
+    requires { ⌜ Strays (now p) np k (mem (now w) (now r) (now q) (now s)) (o .counts) start ⌝ }
+    ensures { λ e. ⌜ Ended (now (p .entry)) np k (mem (now (w .entry)) (now (r .entry)) (now (q .entry)) (now (s .entry))) start l o nowhere
+        (mem (now (w .exit)) (now (r .exit)) (now (q .exit)) (now (s .exit))) e ⌝ }
+{
+    let c = o.counts;
+    let a = stray(p, np, w, r, q, s, k, c, start);
+    shut(after(o, a), l)
+}
+
+// The path leads to the entry's destination, and no level opens.
+fn end_at(
+    p: &[u8],
+    np: usize,
+    w: &mut [u8],
+    r: &mut [u8],
+    q: &mut [u8],
+    s: &mut [u8],
+    k: Plan,
+    l: Level,
+    x: Entry,
+    o: Run,
+) -> Opening
+    requires { ⌜ Lands (now p) np k (mem (now w) (now r) (now q) (now s)) (o .counts) x ⌝ }
+    ensures { λ e. ⌜ Ended (now (p .entry)) np k (mem (now (w .entry)) (now (r .entry)) (now (q .entry)) (now (s .entry))) (x .start) l o
+        (found (x .to) (stackAt (now (s .entry)) (9 * x .from) (x .cells))) (mem (now (w .exit)) (now (r .exit)) (now (q .exit)) (now (s .exit))) e ⌝ }
+{
+    let c = o.counts;
+    let a = land(p, np, w, r, q, s, k, c, x);
+    shut(after(o, a), l)
+}
+
+// Step 6: a Before opens a level, a Jumpdest is where the path leads, and anything else leads nowhere.
+fn arrive(
+    p: &[u8],
+    np: usize,
+    w: &mut [u8],
+    r: &mut [u8],
+    q: &mut [u8],
+    s: &mut [u8],
+    k: Plan,
+    start: usize,
+    l: Level,
+    x: Seen,
+    o: Run,
+) -> Opening
+    requires { ⌜ Arriving (now p) np k (mem (now w) (now r) (now q) (now s)) start l x o ⌝ }
+    ensures { λ e. ⌜ Arrived (now (p .entry)) np k (mem (now (w .entry)) (now (r .entry)) (now (q .entry)) (now (s .entry))) start l x o
+        (mem (now (w .exit)) (now (r .exit)) (now (q .exit)) (now (s .exit))) e ⌝ }
+{
+    let symbol = x.symbol;
+    match symbol {
+        StackSym::Before(position) => Opening {
+            opens: true,
+            run: o,
+            level: Level {
+                np,
+                position,
+                from: x.from,
+                cells: x.cells,
+                left: l.left - 1,
+            },
+        },
+        StackSym::Jumpdest(to) => {
+            let e = Entry {
+                start,
+                to,
+                from: x.from,
+                cells: x.cells,
+            };
+            end_at(p, np, w, r, q, s, k, l, e, o)
+        }
+        StackSym::Constant(_) => end_nowhere(p, np, w, r, q, s, k, start, l, o),
+        StackSym::Other(_) => end_nowhere(p, np, w, r, q, s, k, start, l, o),
+    }
+}
+
+// Steps 4 to 6, with the parent's path behind the level's: the symbol and the new state, which was met or is remembered, and where the symbol leads.
+fn follow(
+    code: &[u8],
+    w: &mut [u8],
+    p: &[u8],
+    s: &mut [u8],
+    t: &mut [u8],
+    r: &mut [u8],
+    q: &mut [u8],
+    k: Plan,
+    start: usize,
+    l: Level,
+    at: usize,
+    np: usize,
+    o: Run,
+) -> Opening
+    requires { ⌜ Following (now code) k start l at np (buffers (now w) (now p) (now s) (now t) (now r) (now q)) o ⌝ }
+    ensures { λ e. ⌜ Followed (now (code .entry)) k start l at np
+        (buffers (now (w .entry)) (now (p .entry)) (now (s .entry)) (now (t .entry)) (now (r .entry)) (now (q .entry))) o
+        (buffers (now (w .exit)) (now (p .entry)) (now (s .exit)) (now (t .exit)) (now (r .exit)) (now (q .exit))) e ⌝ }
+{
+    let c = o.counts;
+    let taken = take_state(code, w, s, r, k, c, l, at);
+    if taken.code != 0 {
+        return shut(refused(o, taken.code), l);
+    }
+    let symbol = taken.symbol;
+    let x = Seen {
+        last: get16(p, 2 * (np - 1)),
+        symbol,
+        from: c.used,
+        cells: taken.cells,
+    };
+    let m = meet(t, s, k, c, x);
+    if m.met {
+        return shut(o, l);
+    }
+    let counts = m.counts;
+    let here = Run {
+        code: m.code,
+        energy: o.energy,
+        counts,
+    };
+    if m.code != 0 {
+        return shut(here, l);
+    }
+    arrive(p, np, w, r, q, s, k, start, l, x, here)
+}
+
+// Steps 2 to 6 of the parent at `at`, but for the level that it may open.
+pub fn enter(
+    code: &[u8],
+    w: &mut [u8],
+    p: &mut [u8],
+    s: &mut [u8],
+    t: &mut [u8],
+    r: &mut [u8],
+    q: &mut [u8],
+    k: Plan,
+    start: usize,
+    l: Level,
+    at: usize,
+    o: Run,
+) -> Opening
+    requires { ⌜ Entering (now code) k start l at (buffers (now w) (now p) (now s) (now t) (now r) (now q)) o ⌝ }
+    ensures { λ e. ⌜ Entered (now (code .entry)) k start l at
+        (buffers (now (w .entry)) (now (p .entry)) (now (s .entry)) (now (t .entry)) (now (r .entry)) (now (q .entry))) o
+        (buffers (now (w .exit)) (now (p .exit)) (now (s .exit)) (now (t .exit)) (now (r .exit)) (now (q .exit))) e ⌝ }
+{
+    if skipped(w, k.n, at) {
+        return shut(o, l);
+    }
+    let rooms = k.rooms;
+    let np = grow(p, r, q, rooms.p, l.np, at);
+    if np == 0 {
+        return shut(refused(o, 4), l);
+    }
+    if l.left == 0 {
+        return end_nowhere(p, np, w, r, q, s, k, start, l, o);
+    }
+    follow(code, w, p, s, t, r, q, k, start, l, at, np, o)
+}

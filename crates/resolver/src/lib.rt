@@ -1,0 +1,8 @@
+// The search: rounds of turns, each a tree of levels and parents, over the lent buffers.
+mod enter;
+mod levels;
+mod round;
+mod rounds;
+mod turn;
+
+pub use rounds::search;

@@ -1,0 +1,43 @@
+// A round: a turn for each block that takes turns and is reached when the round begins, while there is energy left.
+use crate::turn::turn;
+use parents::taker::next_taker;
+use reachable::is_marked;
+use steps::Plan;
+use steps::Run;
+ghost use Rattle.steps.specs.Runs.{buffers};
+ghost use Rattle.resolver.specs.Turns.{RoundAsks, Rounded};
+
+pub fn round(
+    code: &[u8],
+    w: &mut [u8],
+    p: &mut [u8],
+    s: &mut [u8],
+    t: &mut [u8],
+    r: &mut [u8],
+    q: &mut [u8],
+    k: Plan,
+    o: Run,
+) -> Run
+    requires { ⌜ RoundAsks (now code) k (buffers (now w) (now p) (now s) (now t) (now r) (now q)) o ⌝ }
+    ensures { λ d. ⌜ Rounded (now (code .entry)) k
+        (buffers (now (w .entry)) (now (p .entry)) (now (s .entry)) (now (t .entry)) (now (r .entry)) (now (q .entry))) o
+        (buffers (now (w .exit)) (now (p .exit)) (now (s .exit)) (now (t .exit)) (now (r .exit)) (now (q .exit))) d ⌝ }
+{
+    let counts = o.counts;
+    let by = counts.records + 1;
+    let mut link = k.head;
+    let mut cur = o;
+    while link != 0 {
+        let start = link - 1;
+        link = next_taker(w, start);
+        if is_marked(w, k.n, start, by) {
+            if cur.energy < k.limit {
+                cur = turn(code, w, p, s, t, r, q, k, start, cur);
+                if cur.code != 0 {
+                    return cur;
+                }
+            }
+        }
+    }
+    cur
+}

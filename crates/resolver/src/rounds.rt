@@ -1,0 +1,148 @@
+// The search: at most 128 rounds, from what is reached by the code's static sides alone.
+use crate::round::round;
+use lent::get16;
+use lent::units;
+use lent::wipe_part;
+use reachable::expand;
+use reachable::reach;
+use steps::Plan;
+use steps::Run;
+use tables::Counts;
+use tables::Rooms;
+use tables::link::NONE;
+use tables::met::begin_rows;
+ghost use mathlib.Core.Path.{_≡_};
+ghost use Prim.Native.Nat.{_≤_};
+ghost use Rattle.steps.specs.Runs.{buffers};
+ghost use Rattle.resolver.specs.Turns.{Settles, Settled, RoundsAsks, Rounds, SearchAsks, Searched, roomsOf, planOf, begunRun};
+
+// What the destinations of the records from `since` on lead to counts as reached when the next round begins.
+fn settle(w: &mut [u8], n: usize, r: &[u8], since: usize, records: usize)
+    requires { ⌜ Settles n (now w) (now r) since records ⌝ }
+    ensures { λ _. ⌜ Settled n (now (w .entry)) (now (r .entry)) since records (now (w .exit)) ⌝ }
+{
+    let mut i = since;
+    while i < records {
+        let to = get16(r, 32 * i + 2);
+        i += 1;
+        if to != NONE {
+            expand(w, n, to, records + 1);
+        }
+    }
+}
+
+// "A round with no record is the last, and no round or turn starts once the limit is reached."
+fn rounds(
+    code: &[u8],
+    w: &mut [u8],
+    p: &mut [u8],
+    s: &mut [u8],
+    t: &mut [u8],
+    r: &mut [u8],
+    q: &mut [u8],
+    k: Plan,
+    o: Run,
+) -> Run
+    requires { ⌜ RoundsAsks (now code) k (buffers (now w) (now p) (now s) (now t) (now r) (now q)) o ⌝ }
+    ensures { λ d. ⌜ Rounds (now (code .entry)) k
+        (buffers (now (w .entry)) (now (p .entry)) (now (s .entry)) (now (t .entry)) (now (r .entry)) (now (q .entry))) o
+        (buffers (now (w .exit)) (now (p .exit)) (now (s .exit)) (now (t .exit)) (now (r .exit)) (now (q .exit))) d ⌝ }
+{
+    let mut cur = o;
+    let mut since = 0;
+    let mut left: usize = 128;
+    while left != 0 {
+        left -= 1;
+        if k.limit <= cur.energy {
+            return cur;
+        }
+        let counts = cur.counts;
+        let records = counts.records;
+        settle(w, k.n, r, since, records);
+        cur = round(code, w, p, s, t, r, q, k, cur);
+        if cur.code != 0 {
+            return cur;
+        }
+        let after = cur.counts;
+        if after.records == records {
+            return cur;
+        }
+        since = records;
+    }
+    cur
+}
+
+// How many units of each buffer count as lent.
+fn rooms_of(p: &[u8], s: &[u8], t: &[u8], r: &[u8], q: &[u8]) -> Rooms
+    ensures { λ k. ⌜ k ≡ roomsOf (now (p .entry)) (now (s .entry)) (now (t .entry)) (now (r .entry)) (now (q .entry)) ⌝ }
+{
+    Rooms {
+        p: units(p.len(), 2),
+        s: units(s.len(), 9),
+        t: units(t.len(), 32),
+        r: units(r.len(), 32),
+        q: units(q.len(), 2),
+    }
+}
+
+// The plan of a search over a code of n bytes. T has as many buckets as rows, and no more than the code has bytes, and 64.
+fn plan_of(n: usize, limit: usize, head: usize, rooms: Rooms) -> Plan
+    requires { ⌜ n ≤ 24576 ⌝ }
+    ensures { λ k. ⌜ k ≡ planOf n limit head rooms ⌝ }
+{
+    let most = n + 64;
+    let shelves = if rooms.t < most { rooms.t } else { most };
+    Plan {
+        n,
+        end: 64 * n + 256,
+        head,
+        buckets: (13 * n + 52) / 4,
+        shelves,
+        limit,
+        rooms,
+    }
+}
+
+// The search over the rows that `prepare` leaves in W, whose first block that takes turns is linked from `head`.
+pub fn search(
+    code: &[u8],
+    w: &mut [u8],
+    p: &mut [u8],
+    s: &mut [u8],
+    t: &mut [u8],
+    r: &mut [u8],
+    q: &mut [u8],
+    limit: usize,
+    head: usize,
+) -> Run
+    requires { ⌜ SearchAsks (now code) (now w) limit head ⌝ }
+    ensures { λ d. ⌜ Searched (now (code .entry)) limit head
+        (buffers (now (w .entry)) (now (p .entry)) (now (s .entry)) (now (t .entry)) (now (r .entry)) (now (q .entry)))
+        (buffers (now (w .exit)) (now (p .exit)) (now (s .exit)) (now (t .exit)) (now (r .exit)) (now (q .exit))) d ⌝ }
+{
+    let n = code.len();
+    let k = plan_of(n, limit, head, rooms_of(p, s, t, r, q));
+    reach(w, n);
+    wipe_part(w, 42 * (n + 1), 4 * k.buckets);
+    begin_rows(t, k.shelves);
+    let o = begin();
+    rounds(code, w, p, s, t, r, q, k, o)
+}
+
+// Nothing is recorded, no energy used, nothing in use.
+fn begin() -> Run
+    ensures { λ o. ⌜ o ≡ begunRun ⌝ }
+{
+    let counts = Counts {
+        records: 0,
+        addresses: 0,
+        kept: 0,
+        used: 0,
+        rows: 0,
+    };
+    Run {
+        code: 0,
+        energy: 0,
+        counts,
+    }
+}
