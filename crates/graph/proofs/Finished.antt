@@ -5,10 +5,11 @@ use Prim.Native.Nat.{ℕ, zero, suc, _+_, _-_, _*_, _≤_, _<_}
 use native.Mathlib.Omega.{arith}
 use lib.ListN.{length}
 use Rattle.spec.specs.Blocks.{blocks}
-use Rattle.spec.specs.Search.{Rec}
+use Rattle.spec.specs.Stacks.{Stack}
+use Rattle.spec.specs.Search.{Rec, found}
 use Rattle.spec.specs.Ending.{Final, finals}
 use Rattle.spec.specs.Answer.{prepared}
-use Rattle.theorems.proofs.Members.{In}
+use Rattle.theorems.proofs.Members.{In, here}
 use Rattle.lent.specs.Bytes.{numAt}
 use Rattle.initial.specs.Rows.{blocksAt}
 use Rattle.initial.proofs.Rows.{blocks-prefix}
@@ -46,6 +47,9 @@ module _ {code s : List ℕ} {room m : ℕ} {w r q w₁ r₁ w₂ r₂ : List �
   ends zero h = refl
   ends (suc i) h = num-in r₂ r₁ 16 (32 * i + 16) (p .stay .after i (omega arith)) 4 (32 * i + 16) (omega arith) (omega arith) ∙ e .rows i (omega arith) .end
 
+  edge-lands : (i : ℕ) → i < m → (u : ℕ) (v : Stack) → recAt r q s room i .to ≡ found u v → u ≤ length code
+  edge-lands i h u v d = f .lie (recAt r q s room i) (rec-in r q s room m i h) .to u (rw d here)
+
   edge-of : (i : ℕ) → i < m → EdgeOf (length code) w₂ r₂ q i (recAt r q s room i)
   unfolding recAt pathAt
   edge-of i h = record {
@@ -57,6 +61,7 @@ module _ {code s : List ℕ} {room m : ℕ} {w r q w₁ r₁ w₂ r₂ : List �
     inQ = rw (ends (suc i) (omega arith)) (f .rows i h .inQ);
     inR = omega (arith, f .rows i h .inR, e .long, p .stay .long);
     starts = start-lies f i h;
+    lands = edge-lands i h;
   }
 
   rows-found : (i : ℕ) → i < m → (x : Rec) × In x all × RowOf w₁ r₁ i x

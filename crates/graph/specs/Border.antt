@@ -5,7 +5,8 @@ use Prim.Native.Nat.{ℕ, zero, suc, _+_, _-_, _*_, _^_, _≤_, _<_}
 use lib.ListN.{length, drop}
 use Rattle.spec.specs.Lists.{mem, lastOf}
 use Rattle.spec.specs.Reach.{closure}
-use Rattle.spec.specs.Search.{Rec}
+use Rattle.spec.specs.Stacks.{Stack}
+use Rattle.spec.specs.Search.{Rec, found}
 use Rattle.spec.specs.Ending.{Final, finals, final-edges}
 use Rattle.spec.specs.Entries.{destination}
 use Rattle.spec.specs.Answer.{prepared}
@@ -31,6 +32,7 @@ pub record EdgeOf (n : ℕ) (w r q : List ℕ) (i : ℕ) (x : Rec) : Type 0 wher
   pub inQ : 2 * endAt r (suc i) ≤ length q
   pub inR : 32 * i + 32 ≤ length r
   pub starts : x .start ≤ n
+  pub lands : (t : ℕ) (s : Stack) → x .to ≡ found t s → t ≤ n
 
 -- what `graph` leaves: the finals of document 01, and its records
 pub record Finished (code : List ℕ) (recs : List Rec) (w r q : List ℕ) : Type 0 where
