@@ -213,6 +213,7 @@ module _ {code w w₁ w₂ : List ℕ} {limit head : ℕ} (a : SearchAsks code w
         tables = f .tables;
         sound = f .sound;
         rows = λ z. f .rows z ∙ begin-rows;
+        reached = λ z. rw begins (f .reached z);
       }
 
 -- ---- the same, by the values that the functions give

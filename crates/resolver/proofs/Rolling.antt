@@ -1,10 +1,12 @@
 -- The rounds of the search: what is left to do from here ends where the whole ends. Assumes nothing.
 use mathlib.Core.Path.{_≡_, refl, sym, ap, subst, _∙_}
+use mathlib.Core.Bool.{Bool, true, false}
 use mathlib.Core.List.{List}
 use Prim.Native.Nat.{ℕ, suc, _+_, _-_, _*_, _≤_, _<_}
 use native.Mathlib.Omega.{arith}
 use lib.Dec.{eqb}
 use lib.ListN.{length, take}
+use lib.Seq.{take-all}
 use borrow.Author.Tests.{lt-ltb, le-ltb, eq-eqb, ne-eqb}
 use Rattle.spec.specs.Lists.{if, mem}
 use Rattle.spec.specs.Search.{Node, Rec, St, takers, direct, round, rounds, reached-by}
@@ -16,7 +18,7 @@ use Rattle.theorems.proofs.Growth.{Later, later}
 use Rattle.tables.proofs.Counted.{recs-length}
 use Rattle.reachable.specs.Marks.{flagged}
 use Rattle.steps.specs.Runs.{Mem, buffers, recsIn, stOf, Did}
-use Rattle.resolver.specs.Turns.{Idle, Came, RoundAsks, Rounded, Settles, Settled, RoundsAsks, Rounds}
+use Rattle.resolver.specs.Turns.{Idle, Came, RoundAsks, Rounded, Settles, Settled, RoundsAsks, last-since, Reached, Rounds}
 use Rattle.steps.specs.declared.Plan.{Plan}
 use Rattle.steps.specs.declared.Run.{Run}
 use Rattle.resolver.proofs.Renewing.{renew-settles, renew-flags, renewed}
@@ -33,6 +35,10 @@ module _ (limit : ℕ) (ns : List Node) where
   abbrev next : ℕ → ℕ → St → St
   next n m t = if (eqb (length (t .recs)) m) t (rounds n limit ns t)
 
+  -- and with how many records the last round began
+  abbrev last : ℕ → ℕ → St → ℕ
+  last n m t = if (eqb (length (t .recs)) m) m (last-since n limit ns m t)
+
   next-later : (n m : ℕ) (t : St) → Later t (next n m t)
   next-later n m t = both (Later t) (eqb (length (t .recs)) m) (λ _. later .keeps t) (λ _. carry-rounds Later later n limit ns t)
 
@@ -46,6 +52,16 @@ module _ (limit : ℕ) (ns : List Node) where
     rounds-go recs e h =
         subst (λ (x : List Rec). rounds (suc n) limit ns s ≡ next n (length x) (rolled x s)) e (if-true _ _ _ (lt-ltb (s .energy) limit h))
 
+    last-stop : (since : ℕ) → limit ≤ s .energy → last-since (suc n) limit ns since s ≡ since
+    unfolding last-since
+    last-stop since h = if-false _ _ _ (le-ltb (s .energy) limit h)
+
+    last-go : (since : ℕ) (recs : List Rec) → s .recs ≡ recs → s .energy < limit
+        → last-since (suc n) limit ns since s ≡ last n (length recs) (rolled recs s)
+    unfolding last-since
+    last-go since recs e h =
+        subst (λ (x : List Rec). last-since (suc n) limit ns since s ≡ last n (length x) (rolled x s)) e (if-true _ _ _ (lt-ltb (s .energy) limit h))
+
 -- ---- the loop
 
 -- the buffers are as long as they were
@@ -57,7 +73,7 @@ pub record Long (m m′ : Mem) : Type 0 where
   pub r : length (m′ .r) ≡ length (m .r)
   pub q : length (m′ .q) ≡ length (m .q)
 
--- Between rounds: what the records before `since` lead to is flagged, and what `left` rounds from here come to, all of them come to.
+-- Between rounds: what the records before `since` lead to is flagged, and what `left` rounds from here come to, all of them come to, with the same last round.
 pub record Rolling (code : List ℕ) (k : Plan) (m₀ : Mem) (o : Run) (m : Mem) (cur : Run) (since left : ℕ) : Type 0 where
   pub idle : Idle code k (reached-by (prepared code) (take since (recsIn k m (cur .counts)))) since m cur
   pub flags : (x : ℕ) → mem x (flagged (m .w) (k .n)) ≡ mem x (reached-by (prepared code) (take since (recsIn k m (cur .counts))))
@@ -65,33 +81,45 @@ pub record Rolling (code : List ℕ) (k : Plan) (m₀ : Mem) (o : Run) (m : Mem)
   pub long : Long m₀ m
   pub ends : (number : ℕ) (b : St) → Did (k .rooms) (rounds left (k .limit) (prepared code)) (stOf k m cur) number b
       → Did (k .rooms) (rounds 128 (k .limit) (prepared code)) (stOf k m₀ o) number b
+  pub lasts : (x : ℕ) → ((mid : St) → clear mid ≡ stOf k m cur → last-since left (k .limit) (prepared code) since mid ≡ x)
+      → last-since 128 (k .limit) (prepared code) 0 (stOf k m₀ o) ≡ x
 
 pub roll-start : {code : List ℕ} {k : Plan} {m : Mem} {o : Run} → RoundsAsks code k m o → Rolling code k m o m o 0 128
-roll-start a = record {
+roll-start {k = k} {m = m} {o = o} a = record {
   idle = a .idle;
   flags = a .flags;
   rows = refl;
   long = record { w = refl; p = refl; s = refl; t = refl; r = refl; q = refl };
   ends = λ number b d. d;
+  lasts = λ x h. h (stOf k m o) refl;
 }
 
 -- ---- the ways out
 
+-- the marks say what is reached, once all records are counted
+marked : {code : List ℕ} {k : Plan} {m : Mem} {cur : Run} {since : ℕ} → Idle code k (reached-by (prepared code) (take since (recsIn k m (cur .counts)))) since m cur
+    → Reached (prepared code) (k .n) (m .w) since (cur .counts .records) (recsIn k m (cur .counts))
+marked {k = k} {m = m} {cur = cur} i a h =
+    let long = recs-length (m .r) (m .q) (m .s) (k .rooms .s) (cur .counts .records) in
+    rw (take-all (cur .counts .records) (recsIn k m (cur .counts)) (omega (arith, long))) at (i .marks .by (cur .counts .records) (i .began) (omega (arith, long)) a h)
+
 module _ {code : List ℕ} {k : Plan} {m₀ : Mem} {o : Run} {m : Mem} {cur : Run} {since left : ℕ} (g : Rolling code k m₀ o m cur since left) where
   -- the loop is left with what there is
-  roll-out : Did (k .rooms) (rounds left (k .limit) (prepared code)) (stOf k m cur) 0 (stOf k m cur) → Rounds code k m₀ o m cur
-  roll-out d = record {
+  roll-out : Did (k .rooms) (rounds left (k .limit) (prepared code)) (stOf k m cur) 0 (stOf k m cur)
+      → ((mid : St) → clear mid ≡ stOf k m cur → last-since left (k .limit) (prepared code) since mid ≡ since) → Rounds code k m₀ o m cur
+  roll-out d stays = record {
     did = rw (g .idle .unrefused) (g .ends 0 (stOf k m cur) d);
     tables = λ _. g .idle .tables;
     sound = λ _. g .idle .sound;
     known = λ _. g .idle .known;
     rows = λ _. g .rows;
+    reached = λ _. rw (g .lasts since stays) (marked (g .idle));
   }
 
   -- all rounds are done
   pub roll-done : left ≡ 0 → Rounds code k m₀ o m cur
-  unfolding rounds
-  roll-done z = roll-out (did-same (λ s. s) (rounds left (k .limit) (prepared code)) (λ mid _. rw z) did-nothing)
+  unfolding rounds last-since
+  roll-done z = roll-out (did-same (λ s. s) (rounds left (k .limit) (prepared code)) (λ mid _. rw z) did-nothing) (λ mid _. rw z)
 
   -- the limit is reached
   pub roll-limit : (left ≡ 0 → ⊥) → k .limit ≤ cur .energy → Rounds code k m₀ o m cur
@@ -99,6 +127,7 @@ module _ {code : List ℕ} {k : Plan} {m₀ : Mem} {o : Run} {m : Mem} {cur : Ru
       let is : suc (left - 1) ≡ left = omega (arith, ne) in
       roll-out (did-same (λ s. s) (rounds left (k .limit) (prepared code))
       (λ mid e. rw is at (rounds-stop (k .limit) (prepared code) (left - 1) mid (omega (arith, l, ap (λ (s : St). s .energy) e)))) did-nothing)
+      (λ mid e. rw is at (last-stop (k .limit) (prepared code) (left - 1) mid since (omega (arith, l, ap (λ (s : St). s .energy) e))))
 
 -- ---- a round
 
@@ -128,11 +157,31 @@ module _ {code : List ℕ} {k : Plan} {m₀ : Mem} {o : Run} {w p s t r q : List
           let is : suc (left - 1) ≡ left = omega (arith, ne) in
           rw is at (rounds-go (k .limit) (prepared code) (left - 1) mid recs (ap (λ (x : St). x .recs) h) (omega (arith, l, ap (λ (x : St). x .energy) h)))
 
+      goes-last : (mid : St) → clear mid ≡ stOf k (buffers w p s t r q) cur
+          → last-since left (k .limit) (prepared code) since mid ≡ last (k .limit) (prepared code) (left - 1) (length recs) (rolled (k .limit) (prepared code) recs mid)
+      goes-last mid h =
+          let is : suc (left - 1) ≡ left = omega (arith, ne) in
+          rw is at (last-go (k .limit) (prepared code) (left - 1) mid since recs (ap (λ (x : St). x .recs) h) (omega (arith, l, ap (λ (x : St). x .energy) h)))
+
       before : length recs ≡ cur .counts .records
       before = recs-length r q s (k .rooms .s) (cur .counts .records)
 
       after : (mid : St) → clear mid ≡ stOf k (buffers w p s t r q) cur → d .code ≡ 0 → length (rolled (k .limit) (prepared code) recs mid .recs) ≡ d .counts .records
       after mid h z = ap (λ (x : St). length (x .recs)) (came .did .made mid h z) ∙ recs-length (m′ .r) (m′ .q) (m′ .s) (k .rooms .s) (d .counts .records)
+
+      -- the round recorded nothing
+      abbrev idled : St → Bool
+      idled mid = eqb (length (rolled (k .limit) (prepared code) recs mid .recs)) (length recs)
+
+      still : (mid : St) → clear mid ≡ stOf k (buffers w p s t r q) cur → d .code ≡ 0 → d .counts .records ≡ cur .counts .records → idled mid ≡ true
+      still mid h z no-more = eq-eqb _ _ (after mid h z ∙ no-more ∙ sym before)
+
+      grown : (mid : St) → clear mid ≡ stOf k (buffers w p s t r q) cur → d .code ≡ 0 → (d .counts .records ≡ cur .counts .records → ⊥) → idled mid ≡ false
+      grown mid h z more = ne-eqb _ _ (λ same. more (sym (after mid h z) ∙ same ∙ before))
+
+      -- the round began with the first records of those that it leaves
+      later-idle : d .code ≡ 0 → Idle code k (reached-by (prepared code) (take (cur .counts .records) (recsIn k m′ (d .counts)))) (cur .counts .records) m′ d
+      later-idle z = rw (came .older z) (came .idle z)
 
       -- a shortage
       pub roll-short : (d .code ≡ 0 → ⊥) → Rounds code k m₀ o m′ d
@@ -143,24 +192,26 @@ module _ {code : List ℕ} {k : Plan} {m₀ : Mem} {o : Run} {w p s t r q : List
         sound = λ z. absurd (nz z);
         known = λ z. absurd (nz z);
         rows = λ z. absurd (nz z);
+        reached = λ z. absurd (nz z);
       }
 
       -- no record more
       pub roll-last : d .code ≡ 0 → d .counts .records ≡ cur .counts .records → Rounds code k m₀ o m′ d
       roll-last z no-more = record {
         did = g .ends (d .code) (stOf k m′ d) (did-same (rolled (k .limit) (prepared code) recs) (rounds left (k .limit) (prepared code))
-            (λ mid h. goes mid h ∙ if-true _ _ _ (eq-eqb _ _ (after mid h z ∙ no-more ∙ sym before))) (came .did));
+            (λ mid h. goes mid h ∙ if-true _ _ _ (still mid h z no-more)) (came .did));
         tables = λ _. came .idle z .tables;
         sound = λ _. came .idle z .sound;
         known = λ _. came .idle z .known;
         rows = λ _. came .rows z ∙ e .kept .rows ∙ g .rows;
+        reached = λ _. rw (g .lasts (cur .counts .records) (λ mid h. goes-last mid h ∙ if-true _ _ _ (still mid h z no-more) ∙ before)) (marked (later-idle z));
       }
 
       -- the next round
       pub roll-next : d .code ≡ 0 → (d .counts .records ≡ cur .counts .records → ⊥) → Long (buffers w₁ p s t r q) m′
           → Rolling code k m₀ o m′ d (cur .counts .records) (left - 1)
       roll-next z more long = record {
-        idle = rw (came .older z) (came .idle z);
+        idle = later-idle z;
         flags = λ x. rw (came .older z, came .flags z) (renew-flags (g .idle) (g .flags) e x);
         rows = came .rows z ∙ e .kept .rows ∙ g .rows;
         long = record {
@@ -172,6 +223,8 @@ module _ {code : List ℕ} {k : Plan} {m₀ : Mem} {o : Run} {w p s t r q : List
           q = long .q ∙ g .long .q;
         };
         ends = λ number b rest. g .ends number b (did-same (λ x. rounds (left - 1) (k .limit) (prepared code) (rolled (k .limit) (prepared code) recs x)) (rounds left (k .limit) (prepared code))
-            (λ mid h. goes mid h ∙ if-false _ _ _ (ne-eqb _ _ (λ same. more (sym (after mid h z) ∙ same ∙ before))))
+            (λ mid h. goes mid h ∙ if-false _ _ _ (grown mid h z more))
             (did-then (rolled (k .limit) (prepared code) recs) (rounds (left - 1) (k .limit) (prepared code)) (came .did) z rest));
+        lasts = λ x rest. g .lasts x (λ mid h.
+            goes-last mid h ∙ if-false _ _ _ (grown mid h z more) ∙ rw before (rest (rolled (k .limit) (prepared code) recs mid) (came .did .made mid h z)));
       }

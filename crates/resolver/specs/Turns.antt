@@ -3,12 +3,12 @@ use mathlib.Core.Path.{_≡_}
 use Prim.Native.Nat.{ℕ, zero, suc, _+_, _-_, _*_, _/_, _≤_, _<_, min}
 use mathlib.Core.List.{List, [], _∷_, _++_}
 use mathlib.Core.Logic.{_⊎_}
-use mathlib.Core.Bool.{true, not, _&&_}
-use lib.Dec.{eqb}
+use mathlib.Core.Bool.{true, not, _&&_, _||_}
+use lib.Dec.{eqb, ltb}
 use lib.ListN.{length, take}
 use Rattle.spec.specs.Lists.{if, mem}
 use Rattle.spec.specs.Search as search
-use Rattle.spec.specs.Search.{Taker, takers, direct, edges, Rec, dests, St, turn-of, turn, round, rounds, reached-by}
+use Rattle.spec.specs.Search.{Node, Taker, takers, direct, edges, Rec, dests, St, begin, turn-of, turn, round, rounds, reached-by}
 use Rattle.spec.specs.Reach.{closure}
 use Rattle.spec.specs.Answer.{prepared}
 use Rattle.spec.specs.Rooms.{Lent, units, shortage}
@@ -128,6 +128,20 @@ pub record RoundsAsks (code : List ℕ) (k : Plan) (m : Mem) (o : Run) : Type 0 
   pub spent : o .energy ≡ 0
   pub flags : (x : ℕ) → mem x (flagged (m .w) (k .n)) ≡ mem x (reached-by (prepared code) [])
 
+-- How many records there were when the last of document 01's `rounds` began; where none takes place, those when the round before began. Each step is that
+-- of `rounds`.
+unfoldable pub last-since : ℕ → ℕ → List Node → ℕ → St → ℕ
+last-since zero limit ns since s = since
+last-since (suc n) limit ns since s =
+    let t = round limit (direct ns) (reached-by ns (s .recs)) (takers ns) s in
+    let more = last-since n limit ns (length (s .recs)) t in
+    let this = if (eqb (length (t .recs)) (length (s .recs))) (length (s .recs)) more in
+    if (ltb (s .energy) limit) this since
+
+-- The marks at the end: an address is reached if it was when the last round began, with `since` records, or if a record leads there.
+abbrev pub Reached : List Node → ℕ → List ℕ → ℕ → ℕ → List Rec → Type 0
+Reached ns n w since records recs = (a : ℕ) → a ≤ n → markedBy w n a (records + 1) ≡ mem a (reached-by ns (take since recs)) || mem a (dests recs)
+
 -- the code is the first shortage of f's needs, and where it is 0 the buffers hold what f makes
 pub record Rounds (code : List ℕ) (k : Plan) (m : Mem) (o : Run) (m′ : Mem) (d : Run) : Type 0 where
   pub did : Did (k .rooms) (rounds 128 (k .limit) (prepared code)) (stOf k m o) (d .code) (stOf k m′ d)
@@ -135,6 +149,8 @@ pub record Rounds (code : List ℕ) (k : Plan) (m : Mem) (o : Run) (m′ : Mem) 
   pub sound : d .code ≡ 0 → SoundRecs (k .n) (recsIn k m′ (d .counts))
   pub known : d .code ≡ 0 → Known code (m′ .w) (k .head)
   pub rows : d .code ≡ 0 → take (20 * (k .n + 1)) (m′ .w) ≡ take (20 * (k .n + 1)) (m .w)
+  pub reached : d .code ≡ 0
+      → Reached (prepared code) (k .n) (m′ .w) (last-since 128 (k .limit) (prepared code) 0 (stOf k m o)) (d .counts .records) (recsIn k m′ (d .counts))
 
 -- ---- the search
 
@@ -167,7 +183,7 @@ pub record SearchAsks (code w : List ℕ) (limit head : ℕ) : Type 0 where
   pub known : Known code w head
 
 -- The code is the number of the first shortage of document 01's search, 0 if there is none. Where it is 0, the records, with their paths, destinations,
--- states and order, and the energy are those of document 01's search; W's rows stay.
+-- states and order, the energy and the addresses marked as reached are those of document 01's search; W's rows stay.
 pub record Searched (code : List ℕ) (limit head : ℕ) (m m′ : Mem) (d : Run) : Type 0 where
   pub short : (l : Lent) → l .p ≡ length (m .p) → l .s ≡ length (m .s) → l .t ≡ length (m .t) → l .r ≡ length (m .r) → l .q ≡ length (m .q)
       → d .code ≡ shortage l (search.search limit (prepared code) .needs)
@@ -176,3 +192,6 @@ pub record Searched (code : List ℕ) (limit head : ℕ) (m m′ : Mem) (d : Run
   pub tables : d .code ≡ 0 → Tables (length code) ((13 * length code + 52) / 4) (plan code limit head m .rooms) (tabled m′) (d .counts)
   pub sound : d .code ≡ 0 → SoundRecs (length code) (recsIn (plan code limit head m) m′ (d .counts))
   pub rows : d .code ≡ 0 → take (20 * (length code + 1)) (m′ .w) ≡ take (20 * (length code + 1)) (m .w)
+  pub reached : d .code ≡ 0
+      → Reached (prepared code) (length code) (m′ .w) (last-since 128 limit (prepared code) 0 begin) (d .counts .records)
+      (recsIn (plan code limit head m) m′ (d .counts))
