@@ -1,0 +1,27 @@
+// The exported entry.
+use answer::map_code;
+ghost use Rattle.steps.specs.Runs.{buffers};
+ghost use Rattle.aznifrem.specs.Contracts.{Exported};
+
+// Maps a code at an energy limit over seven lent buffers; gives the number of the refusal, or the bytes written, which are never under 18.
+#[no_mangle]
+pub extern "C" fn aznifrem_map(
+    limit: u64,
+    code: &[u8],
+    w: &mut [u8],
+    p: &mut [u8],
+    s: &mut [u8],
+    t: &mut [u8],
+    r: &mut [u8],
+    q: &mut [u8],
+    out: &mut [u8],
+) -> u64
+    ensures { λ x. ⌜ Exported limit (now (code .entry)) (buffers (now (w .entry)) (now (p .entry)) (now (s .entry)) (now (t .entry)) (now (r .entry)) (now (q .entry)))
+        (now (out .entry)) (buffers (now (w .exit)) (now (p .exit)) (now (s .exit)) (now (t .exit)) (now (r .exit)) (now (q .exit))) (now (out .exit)) x ⌝ }
+{
+    let a = map_code(limit as usize, code, w, p, s, t, r, q, out);
+    if a.number != 0 {
+        return a.number as u64;
+    }
+    a.written as u64
+}
