@@ -1,10 +1,12 @@
 //! Codes to hold two answers against each other: exhaustive, random and Solidity-like, by seed.
 
 pub mod assembler;
+pub mod contract;
 pub mod corners;
 pub mod exhaustive;
 pub mod random;
 pub mod solidity;
+pub mod worst;
 pub mod woven;
 
 pub use random::Random;
