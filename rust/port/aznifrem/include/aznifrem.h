@@ -1,0 +1,65 @@
+/* The proved control-flow mapper, for C. Link target/staticlib/libaznifrem.a (x86-64 Linux). */
+#ifndef AZNIFREM_H
+#define AZNIFREM_H
+
+#include <stddef.h>
+#include <stdint.h>
+
+#ifdef __cplusplus
+extern "C" {
+#endif
+
+#define AZNIFREM_LONGEST_CODE 24576u
+#define AZNIFREM_HIGHEST_LIMIT 500000u
+
+/* Bytes that w must have for a code of n bytes. */
+#define AZNIFREM_WORK(n) (64u * (size_t)(n) + 256u)
+
+/* What a call gives instead of an answer. 1 to 3 touch nothing. */
+#define AZNIFREM_CODE_TOO_LONG 1
+#define AZNIFREM_LIMIT_TOO_HIGH 2
+#define AZNIFREM_W_SHORT 3
+#define AZNIFREM_P_SHORT 4
+#define AZNIFREM_S_SHORT 5
+#define AZNIFREM_T_SHORT 6
+#define AZNIFREM_R_SHORT 7
+#define AZNIFREM_Q_SHORT 8
+#define AZNIFREM_OUT_SHORT 9
+
+/* Maps a code with an energy limit, in memory that the caller lends; no other is used.
+ *
+ *   w    work, AZNIFREM_WORK(code_len) bytes     r    records, 32 bytes each
+ *   p    the path in hand, 2 bytes an address    q    recorded paths, 2 bytes an address
+ *   s    states, 9 bytes a symbol                out  the answer
+ *   t    remembered rows, 32 bytes each
+ *
+ * The lent memory may hold anything; no two parts may overlap, nor overlap the code. A part of
+ * length 0 still needs a pointer that is not NULL.
+ *
+ * Gives the number of a refusal, 1 to 9, or the bytes written to out, never fewer than 18. After
+ * 4 to 9: lend more of the named part, and call again. On an answer and on 4 to 9 all of w to q is
+ * zero bytes afterwards. On a refusal out is untouched; on an answer its bytes after the written
+ * ones are.
+ *
+ * The answer is a row of entries: length of body (4 bytes), kind (2), body; little-endian.
+ * Addresses are 2 bytes; a missing destination is 0x8000; counts, path lengths and energy are 4.
+ *   1 head          code length, block count (2), record count, energy
+ *   2 Terminate     start, end, success (1)
+ *   3 Jump          start, end, to
+ *   4 Jumpi         start, end, true, false
+ *   5 DynamicJump   start, end, count
+ *   6 DynamicJumpi  start, end, false, count
+ *   7 path of the dynamic block before it: to, path length, path
+ *   8 record        start, to, path length, path
+ * Order: head, blocks by start each with its 7s, records as found. */
+uint64_t aznifrem_map(uint64_t limit, const uint8_t *code, size_t code_len,
+                      uint8_t *w, size_t w_len, uint8_t *p, size_t p_len,
+                      uint8_t *s, size_t s_len, uint8_t *t, size_t t_len,
+                      uint8_t *r, size_t r_len, uint8_t *q, size_t q_len,
+                      uint8_t *out, size_t out_len);
+
+#ifdef __cplusplus
+}
+#endif
+
+#endif

@@ -1,0 +1,187 @@
+//! What can go wrong, in sentences that say what to do.
+
+use std::error::Error as StdError;
+use std::fmt;
+
+use crate::rooms::Room;
+use crate::{HIGHEST_LIMIT, LONGEST_CODE};
+
+/// Why there is no map.
+#[derive(Clone, Debug, PartialEq, Eq)]
+#[non_exhaustive]
+pub enum Error {
+    /// Refusal 1.
+    CodeTooLong {
+        /// Bytes of the code.
+        length: usize,
+    },
+    /// Refusal 2.
+    LimitTooHigh {
+        /// The limit that was asked for.
+        limit: u64,
+    },
+    /// Refusals 3 to 9, where the room may not grow: the ceiling is met, or what counts as lent.
+    RoomFull {
+        /// The room that is too small.
+        room: Room,
+        /// Its bytes.
+        lent: usize,
+        /// What all rooms together may have.
+        ceiling: usize,
+    },
+    /// The system has no memory for a room that may grow.
+    NoMemory {
+        /// The room.
+        room: Room,
+        /// The bytes that it was to have.
+        bytes: usize,
+    },
+    /// The linked library gave a number that document 01 does not have.
+    NoSuchAnswer {
+        /// The number.
+        number: u64,
+    },
+    /// The linked library's answer is no map.
+    Unreadable(Unreadable),
+}
+
+impl Error {
+    /// The number of document 01's table, if this is one of its refusals.
+    ///
+    /// ```
+    /// let error = aznifrem::map(&[0; 24_577], 0).unwrap_err();
+    /// assert_eq!(error.number(), Some(1));
+    /// ```
+    pub fn number(&self) -> Option<u8> {
+        match self {
+            Error::CodeTooLong { .. } => Some(1),
+            Error::LimitTooHigh { .. } => Some(2),
+            Error::RoomFull { room, .. } => Some(room.refusal()),
+            Error::NoMemory { .. } | Error::NoSuchAnswer { .. } | Error::Unreadable(_) => None,
+        }
+    }
+}
+
+impl fmt::Display for Error {
+    fn fmt(&self, f: &mut fmt::Formatter) -> fmt::Result {
+        match self {
+            Error::CodeTooLong { length } => write!(
+                f,
+                "the code has {length} bytes and at most {LONGEST_CODE} are mapped: give the deployed code, without constructor or other data"
+            ),
+            Error::LimitTooHigh { limit } => write!(
+                f,
+                "the limit {limit} is over {HIGHEST_LIMIT}: give {HIGHEST_LIMIT} or less"
+            ),
+            Error::RoomFull {
+                room,
+                lent,
+                ceiling,
+            } => write!(
+                f,
+                "room {room} is too small at {lent} bytes and may not grow, as all rooms together may have {ceiling} bytes: allow more, or map with a lower limit"
+            ),
+            Error::NoMemory { room, bytes } => write!(
+                f,
+                "the system has no memory for {bytes} bytes of room {room}: set a lower ceiling, or map with a lower limit"
+            ),
+            Error::NoSuchAnswer { number } => write!(
+                f,
+                "the linked library answered {number}, which is no answer: link the libaznifrem.a that belongs to this crate"
+            ),
+            Error::Unreadable(unreadable) => write!(
+                f,
+                "the linked library's answer is no map ({unreadable}): link the libaznifrem.a that belongs to this crate"
+            ),
+        }
+    }
+}
+
+impl StdError for Error {
+    fn source(&self) -> Option<&(dyn StdError + 'static)> {
+        match self {
+            Error::Unreadable(unreadable) => Some(unreadable),
+            _ => None,
+        }
+    }
+}
+
+/// Bytes that are no map, and where the first bad entry begins.
+#[derive(Clone, Copy, Debug, PartialEq, Eq)]
+pub struct Unreadable {
+    /// The place of the first bad entry; 0 for counts of the head that nothing else explains.
+    pub offset: usize,
+    /// What is wrong with it.
+    pub fault: Fault,
+}
+
+/// What is wrong with an entry.
+#[derive(Clone, Copy, Debug, PartialEq, Eq)]
+#[non_exhaustive]
+pub enum Fault {
+    /// The bytes end before it does.
+    Cut,
+    /// The first entry is no head.
+    NoHead,
+    /// No such kind of entry is known.
+    UnknownKind(u16),
+    /// Its kind may not stand here.
+    OutOfOrder(u16),
+    /// Its body is longer or shorter than its kind says.
+    Length(usize),
+    /// The block's start is not above the one before.
+    Start(usize),
+    /// The byte that says whether a block ends in success is neither 0 nor 1.
+    Success(u8),
+    /// A dynamic block that is not followed by as many entries as it says.
+    Entries(u32),
+    /// The head's counts are not those of the entries.
+    Counts,
+}
+
+impl fmt::Display for Unreadable {
+    fn fmt(&self, f: &mut fmt::Formatter) -> fmt::Result {
+        write!(f, "the entry at byte {} ", self.offset)?;
+        match self.fault {
+            Fault::Cut => f.write_str("is cut short"),
+            Fault::NoHead => f.write_str("is no head, and a map begins with one"),
+            Fault::UnknownKind(kind) => write!(f, "is of kind {kind}, which is not known"),
+            Fault::OutOfOrder(kind) => write!(f, "is of kind {kind}, which may not stand here"),
+            Fault::Length(length) => {
+                write!(
+                    f,
+                    "has a body of {length} bytes, which its kind does not have"
+                )
+            }
+            Fault::Start(start) => write!(
+                f,
+                "is a block that starts at {start}, not above the block before it"
+            ),
+            Fault::Success(byte) => write!(f, "has {byte} where 0 or 1 says whether it succeeds"),
+            Fault::Entries(count) => write!(f, "says {count} paths and is followed by others"),
+            Fault::Counts => f.write_str("is a head whose counts are not those of the entries"),
+        }?;
+        f.write_str("; make the map again from the code, or fetch the stored file again")
+    }
+}
+
+impl StdError for Unreadable {}
+
+/// A map that was put together by hand and does not fit the entries.
+#[derive(Clone, Copy, Debug, PartialEq, Eq)]
+pub struct Unwritable {
+    /// The address or count that does not fit.
+    pub value: usize,
+}
+
+impl fmt::Display for Unwritable {
+    fn fmt(&self, f: &mut fmt::Formatter) -> fmt::Result {
+        write!(
+            f,
+            "the address or count {} does not fit the entries of a map: keep addresses below 65536, and a dynamic jump's destination other than 32768",
+            self.value
+        )
+    }
+}
+
+impl StdError for Unwritable {}

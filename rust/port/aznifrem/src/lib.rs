@@ -1,0 +1,56 @@
+//! The control-flow map of an EVM contract: its blocks, its jumps, and the paths by which its
+//! dynamic jumps were resolved. The map is made by a proved library; this crate lends it memory,
+//! grows what is too small, and reads what comes back.
+//!
+//! ```
+//! use aznifrem::{BlockType, HIGHEST_LIMIT, map};
+//!
+//! // PUSH1 5, PUSH1 7, JUMP; 5: JUMPDEST, STOP; 7: JUMPDEST, JUMP: a call and its return.
+//! let code = [0x60, 5, 0x60, 7, 0x56, 0x5b, 0x00, 0x5b, 0x56];
+//! let map = map(&code, HIGHEST_LIMIT)?;
+//!
+//! let starts: Vec<usize> = map.blocks.keys().copied().collect();
+//! assert_eq!(starts, [0, 5, 7]);
+//! // The return goes to 5 alone, so it is a plain jump; the record has the path that showed it.
+//! assert_eq!(map.blocks[&7].btype, BlockType::Jump { to: 5 });
+//! assert_eq!(map.records[0].jump.path, [7, 0]);
+//! assert_eq!(map.energy, 2);
+//! # Ok::<(), aznifrem::Error>(())
+//! ```
+//!
+//! A [`Mapper`] keeps its memory between calls; [`Map::from_bytes`] reads a map that was stored;
+//! [`call`] is the library's own call, for those who lend the memory themselves.
+
+mod call;
+mod error;
+mod map;
+mod mapper;
+mod read;
+mod rooms;
+mod write;
+
+pub use call::{Lent, call};
+pub use error::{Error, Fault, Unreadable, Unwritable};
+pub use map::{Block, BlockType, DynamicJump, Map, Record};
+pub use mapper::Mapper;
+pub use rooms::Room;
+
+/// The longest code that is mapped, in bytes.
+pub const LONGEST_CODE: usize = 24_576;
+
+/// The highest energy limit; at this one the map is evmole's.
+pub const HIGHEST_LIMIT: u64 = 500_000;
+
+/// The map of a code, made with an energy limit of at most [`HIGHEST_LIMIT`], in memory of its
+/// own up to [`Mapper::DEFAULT_CEILING`]. For many codes, a [`Mapper`] is faster.
+///
+/// ```
+/// use aznifrem::{Error, map};
+///
+/// assert_eq!(map(&[0x00], 0)?.blocks.len(), 1);
+/// assert_eq!(map(&[0x00], 500_001), Err(Error::LimitTooHigh { limit: 500_001 }));
+/// # Ok::<(), aznifrem::Error>(())
+/// ```
+pub fn map(code: &[u8], limit: u64) -> Result<Map, Error> {
+    Mapper::new().map(code, limit)
+}

@@ -1,0 +1,122 @@
+//! Mapping one code after another in the same memory.
+
+use crate::call::call;
+use crate::error::Error;
+use crate::map::Map;
+use crate::rooms::{Room, Rooms};
+use crate::{LONGEST_CODE, read};
+
+/// The fewest bytes that an answer has: those of a head.
+const LEAST_WRITTEN: u64 = 18;
+
+/// Maps codes in rooms that it keeps, so that a thousand of them allocate a few times. A room
+/// grows when the library refuses a call by its number; then the call is made again.
+///
+/// ```
+/// use aznifrem::{HIGHEST_LIMIT, Mapper};
+///
+/// let mut mapper = Mapper::new();
+/// for length in 0..1000 {
+///     let code = vec![0x5b; length];
+///     assert_eq!(mapper.map(&code, HIGHEST_LIMIT)?.code_length, length);
+/// }
+/// # Ok::<(), aznifrem::Error>(())
+/// ```
+#[derive(Debug)]
+pub struct Mapper {
+    rooms: Rooms,
+    calls: u64,
+}
+
+impl Default for Mapper {
+    fn default() -> Mapper {
+        Mapper::new()
+    }
+}
+
+impl Mapper {
+    /// What all rooms together may have if the caller does not say: 1 GiB.
+    pub const DEFAULT_CEILING: usize = 1 << 30;
+
+    /// A mapper whose rooms may grow to [`Mapper::DEFAULT_CEILING`].
+    pub fn new() -> Mapper {
+        Mapper::with_ceiling(Mapper::DEFAULT_CEILING)
+    }
+
+    /// A mapper whose rooms together may have this many bytes.
+    ///
+    /// ```
+    /// use aznifrem::{Error, Mapper, Room};
+    ///
+    /// let mut mapper = Mapper::with_ceiling(1000);
+    /// let refused = mapper.map(&[0x5b; 100], 0).unwrap_err();
+    /// assert!(matches!(refused, Error::RoomFull { room: Room::W, ceiling: 1000, .. }));
+    /// ```
+    pub fn with_ceiling(bytes: usize) -> Mapper {
+        Mapper {
+            rooms: Rooms::new(bytes),
+            calls: 0,
+        }
+    }
+
+    /// The map of a code, made with this energy limit.
+    pub fn map(&mut self, code: &[u8], limit: u64) -> Result<Map, Error> {
+        let bytes = self.entries(code, limit)?;
+        read::map(bytes).map_err(Error::Unreadable)
+    }
+
+    /// The map as the library writes it: the entries of document 01, to be stored.
+    ///
+    /// ```
+    /// let mut mapper = aznifrem::Mapper::new();
+    /// let stored = mapper.entries(&[], 500_000)?;
+    /// assert_eq!(stored, [12, 0, 0, 0, 1, 0, 0, 0, 0, 0, 0, 0, 0, 0, 0, 0, 0, 0]);
+    /// # Ok::<(), aznifrem::Error>(())
+    /// ```
+    pub fn entries(&mut self, code: &[u8], limit: u64) -> Result<&[u8], Error> {
+        // A longer code is refused whatever is lent.
+        let length = code.len().min(LONGEST_CODE);
+        self.rooms.ready(length)?;
+        loop {
+            self.calls += 1;
+            let number = call(code, limit, &mut self.rooms.lent(length));
+            if number >= LEAST_WRITTEN {
+                return self.written(number);
+            }
+            self.answer_refusal(number, code.len(), limit)?;
+        }
+    }
+
+    fn written(&self, number: u64) -> Result<&[u8], Error> {
+        let count = usize::try_from(number).ok();
+        let bytes = count.and_then(|count| self.rooms.written(count));
+        bytes.ok_or(Error::NoSuchAnswer { number })
+    }
+
+    /// Grows the room that is named; an error if the call is not to be made again.
+    fn answer_refusal(&mut self, number: u64, length: usize, limit: u64) -> Result<(), Error> {
+        match number {
+            1 => Err(Error::CodeTooLong { length }),
+            2 => Err(Error::LimitTooHigh { limit }),
+            _ => match Room::named(number) {
+                Some(room) => self.rooms.grow(room),
+                None => Err(Error::NoSuchAnswer { number }),
+            },
+        }
+    }
+
+    /// Bytes that its rooms have together.
+    pub fn lent(&self) -> usize {
+        self.rooms.bytes()
+    }
+
+    /// How often a room was allocated, since the mapper was made.
+    pub fn allocations(&self) -> u64 {
+        self.rooms.allocations
+    }
+
+    /// How often the library was called, since the mapper was made.
+    pub fn calls(&self) -> u64 {
+        self.calls
+    }
+}

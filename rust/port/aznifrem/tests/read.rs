@@ -1,0 +1,198 @@
+//! Stored maps: what is written is read, what is accepted is written again, the rest has a place.
+
+use aznifrem::{Fault, HIGHEST_LIMIT, Map, Mapper, Unreadable};
+use codes::random::{Random, jumpy};
+use codes::{from_hex, woven};
+
+fn entry(kind: u16, body: &[u8]) -> Vec<u8> {
+    let mut bytes = (body.len() as u32).to_le_bytes().to_vec();
+    bytes.extend(kind.to_le_bytes());
+    bytes.extend(body);
+    bytes
+}
+
+fn head(blocks: u8, records: u8) -> Vec<u8> {
+    entry(1, &[9, 0, blocks, 0, records, 0, 0, 0, 2, 0, 0, 0])
+}
+
+fn stop(start: u8) -> Vec<u8> {
+    entry(2, &[start, 0, start, 0, 1])
+}
+
+fn dynamic(start: u8, count: u8) -> Vec<u8> {
+    entry(5, &[start, 0, start, 0, count, 0, 0, 0])
+}
+
+fn found() -> Vec<u8> {
+    entry(7, &[5, 0, 2, 0, 0, 0, 7, 0, 0, 0])
+}
+
+fn record() -> Vec<u8> {
+    entry(8, &[7, 0, 5, 0, 2, 0, 0, 0, 7, 0, 0, 0])
+}
+
+/// The place and the fault of the first bad entry.
+fn fault(parts: &[Vec<u8>]) -> (usize, Fault) {
+    let Unreadable { offset, fault } = Map::from_bytes(&parts.concat()).expect_err("it is bad");
+    (offset, fault)
+}
+
+#[test]
+fn good_maps_are_read_and_written_again() {
+    let good: [&[Vec<u8>]; 5] = [
+        &[head(0, 0)],
+        &[head(1, 0), stop(0)],
+        &[head(2, 1), stop(0), dynamic(7, 0), record()],
+        &[head(2, 0), dynamic(0, 2), found(), found(), stop(9)],
+        &[
+            head(1, 0),
+            entry(6, &[0, 0, 1, 0, 2, 0, 1, 0, 0, 0]),
+            found(),
+        ],
+    ];
+    for parts in good {
+        let bytes = parts.concat();
+        let map = Map::from_bytes(&bytes).expect("it is good");
+        assert_eq!(map.to_bytes().expect("it fits"), bytes);
+    }
+}
+
+#[test]
+fn a_map_begins_with_one_head() {
+    assert_eq!(fault(&[]), (0, Fault::NoHead));
+    assert_eq!(fault(&[stop(0)]), (0, Fault::NoHead));
+    assert_eq!(fault(&[head(0, 0), head(0, 0)]), (18, Fault::OutOfOrder(1)));
+    assert_eq!(fault(&[head(0, 0)[..17].to_vec()]), (0, Fault::Cut));
+    assert_eq!(fault(&[entry(1, &[0; 13])]), (0, Fault::Length(13)));
+}
+
+#[test]
+fn counts_are_looked_at_last() {
+    assert_eq!(fault(&[head(2, 0), stop(0)]), (0, Fault::Counts));
+    assert_eq!(fault(&[head(1, 0), stop(0), record()]), (0, Fault::Counts));
+    assert_eq!(
+        fault(&[head(9, 0), stop(0), vec![1]]),
+        (18 + 11, Fault::Cut)
+    );
+}
+
+#[test]
+fn entries_stand_in_their_order() {
+    assert_eq!(
+        fault(&[head(1, 1), record(), stop(0)]),
+        (36, Fault::OutOfOrder(2))
+    );
+    assert_eq!(
+        fault(&[head(1, 0), stop(0), found()]),
+        (29, Fault::OutOfOrder(7))
+    );
+    assert_eq!(
+        fault(&[head(2, 0), stop(4), stop(4)]),
+        (29, Fault::Start(4))
+    );
+    assert_eq!(
+        fault(&[head(2, 0), stop(4), dynamic(3, 1)]),
+        (29, Fault::Entries(1))
+    );
+    assert_eq!(
+        fault(&[head(0, 0), entry(9, &[])]),
+        (18, Fault::UnknownKind(9))
+    );
+    assert_eq!(
+        fault(&[head(0, 0), entry(0, &[])]),
+        (18, Fault::UnknownKind(0))
+    );
+}
+
+#[test]
+fn a_dynamic_block_has_as_many_paths_as_it_says() {
+    let cut = found()[..15].to_vec();
+    for rest in [vec![], found(), cut, stop(9)] {
+        assert_eq!(
+            fault(&[head(1, 0), dynamic(0, 2), rest]),
+            (18, Fault::Entries(2))
+        );
+    }
+    assert_eq!(
+        fault(&[head(1, 0), dynamic(0, 0), found()]),
+        (18, Fault::Entries(0))
+    );
+    let long = entry(7, &[5, 0, 1, 0, 0, 0, 7, 0, 0]);
+    assert_eq!(
+        fault(&[head(1, 0), dynamic(0, 1), found(), long]),
+        (18 + 14 + 16, Fault::Length(9))
+    );
+}
+
+#[test]
+fn bodies_are_as_long_as_their_kind_says() {
+    for (kind, length) in [(2, 4), (2, 6), (3, 5), (4, 9), (5, 7), (6, 11), (8, 7)] {
+        let body = vec![0; length];
+        assert_eq!(
+            fault(&[head(0, 0), entry(kind, &body)]),
+            (18, Fault::Length(length))
+        );
+    }
+    assert_eq!(
+        fault(&[head(1, 0), entry(2, &[0, 0, 0, 0, 2])]),
+        (18, Fault::Success(2))
+    );
+    let endless = entry(8, &[7, 0, 5, 0, 255, 255, 255, 255]);
+    assert_eq!(fault(&[head(0, 1), endless]), (18, Fault::Length(8)));
+}
+
+/// Some hundred answers, with paths and records.
+fn answers() -> Vec<Vec<u8>> {
+    let mut mapper = Mapper::new();
+    let mut random = Random::new(8);
+    let corners = codes::corners::CORNERS.iter();
+    let mut codes: Vec<Vec<u8>> = corners.map(|hex| from_hex(hex).expect("hex")).collect();
+    codes.extend((0..100).map(|_| jumpy(&mut random, 40)));
+    codes.extend((0..100).map(|_| woven::code(&mut random, 4, 3)));
+    let mut answer = |code: &Vec<u8>| mapper.entries(code, HIGHEST_LIMIT).map(<[u8]>::to_vec);
+    codes.iter().filter_map(|code| answer(code).ok()).collect()
+}
+
+#[test]
+fn what_the_library_writes_is_read_and_written_again() {
+    let answers = answers();
+    assert!(answers.len() > 200);
+    for bytes in answers {
+        let map = Map::from_bytes(&bytes).expect("an answer is a map");
+        assert_eq!(map.to_bytes().expect("it fits"), bytes);
+    }
+}
+
+#[test]
+fn damaged_maps_do_not_panic_and_accepted_ones_are_written_again() {
+    let mut random = Random::new(9);
+    let mut accepted = 0;
+    for bytes in answers().iter().filter(|bytes| bytes.len() < 4_000) {
+        for _ in 0..200 {
+            let damaged = damaged(&mut random, bytes);
+            match Map::from_bytes(&damaged) {
+                Ok(map) => {
+                    accepted += 1;
+                    assert_eq!(map.to_bytes().expect("it fits"), damaged);
+                }
+                Err(bad) => assert!(bad.offset <= damaged.len()),
+            }
+        }
+    }
+    assert!(accepted > 100, "only {accepted} were accepted");
+}
+
+fn damaged(random: &mut Random, bytes: &[u8]) -> Vec<u8> {
+    let mut near = bytes.to_vec();
+    for _ in 0..random.between(1, 3) {
+        let at = random.below(near.len().max(1));
+        match random.below(5) {
+            0 => near.truncate(at),
+            1 => near.insert(at.min(near.len()), random.byte()),
+            2 if at < near.len() => drop(near.remove(at)),
+            _ if at < near.len() => near[at] = random.pick(&[0, 1, 2, 5, 7, 8, 255]),
+            _ => {}
+        }
+    }
+    near
+}

@@ -1,0 +1,100 @@
+//! Rooms grow as refusals name them, are kept, and keep to the ceiling.
+
+use aznifrem::{Error, HIGHEST_LIMIT, Map, Mapper, Room};
+use codes::Random;
+use codes::solidity::{self, Shape};
+use codes::worst::{diamonds, fan};
+
+const RETURN: [u8; 9] = [0x60, 5, 0x60, 7, 0x56, 0x5b, 0x00, 0x5b, 0x56];
+
+/// The map; its Debug text would drown the sentence if it is not there.
+fn answered(mapper: &mut Mapper, code: &[u8]) -> Map {
+    match mapper.map(code, HIGHEST_LIMIT) {
+        Ok(map) => map,
+        Err(error) => panic!("{error}"),
+    }
+}
+
+#[test]
+fn a_room_grows_until_the_answer_fits() {
+    let mut mapper = Mapper::new();
+    answered(&mut mapper, &RETURN);
+    assert_eq!((mapper.calls(), mapper.allocations()), (1, 7));
+    // More than 64 KiB of answer: it grows once, and W with no call.
+    assert_eq!(answered(&mut mapper, &fan(1_600)).records.len(), 1_600);
+    assert_eq!((mapper.calls(), mapper.allocations()), (3, 9));
+    // 571,401 bytes of S and 163,712 of T: four and two doublings.
+    assert_eq!(answered(&mut mapper, &diamonds(10)).records.len(), 1_024);
+    assert_eq!((mapper.calls(), mapper.allocations()), (10, 15));
+    // The rooms are kept: nothing grows again.
+    assert_eq!(answered(&mut mapper, &diamonds(10)).records.len(), 1_024);
+    assert_eq!((mapper.calls(), mapper.allocations()), (11, 15));
+}
+
+#[test]
+fn a_thousand_contracts_allocate_a_few_times() {
+    let mut mapper = Mapper::new();
+    let mut random = Random::new(5);
+    for _ in 0..1_000 {
+        let shape = Shape::middle(&mut random);
+        answered(&mut mapper, &solidity::code(&mut random, shape));
+    }
+    let allocations = mapper.allocations();
+    assert!(allocations < 40, "{allocations} allocations");
+    // Seven to begin with; each call beyond one a code is for a room that grew.
+    assert!(mapper.calls() - 1_000 <= allocations - 7);
+}
+
+#[test]
+fn a_huge_room_is_given_back() {
+    let mut mapper = Mapper::new();
+    answered(&mut mapper, &diamonds(14));
+    assert!(mapper.lent() > 12 << 20);
+    answered(&mut mapper, &RETURN);
+    assert!(mapper.lent() < 12 << 20);
+}
+
+#[test]
+fn the_ceiling_is_kept_and_named() {
+    let ceiling = 512 << 10;
+    let mut mapper = Mapper::with_ceiling(ceiling);
+    let refused = mapper.map(&diamonds(10), HIGHEST_LIMIT).map(|_| ());
+    let refused = refused.expect_err("states and rows need more");
+    let Error::RoomFull { room, lent, .. } = refused else {
+        panic!("another error: {refused}");
+    };
+    assert_eq!((room, refused.number()), (Room::T, Some(6)));
+    // The states took what the ceiling left.
+    assert!(lent < 163_712 && mapper.lent() == ceiling);
+    let sentence = refused.to_string();
+    assert!(sentence.contains("T (remembered rows)") && sentence.contains("524288"));
+    // The same mapper goes on with what fits.
+    assert_eq!(answered(&mut mapper, &[0x00]).blocks.len(), 1);
+}
+
+#[test]
+fn any_ceiling_is_answered_or_named() {
+    for ceiling in 0..4_000 {
+        let mut mapper = Mapper::with_ceiling(ceiling);
+        match mapper.map(&RETURN, HIGHEST_LIMIT) {
+            Ok(map) => assert_eq!(map.blocks.len(), 3),
+            Err(Error::RoomFull { .. }) => assert!(ceiling < 3_400, "refused at {ceiling}"),
+            Err(other) => panic!("another error: {other}"),
+        }
+        assert!(mapper.lent() <= ceiling);
+    }
+}
+
+#[test]
+fn rooms_have_the_numbers_of_their_refusals() {
+    let rooms = [
+        Room::W,
+        Room::P,
+        Room::S,
+        Room::T,
+        Room::R,
+        Room::Q,
+        Room::Output,
+    ];
+    assert_eq!(rooms.map(Room::refusal), [3, 4, 5, 6, 7, 8, 9]);
+}
