@@ -1,0 +1,115 @@
+//! `aznifrem diff OLD NEW`: two stored maps, or two folders of them.
+
+use std::collections::BTreeMap;
+use std::fs;
+use std::io::{self, Write};
+use std::path::{Path, PathBuf};
+
+use aznifrem::Map;
+
+use crate::Outcome;
+use crate::compare::differences;
+use crate::files::beneath;
+
+pub fn run(old: &Path, new: &Path, out: &mut impl Write) -> io::Result<Outcome> {
+    let pairs = match pairs(old, new) {
+        Ok(pairs) => pairs,
+        Err(sentence) => {
+            eprintln!("{sentence}");
+            return Ok(Outcome::Wrong);
+        }
+    };
+    let mut outcome = Outcome::Fine;
+    let mut count = 0;
+    for pair in &pairs {
+        match pair.lines() {
+            Ok(lines) => {
+                for line in &lines {
+                    writeln!(out, "{}{line}", pair.title)?;
+                }
+                count += lines.len();
+            }
+            Err(sentences) => {
+                out.flush()?;
+                sentences
+                    .iter()
+                    .for_each(|sentence| eprintln!("{sentence}"));
+                outcome = Outcome::Wrong;
+            }
+        }
+    }
+    writeln!(out, "maps: {}, differences: {count}", pairs.len())?;
+    let moved = if count == 0 {
+        Outcome::Fine
+    } else {
+        Outcome::Found
+    };
+    Ok(outcome.max(moved))
+}
+
+/// Two maps of one name; either may be missing.
+#[derive(Default)]
+struct Pair {
+    title: String,
+    old: Option<PathBuf>,
+    new: Option<PathBuf>,
+}
+
+impl Pair {
+    /// What moved, or what is unreadable.
+    fn lines(&self) -> Result<Vec<String>, Vec<String>> {
+        match (self.old.as_deref().map(read), self.new.as_deref().map(read)) {
+            (Some(Ok(old)), Some(Ok(new))) => Ok(differences(&old, &new)),
+            (None, Some(Ok(map))) => Ok(vec![format!("map came: {} blocks", map.blocks.len())]),
+            (Some(Ok(map)), None) => Ok(vec![format!("map went: {} blocks", map.blocks.len())]),
+            (old, new) => {
+                let faults = [old, new].into_iter().flatten().filter_map(Result::err);
+                Err(faults.collect())
+            }
+        }
+    }
+}
+
+fn read(path: &Path) -> Result<Map, String> {
+    let bytes = fs::read(path).map_err(|e| format!("{}: cannot be read: {e}", path.display()))?;
+    Map::from_bytes(&bytes).map_err(|e| format!("{}: is no stored map: {e}", path.display()))
+}
+
+fn pairs(old: &Path, new: &Path) -> Result<Vec<Pair>, String> {
+    match (old.is_dir(), new.is_dir()) {
+        (false, false) => Ok(vec![Pair {
+            title: String::new(),
+            old: Some(old.to_path_buf()),
+            new: Some(new.to_path_buf()),
+        }]),
+        (true, true) => of_folders(old, new),
+        _ => Err(format!(
+            "{} and {}: one is a folder and the other is not; give two maps or two folders",
+            old.display(),
+            new.display()
+        )),
+    }
+}
+
+/// The maps of two folders, by name.
+fn of_folders(old: &Path, new: &Path) -> Result<Vec<Pair>, String> {
+    let mut pairs: BTreeMap<PathBuf, Pair> = BTreeMap::new();
+    for map in beneath(old, |_| true)? {
+        pairs.entry(map.name).or_default().old = Some(map.path);
+    }
+    for map in beneath(new, |_| true)? {
+        pairs.entry(map.name).or_default().new = Some(map.path);
+    }
+    if pairs.is_empty() {
+        return Err(format!(
+            "{} and {}: no map is in either",
+            old.display(),
+            new.display()
+        ));
+    }
+    let titled = |(name, pair): (PathBuf, Pair)| Pair {
+        title: format!("{}: ", name.display()),
+        ..pair
+    };
+    Ok(pairs.into_iter().map(titled).collect())
+}

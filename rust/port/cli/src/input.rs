@@ -1,0 +1,101 @@
+//! Reading a contract: hexadecimal digits or the bytes themselves.
+
+use std::fs;
+use std::io::{self, Read};
+use std::path::Path;
+
+use crate::args::Form;
+
+/// The code that a file holds, or a sentence that says why it holds none.
+pub fn code(path: &Path, form: Form) -> Result<Vec<u8>, String> {
+    let bytes = if path == Path::new("-") {
+        let mut bytes = Vec::new();
+        io::stdin().read_to_end(&mut bytes).map(|_| bytes)
+    } else {
+        fs::read(path)
+    };
+    let bytes = bytes.map_err(|error| format!("cannot be read: {error}"))?;
+    decoded(bytes, form)
+}
+
+/// The code that these bytes stand for.
+pub fn decoded(bytes: Vec<u8>, form: Form) -> Result<Vec<u8>, String> {
+    match form {
+        Form::Binary => Ok(bytes),
+        Form::Hex => hex(&bytes),
+        Form::ToldApart if looks_hex(&bytes) => hex(&bytes),
+        Form::ToldApart if is_text(&bytes) => Err(
+            "is text, but not hexadecimal digits: link its libraries if it names some, or say --binary"
+                .into(),
+        ),
+        Form::ToldApart => Ok(bytes),
+    }
+}
+
+/// What is left of a hexadecimal text without white space and its 0x.
+fn digits(bytes: &[u8]) -> Vec<u8> {
+    let spaces = |byte: &u8| !byte.is_ascii_whitespace();
+    let mut digits: Vec<u8> = bytes.iter().copied().filter(spaces).collect();
+    if digits.starts_with(b"0x") || digits.starts_with(b"0X") {
+        digits.drain(..2);
+    }
+    digits
+}
+
+fn looks_hex(bytes: &[u8]) -> bool {
+    digits(bytes).iter().all(u8::is_ascii_hexdigit)
+}
+
+fn is_text(bytes: &[u8]) -> bool {
+    let text = |byte: &u8| byte.is_ascii_graphic() || byte.is_ascii_whitespace();
+    bytes.iter().all(text)
+}
+
+fn hex(bytes: &[u8]) -> Result<Vec<u8>, String> {
+    let digits = digits(bytes);
+    if !digits.len().is_multiple_of(2) {
+        return Err(format!(
+            "has {} hexadecimal digits, and a code has two for each byte",
+            digits.len()
+        ));
+    }
+    let value = |digit: u8| char::from(digit).to_digit(16).map(|value| value as u8);
+    let byte = |pair: &[u8]| Some(value(pair[0])? * 16 + value(pair[1])?);
+    let code: Option<Vec<u8>> = digits.chunks(2).map(byte).collect();
+    code.ok_or_else(|| "has characters that are no hexadecimal digits".into())
+}
+
+#[cfg(test)]
+mod tests {
+    use super::{Form, decoded};
+
+    fn told_apart(bytes: &[u8]) -> Result<Vec<u8>, String> {
+        decoded(bytes.to_vec(), Form::ToldApart)
+    }
+
+    #[test]
+    fn hexadecimal_and_binary_are_told_apart() {
+        assert_eq!(told_apart(b"0x6000\n56\n"), Ok(vec![0x60, 0x00, 0x56]));
+        assert_eq!(told_apart(b"5B"), Ok(vec![0x5b]));
+        assert_eq!(told_apart(b"\n"), Ok(vec![]));
+        assert_eq!(told_apart(&[0x60, 0x00, 0x56]), Ok(vec![0x60, 0x00, 0x56]));
+    }
+
+    #[test]
+    fn a_flag_decides_where_both_are_possible() {
+        assert_eq!(
+            decoded(b"5b56".to_vec(), Form::Binary),
+            Ok(b"5b56".to_vec())
+        );
+        assert_eq!(decoded(b"5b56".to_vec(), Form::Hex), Ok(vec![0x5b, 0x56]));
+        assert!(decoded(vec![0x60, 0x00], Form::Hex).is_err());
+    }
+
+    #[test]
+    fn what_is_neither_is_said() {
+        let said = told_apart(b"6000__$lib$__56").expect_err("it names a library");
+        assert!(said.contains("link its libraries"));
+        let said = told_apart(b"600").expect_err("it is cut");
+        assert!(said.contains("3 hexadecimal digits"));
+    }
+}

@@ -1,0 +1,160 @@
+//! `aznifrem map`: each contract's map, printed or stored.
+
+use std::collections::HashSet;
+use std::fs;
+use std::io::{self, Write};
+use std::path::{Path, PathBuf};
+
+use aznifrem::{Error, Map, Mapper};
+
+use crate::Outcome;
+use crate::args::{Options, Print};
+use crate::files::{Named, beneath};
+use crate::input;
+use crate::progress::Progress;
+use crate::summary;
+
+const HEADER: usize = 6;
+
+pub fn run(options: &Options, out: &mut impl Write) -> io::Result<Outcome> {
+    let mut outcome = Outcome::Fine;
+    let mut contracts = Vec::new();
+    for input in &options.inputs {
+        match expanded(input) {
+            Ok(found) => contracts.extend(found),
+            Err(sentence) => {
+                eprintln!("{sentence}");
+                outcome = Outcome::Found;
+            }
+        }
+    }
+    let mut job = Job {
+        options,
+        mapper: Mapper::with_ceiling(options.ceiling),
+        many: contracts.len() > 1,
+        stored: HashSet::new(),
+    };
+    let mut progress = Progress::new(contracts.len(), options.quiet);
+    for contract in &contracts {
+        progress.begin(&contract.path);
+        match job.one(contract) {
+            Ok(text) if text.is_empty() => {}
+            Ok(text) => {
+                progress.clear();
+                out.write_all(text.as_bytes())?;
+            }
+            Err(sentence) => {
+                progress.clear();
+                out.flush()?;
+                eprintln!("{}: {sentence}", contract.path.display());
+                outcome = Outcome::Found;
+            }
+        }
+    }
+    progress.clear();
+    Ok(outcome)
+}
+
+/// The contracts that a word of the command line stands for.
+fn expanded(input: &Path) -> Result<Vec<Named>, String> {
+    if input.is_dir() {
+        let found = beneath(input, |name| {
+            name.extension().is_none_or(|end| end != "map")
+        })?;
+        return if found.is_empty() {
+            Err(format!("{}: no contract is in it", input.display()))
+        } else {
+            Ok(found)
+        };
+    }
+    let name = match input.file_name() {
+        Some(name) if input != Path::new("-") => PathBuf::from(name),
+        _ => PathBuf::from("stdin"),
+    };
+    Ok(vec![Named {
+        path: input.to_path_buf(),
+        name,
+    }])
+}
+
+/// The work on one contract after another.
+struct Job<'a> {
+    options: &'a Options,
+    mapper: Mapper,
+    many: bool,
+    stored: HashSet<PathBuf>,
+}
+
+impl Job<'_> {
+    /// Maps and stores one contract, and gives what is to be printed of it.
+    fn one(&mut self, contract: &Named) -> Result<String, String> {
+        let code = input::code(&contract.path, self.options.form)?;
+        let entries = self.mapper.entries(&code, self.options.limit);
+        let entries = entries.map_err(refusal)?;
+        if let Some(folder) = &self.options.to {
+            store(folder, &contract.name, entries, &mut self.stored)?;
+        }
+        let title = contract.path.display().to_string();
+        match self.options.print {
+            None => Ok(String::new()),
+            Some(Print::Lines) if self.many => Ok(format!("== {title}\n{}", lines(entries))),
+            Some(Print::Lines) => Ok(lines(entries)),
+            Some(Print::Summary) => Map::from_bytes(entries)
+                .map(|map| summary::text(&title, &map))
+                .map_err(|error| Error::Unreadable(error).to_string()),
+        }
+    }
+}
+
+/// `refused N` as document 01's program says it, and what to do.
+fn refusal(error: Error) -> String {
+    let advice = match error {
+        Error::RoomFull { .. } => " (--ceiling, --limit)",
+        Error::LimitTooHigh { .. } => " (--limit)",
+        _ => "",
+    };
+    match error.number() {
+        Some(number) => format!("refused {number}: {error}{advice}"),
+        None => error.to_string(),
+    }
+}
+
+/// Each entry as lower-case hexadecimal digits on a line.
+fn lines(mut entries: &[u8]) -> String {
+    let mut text = String::new();
+    while let Some(length) = entries.first_chunk().map(|four| u32::from_le_bytes(*four)) {
+        let end = (HEADER + length as usize).min(entries.len());
+        let (entry, rest) = entries.split_at(end);
+        entry
+            .iter()
+            .for_each(|byte| text.push_str(&format!("{byte:02x}")));
+        text.push('\n');
+        entries = rest;
+    }
+    text
+}
+
+/// Writes a map to the archive, beside its place first, so that no half of one is ever there.
+fn store(
+    folder: &Path,
+    name: &Path,
+    entries: &[u8],
+    stored: &mut HashSet<PathBuf>,
+) -> Result<(), String> {
+    let mut file = folder.join(name).into_os_string();
+    file.push(".map");
+    let file = PathBuf::from(file);
+    if !stored.insert(file.clone()) {
+        return Err(format!(
+            "is not stored: another contract of this run is in {}; map the folders one by one",
+            file.display()
+        ));
+    }
+    let unwritable = |error| format!("cannot write {}: {error}", file.display());
+    if let Some(parent) = file.parent() {
+        fs::create_dir_all(parent).map_err(unwritable)?;
+    }
+    let beside = file.with_extension("map.part");
+    fs::write(&beside, entries).map_err(unwritable)?;
+    fs::rename(&beside, &file).map_err(unwritable)
+}

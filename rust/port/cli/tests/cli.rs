@@ -1,0 +1,209 @@
+//! The command line as a stranger uses it.
+
+use std::fs;
+use std::io::Write;
+use std::path::{Path, PathBuf};
+use std::process::{Command, Output, Stdio};
+
+const RETURN: &str = "60056007565b005b56";
+const LINES: &str = "0c0000000100090003000100000002000000
+060000000300000004000700
+0500000002000500060001
+060000000300070008000500
+0c0000000800070005000200000007000000
+";
+
+/// A fresh folder for one test.
+fn folder(name: &str) -> PathBuf {
+    let folder = Path::new(env!("CARGO_TARGET_TMPDIR")).join(name);
+    let _ = fs::remove_dir_all(&folder);
+    fs::create_dir_all(&folder).expect("the folder of tests can be written");
+    folder
+}
+
+fn put(folder: &Path, name: &str, bytes: impl AsRef<[u8]>) {
+    let file = folder.join(name);
+    let parent = file.parent().expect("it lies in the folder");
+    fs::create_dir_all(parent).expect("a folder can be made");
+    fs::write(file, bytes).expect("a file can be written");
+}
+
+/// Runs the program in a folder.
+fn run(folder: &Path, words: &[&str]) -> Output {
+    let mut command = Command::new(env!("CARGO_BIN_EXE_aznifrem"));
+    let command = command.args(words).current_dir(folder);
+    command.output().expect("the program runs")
+}
+
+fn run_with(input: &str, words: &[&str]) -> Output {
+    let mut child = Command::new(env!("CARGO_BIN_EXE_aznifrem"))
+        .args(words)
+        .stdin(Stdio::piped())
+        .stdout(Stdio::piped())
+        .stderr(Stdio::piped())
+        .spawn()
+        .expect("the program runs");
+    let mut stdin = child.stdin.take().expect("it is piped");
+    stdin.write_all(input.as_bytes()).expect("it is read");
+    drop(stdin);
+    child.wait_with_output().expect("the program ends")
+}
+
+/// Exit, standard output, standard error.
+fn all(output: &Output) -> (i32, String, String) {
+    let text = |bytes: &[u8]| String::from_utf8(bytes.to_vec()).expect("it is text");
+    let exit = output.status.code().expect("it is not killed");
+    (exit, text(&output.stdout), text(&output.stderr))
+}
+
+#[test]
+fn standard_input_gives_the_lines_of_document_01() {
+    for words in [&["-"][..], &["map", "-"], &["--lines", "--hex", "-"]] {
+        let given = all(&run_with(&format!("{RETURN}\n"), words));
+        assert_eq!(given, (0, LINES.into(), String::new()));
+    }
+}
+
+#[test]
+fn the_summary_can_be_read() {
+    let (exit, out, _) = all(&run_with(RETURN, &["--summary", "-"]));
+    assert_eq!(exit, 0);
+    assert_eq!(
+        out,
+        "-: 9 bytes of code, 3 blocks, 0 of them dynamic (0 unresolved), 1 paths recorded (1 with a destination), energy 2
+  0-4 Jump to 7
+  5-6 Terminate, success
+  7-8 Jump to 5
+"
+    );
+    let (_, out, _) = all(&run_with(RETURN, &["--summary", "--limit=0", "-"]));
+    assert!(out.contains("1 of them dynamic (1 unresolved)"), "{out}");
+}
+
+#[test]
+fn a_folder_of_both_forms_is_mapped_in_order() {
+    let here = folder("both-forms");
+    put(&here, "code/b.hex", format!("0x{RETURN}"));
+    put(
+        &here,
+        "code/a.bin",
+        [0x60, 5, 0x60, 7, 0x56, 0x5b, 0, 0x5b, 0x56],
+    );
+    put(&here, "code/old.map", "not a contract");
+    put(&here, "code/.hidden", "not a contract");
+    let (exit, out, said) = all(&run(&here, &["code"]));
+    let expected = format!("== code/a.bin\n{LINES}== code/b.hex\n{LINES}");
+    assert_eq!((exit, out, said), (0, expected, String::new()));
+}
+
+#[test]
+fn what_is_refused_or_unreadable_has_a_line_and_the_rest_is_mapped() {
+    let here = folder("refused");
+    put(&here, "code/long.hex", "00".repeat(24_577));
+    put(&here, "code/good.hex", "00");
+    put(&here, "code/text.txt", "no contract");
+    let (exit, out, said) = all(&run(&here, &["code", "missing"]));
+    assert_eq!(exit, 1);
+    assert_eq!(out.lines().count(), 3);
+    let said: Vec<&str> = said.lines().collect();
+    assert_eq!(said.len(), 3, "{said:?}");
+    assert!(said[0].starts_with("code/long.hex: refused 1: the code has 24577 bytes"));
+    assert!(said[1].starts_with("code/text.txt: is text, but not hexadecimal"));
+    assert!(said[2].starts_with("missing: cannot be read"));
+}
+
+#[test]
+fn refusals_name_the_flag_that_helps() {
+    let (exit, out, said) = all(&run_with(RETURN, &["--limit", "500001", "-"]));
+    assert_eq!((exit, out.as_str()), (1, ""));
+    assert!(said.starts_with("-: refused 2:") && said.contains("(--limit)"));
+    let (exit, _, said) = all(&run_with(RETURN, &["--ceiling", "0", "-"]));
+    assert_eq!(exit, 1);
+    assert!(said.starts_with("-: refused 3:") && said.contains("--ceiling"));
+}
+
+#[test]
+fn a_night_is_stored_and_compared() {
+    let here = folder("nights");
+    put(&here, "code/a.hex", RETURN);
+    put(&here, "code/deep/b.hex", "6003565b00");
+    let stored = all(&run(&here, &["--to", "first", "code"]));
+    assert_eq!(stored, (0, String::new(), String::new()));
+    assert!(here.join("first/deep/b.hex.map").is_file());
+    put(&here, "code/deep/b.hex", "60045600 5b00");
+    assert_eq!(all(&run(&here, &["--to=second", "code"])).0, 0);
+
+    let same = all(&run(&here, &["diff", "first", "first"]));
+    assert_eq!(same, (0, "maps: 2, differences: 0\n".into(), String::new()));
+    let moved = all(&run(&here, &["diff", "first", "second"]));
+    let lines = "deep/b.hex.map: block changed: 0-2 Jump to 3 -> 0-2 Jump to 4
+deep/b.hex.map: jump moved: of block 0, 3 -> 4
+deep/b.hex.map: block went: 3-4 Terminate, success
+deep/b.hex.map: block came: 4-5 Terminate, success
+maps: 2, differences: 4
+";
+    assert_eq!(moved, (1, lines.into(), String::new()));
+    let files = ["diff", "first/a.hex.map", "second/a.hex.map"];
+    assert_eq!(all(&run(&here, &files)).0, 0);
+}
+
+#[test]
+fn maps_that_come_or_go_are_differences() {
+    let here = folder("come-and-go");
+    put(&here, "code/a.hex", RETURN);
+    assert_eq!(all(&run(&here, &["--to", "old", "code"])).0, 0);
+    fs::create_dir(here.join("new")).expect("a folder can be made");
+    let (exit, out, _) = all(&run(&here, &["diff", "old", "new"]));
+    assert_eq!(exit, 1);
+    assert!(out.starts_with("a.hex.map: map went: 3 blocks\n"), "{out}");
+    let (exit, out, _) = all(&run(&here, &["diff", "new", "old"]));
+    assert_eq!(exit, 1);
+    assert!(out.starts_with("a.hex.map: map came: 3 blocks\n"), "{out}");
+    assert_eq!(all(&run(&here, &["diff", "new", "new"])).0, 2);
+}
+
+#[test]
+fn an_unreadable_map_is_not_the_same_as_nothing_moved() {
+    let here = folder("unreadable");
+    put(&here, "old.map", [12, 0, 0, 0, 1, 0, 9]);
+    let (exit, _, said) = all(&run(&here, &["diff", "old.map", "old.map"]));
+    assert_eq!(exit, 2);
+    assert!(said.starts_with("old.map: is no stored map: the entry at byte 0 is cut short"));
+    assert_eq!(all(&run(&here, &["diff", "old.map", "."])).0, 2);
+}
+
+#[test]
+fn two_contracts_are_not_stored_in_one_file() {
+    let here = folder("twice");
+    put(&here, "a/x.hex", "00");
+    put(&here, "b/x.hex", "5b");
+    let (exit, _, said) = all(&run(&here, &["--to", "maps", "a", "b"]));
+    assert_eq!(exit, 1);
+    assert!(said.starts_with("b/x.hex: is not stored"), "{said}");
+    let kept = fs::read(here.join("maps/x.hex.map")).expect("the first is stored");
+    assert_eq!(kept[6], 1);
+    assert_eq!(kept[28], 1, "the first contract succeeds");
+}
+
+#[test]
+fn wrong_words_are_told_and_help_is_given() {
+    let here = folder("words");
+    for words in [
+        &[][..],
+        &["--limt", "3", "x"],
+        &["--limit"],
+        &["--limit", "x", "y"],
+    ] {
+        let (exit, out, said) = all(&run(&here, words));
+        assert_eq!((exit, out.as_str()), (2, ""));
+        assert!(said.ends_with("Try 'aznifrem --help'.\n"), "{said}");
+    }
+    assert_eq!(all(&run(&here, &["diff", "one"])).0, 2);
+    for words in [&["--help"][..], &["map", "-h"], &["diff", "--help"]] {
+        let (exit, out, _) = all(&run(&here, words));
+        assert_eq!(exit, 0);
+        assert!(out.contains("aznifrem diff OLD NEW"));
+    }
+    let (exit, out, _) = all(&run(&here, &["--version"]));
+    assert_eq!((exit, out.starts_with("aznifrem ")), (0, true));
+}
