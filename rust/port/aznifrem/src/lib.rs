@@ -21,6 +21,8 @@
 //! A [`Mapper`] keeps its memory between calls; [`Map::from_bytes`] reads a map that was stored;
 //! [`call`] is the library's own call, for those who lend the memory themselves.
 
+#![warn(missing_docs)]
+
 mod call;
 mod error;
 mod map;

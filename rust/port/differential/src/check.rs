@@ -1,0 +1,224 @@
+//! Everything that is held against each other on one code.
+
+use std::panic::{AssertUnwindSafe, catch_unwind};
+
+use agree::{ENOUGH, has_other_row};
+use aznifrem::{Block, BlockType, DynamicJump, Lent as Rooms, Map};
+use codes::Random;
+use model::{Answer, HIGHEST_LIMIT, Lent, rooms};
+use oracle::control_flow_graph as rust;
+
+use crate::lend::{self, Given};
+
+/// The library's entry, or what stands in for it in a test.
+pub type Port = fn(&[u8], u64, &mut Rooms) -> u64;
+
+/// What came of one code.
+#[derive(Clone, Copy, Debug, PartialEq, Eq)]
+pub enum Verdict {
+    Same,
+    /// The byte 1E stands as an instruction in it: held against the model alone.
+    OutsideTheDomain,
+    /// It needs more than `agree::ENOUGH`: its refusal was held against the model's.
+    TooHeavy,
+}
+
+/// What differs, in a sentence; two of one kind have the same cause, more likely than not.
+#[derive(Clone, Debug, PartialEq, Eq)]
+pub struct Mismatch {
+    pub kind: &'static str,
+    pub sentence: String,
+}
+
+fn mismatch(kind: &'static str, sentence: String) -> Mismatch {
+    Mismatch { kind, sentence }
+}
+
+/// Holds a port against the Rust and the model.
+#[derive(Clone, Copy)]
+pub struct Checker {
+    pub port: Port,
+}
+
+impl Checker {
+    /// All calls on one code; the seed chooses rooms and limits beyond the plain call.
+    pub fn check(&self, code: &[u8], seed: u64) -> Result<Verdict, Mismatch> {
+        let random = &mut Random::new(seed);
+        let Ok(map) = model::map(&ENOUGH, HIGHEST_LIMIT, code) else {
+            let most = Lent {
+                w: rooms::work(code.len()),
+                ..ENOUGH
+            };
+            self.call(code, HIGHEST_LIMIT, &most, random)?;
+            return Ok(Verdict::TooHeavy);
+        };
+        let exact = map.needs.lent(code.len());
+        let given = self.call(code, HIGHEST_LIMIT, &exact, random)?;
+        let verdict = if has_other_row(code) {
+            Verdict::OutsideTheDomain
+        } else {
+            same_blocks(code, &given.written)?;
+            Verdict::Same
+        };
+        self.call(code, HIGHEST_LIMIT, &short(&exact, random), random)?;
+        let lower = random.below(map.energy as usize + 2) as u64;
+        self.call(code, lower, &longer(&exact, random), random)?;
+        if random.percent(5) {
+            self.call(code, HIGHEST_LIMIT + 1 + random.word() % 9, &exact, random)?;
+        }
+        Ok(verdict)
+    }
+
+    /// One call: number, bytes, and every lent byte, against the model's answer.
+    fn call(
+        &self,
+        code: &[u8],
+        limit: u64,
+        lent: &Lent,
+        random: &mut Random,
+    ) -> Result<Given, Mismatch> {
+        let circumstances = || format!("limit {limit}, {lent:?}");
+        let given = lend::call(self.port, code, limit, lent, random);
+        let given = given
+            .map_err(|fault| mismatch("lent bytes", format!("{fault}; {}", circumstances())))?;
+        let expected = model::answer(lent, limit, code);
+        let number = match &expected {
+            Answer::Refused(refusal) => u64::from(refusal.number()),
+            Answer::Answered(bytes) => bytes.len() as u64,
+        };
+        if given.number != number {
+            let sentence = format!(
+                "the call gives {}, the model {number}; {}",
+                given.number,
+                circumstances()
+            );
+            return Err(mismatch("number", sentence));
+        }
+        if given.written != expected.written() {
+            let sentence = different(&given.written, expected.written());
+            return Err(mismatch(
+                "bytes",
+                format!("{sentence}; {}", circumstances()),
+            ));
+        }
+        Ok(given)
+    }
+}
+
+fn different(ours: &[u8], expected: &[u8]) -> String {
+    let same = ours.iter().zip(expected).take_while(|(a, b)| a == b);
+    format!(
+        "byte {} of the answer is not the model's: {} against {}",
+        same.count(),
+        codes::to_hex(ours),
+        codes::to_hex(expected)
+    )
+}
+
+/// Rooms with one of them short: by a byte, by a unit, by half or by all.
+fn short(exact: &Lent, random: &mut Random) -> Lent {
+    let mut lent = *exact;
+    let rooms = [
+        (&mut lent.w, 1),
+        (&mut lent.p, rooms::P_UNIT),
+        (&mut lent.s, rooms::S_UNIT),
+        (&mut lent.t, rooms::T_UNIT),
+        (&mut lent.r, rooms::R_UNIT),
+        (&mut lent.q, rooms::Q_UNIT),
+        (&mut lent.out, 1),
+    ];
+    let count = rooms.len();
+    let Some((room, unit)) = rooms.into_iter().nth(random.below(count)) else {
+        return *exact;
+    };
+    let less = [1, unit, *room / 2, *room];
+    *room = room.saturating_sub(random.pick(&less));
+    lent
+}
+
+/// Rooms with up to 40 bytes more of each.
+fn longer(exact: &Lent, random: &mut Random) -> Lent {
+    let mut more = |bytes: u64| bytes + random.below(41) as u64;
+    Lent {
+        w: more(exact.w),
+        p: more(exact.p),
+        s: more(exact.s),
+        t: more(exact.t),
+        r: more(exact.r),
+        q: more(exact.q),
+        out: more(exact.out),
+    }
+}
+
+/// Every block, type, path and destination in order: the library's entries and the Rust's map.
+fn same_blocks(code: &[u8], written: &[u8]) -> Result<(), Mismatch> {
+    let map = Map::from_bytes(written)
+        .map_err(|fault| mismatch("unreadable", format!("the answer is no map: {fault}")))?;
+    let theirs = catch_unwind(AssertUnwindSafe(|| oracle::blocks(code)));
+    let Ok(theirs) = theirs else {
+        return Err(mismatch("panic", "the Rust panics".into()));
+    };
+    let ours: Vec<&Block> = map.blocks.values().collect();
+    let theirs: Vec<Block> = theirs.values().map(translated).collect();
+    for at in 0..ours.len().max(theirs.len()) {
+        let (ours, theirs) = (ours.get(at).copied(), theirs.get(at));
+        if ours != theirs {
+            let sentence = format!("block {at} is {ours:?}, the Rust's {theirs:?}");
+            return Err(mismatch("blocks", sentence));
+        }
+    }
+    Ok(())
+}
+
+/// The Rust's block, in the binding's types.
+fn translated(block: &rust::Block) -> Block {
+    let jumps = |list: &[rust::DynamicJump]| -> Vec<DynamicJump> {
+        let jump = |jump: &rust::DynamicJump| DynamicJump {
+            path: jump.path.clone(),
+            to: jump.to,
+        };
+        list.iter().map(jump).collect()
+    };
+    let btype = match &block.btype {
+        rust::BlockType::Terminate { success } => BlockType::Terminate { success: *success },
+        rust::BlockType::Jump { to } => BlockType::Jump { to: *to },
+        rust::BlockType::Jumpi { true_to, false_to } => BlockType::Jumpi {
+            true_to: *true_to,
+            false_to: *false_to,
+        },
+        rust::BlockType::DynamicJump { to } => BlockType::DynamicJump { to: jumps(to) },
+        rust::BlockType::DynamicJumpi { true_to, false_to } => BlockType::DynamicJumpi {
+            true_to: jumps(true_to),
+            false_to: *false_to,
+        },
+    };
+    Block {
+        start: block.start,
+        end: block.end,
+        btype,
+    }
+}
+
+#[cfg(test)]
+mod tests {
+    use super::same_blocks;
+    use model::{HIGHEST_LIMIT, Lent, answer};
+
+    fn against_the_rust(code: &[u8]) -> Result<(), String> {
+        let answer = answer(&Lent::ALL, HIGHEST_LIMIT, code);
+        same_blocks(code, answer.written()).map_err(|found| found.kind.into())
+    }
+
+    #[test]
+    fn a_block_that_is_not_the_rusts_is_found() {
+        // Document 01 does not know 1E, the Rust does: the one code on which both are right.
+        assert_eq!(against_the_rust(&[0x1e, 0x00]), Err("blocks".into()));
+        assert_eq!(against_the_rust(&[0x1d, 0x00]), Ok(()));
+    }
+
+    #[test]
+    fn bytes_that_are_no_map_are_found() {
+        let found = same_blocks(&[], &[1, 2, 3]).expect_err("they are no map");
+        assert_eq!(found.kind, "unreadable");
+    }
+}

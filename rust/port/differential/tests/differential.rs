@@ -1,0 +1,227 @@
+//! The library on a small part of the codes, and faults that must be found.
+
+use aznifrem::{Lent, call};
+use codes::{Random, exhaustive};
+use differential::{Checker, FAMILIES, Tally};
+
+const PORT: Checker = Checker { port: call };
+
+fn same(tally: &Tally) {
+    assert_eq!(tally.written_out, Vec::<String>::new());
+    assert!(tally.same * 10 > tally.codes() * 9, "{tally:?}");
+}
+
+#[test]
+fn the_library_on_every_code_of_two_telling_bytes() {
+    let mut tally = Tally::default();
+    for length in 0..=2 {
+        exhaustive::each(&exhaustive::TELLING, length, |code| {
+            tally.add(&PORT, code, code.len() as u64, "exhaustive");
+        });
+    }
+    assert_eq!(tally.codes(), 381);
+    same(&tally);
+}
+
+#[test]
+fn the_library_on_the_corners() {
+    let mut tally = Tally::default();
+    for (at, hex) in codes::corners::CORNERS.iter().enumerate() {
+        let code = codes::from_hex(hex).expect("the corners are hexadecimal");
+        for seed in 0..20 {
+            tally.add(&PORT, &code, seed * 100 + at as u64, hex);
+        }
+    }
+    tally.add(&PORT, &codes::corners::recorded_both_ways(), 1, "both ways");
+    same(&tally);
+}
+
+#[test]
+fn the_library_on_some_codes_of_each_family() {
+    for (at, family) in FAMILIES.iter().enumerate() {
+        let mut tally = Tally::default();
+        let mut seeds = Random::new(500 + at as u64);
+        for _ in 0..(400 * family.share).div_ceil(1000) {
+            let seed = seeds.word();
+            let code = (family.next)(&mut Random::new(seed));
+            tally.add(&PORT, &code, seed, family.name);
+        }
+        same(&tally);
+    }
+}
+
+/// The model behind the library's entry.
+fn honest(code: &[u8], limit: u64, rooms: &mut Lent) -> u64 {
+    bent(code, limit, rooms, |_| {})
+}
+
+/// The same with its answer bent before it is written.
+fn bent(code: &[u8], limit: u64, rooms: &mut Lent, bend: fn(&mut Vec<u8>)) -> u64 {
+    let length = |room: &[u8]| room.len() as u64;
+    let lent = model::Lent {
+        w: length(rooms.w),
+        p: length(rooms.p),
+        s: length(rooms.s),
+        t: length(rooms.t),
+        r: length(rooms.r),
+        q: length(rooms.q),
+        out: length(rooms.out),
+    };
+    let answer = model::answer(&lent, limit, code);
+    let number = u64::from(answer.number());
+    if !(1..=3).contains(&number) {
+        for room in [&mut *rooms.w, rooms.p, rooms.s, rooms.t, rooms.r, rooms.q] {
+            room.fill(0);
+        }
+    }
+    if number > 0 {
+        return number;
+    }
+    let mut written = answer.written().to_vec();
+    bend(&mut written);
+    rooms.out[..written.len()].copy_from_slice(&written);
+    written.len() as u64
+}
+
+/// The places of the entries of a kind.
+fn entries(bytes: &[u8], kind: u8) -> Vec<usize> {
+    let mut found = Vec::new();
+    let mut at = 0;
+    while at < bytes.len() {
+        if bytes[at + 4] == kind {
+            found.push(at);
+        }
+        at += 6 + usize::from(bytes[at]) + 256 * usize::from(bytes[at + 1]);
+    }
+    found
+}
+
+/// The first mismatch among some thousand codes, written out.
+fn found(port: differential::Port) -> String {
+    let checker = Checker { port };
+    let mut tally = Tally::default();
+    let mut seeds = Random::new(77);
+    let light = FAMILIES.iter().filter(|family| family.share >= 200);
+    for family in light.cycle().take(6_000) {
+        let seed = seeds.word();
+        let code = (family.next)(&mut Random::new(seed));
+        tally.add(&checker, &code, seed, family.name);
+        if let Some(text) = tally.written_out.pop() {
+            return text;
+        }
+    }
+    String::new()
+}
+
+/// Bytes of the smaller code.
+fn length_of_smaller(text: &str) -> usize {
+    let line = text
+        .lines()
+        .find_map(|line| line.strip_prefix("  smaller  "));
+    let hex = line.and_then(|line| line.split(' ').next());
+    hex.expect("a smaller code is there").len() / 2
+}
+
+fn finds(port: differential::Port, kind: &str, at_most: usize) {
+    let text = found(port);
+    let first = text.lines().next().unwrap_or_default();
+    assert!(first.ends_with(kind), "expected '{kind}' in: {text}");
+    let length = length_of_smaller(&text);
+    assert!(length <= at_most, "{length} bytes: {text}");
+}
+
+#[test]
+fn the_model_behind_the_entry_has_no_mismatch() {
+    assert_eq!(found(honest), "");
+}
+
+#[test]
+fn a_wrong_energy_is_found() {
+    let port = |code: &[u8], limit, rooms: &mut Lent| {
+        bent(code, limit, rooms, |bytes| {
+            bytes[14] ^= u8::from(bytes.len() > 80);
+        })
+    };
+    finds(port, "bytes", 30);
+}
+
+#[test]
+fn a_block_that_is_left_out_is_found() {
+    let port = |code: &[u8], limit, rooms: &mut Lent| {
+        bent(code, limit, rooms, |bytes| {
+            if let Some(at) = entries(bytes, 4).get(1) {
+                bytes.drain(*at..at + 14);
+                bytes[8] -= 1;
+            }
+        })
+    };
+    finds(port, "number", 20);
+}
+
+#[test]
+fn a_path_in_another_order_is_found() {
+    let port = |code: &[u8], limit, rooms: &mut Lent| {
+        bent(code, limit, rooms, |bytes| {
+            if let Some(at) = entries(bytes, 7).first() {
+                bytes[at + 12..at + 16].rotate_left(2);
+            }
+        })
+    };
+    finds(port, "bytes", 20);
+}
+
+#[test]
+fn an_unwiped_room_is_found() {
+    let port = |code: &[u8], limit, rooms: &mut Lent| {
+        let number = honest(code, limit, rooms);
+        if number == 5 && rooms.t.len() > 40 {
+            rooms.t[33] = 1;
+        }
+        number
+    };
+    finds(port, "lent bytes", 20);
+}
+
+#[test]
+fn a_touched_output_is_found() {
+    let port = |code: &[u8], limit, rooms: &mut Lent| {
+        let number = honest(code, limit, rooms);
+        let end = (number as usize).min(rooms.out.len().saturating_sub(1));
+        if number > 60 && end < rooms.out.len() && end == number as usize {
+            rooms.out[end] = 0;
+        }
+        number
+    };
+    finds(port, "lent bytes", 20);
+}
+
+#[test]
+fn a_room_that_is_touched_by_an_early_refusal_is_found() {
+    let port = |code: &[u8], limit, rooms: &mut Lent| {
+        let number = honest(code, limit, rooms);
+        if number == 3 && !rooms.w.is_empty() {
+            rooms.w.fill(0);
+        }
+        number
+    };
+    finds(port, "lent bytes", 2);
+}
+
+#[test]
+fn another_refusal_is_found() {
+    let port = |code: &[u8], limit, rooms: &mut Lent| match honest(code, limit, rooms) {
+        8 => 7,
+        number => number,
+    };
+    finds(port, "number", 12);
+}
+
+#[test]
+fn a_code_with_1e_is_held_against_the_model_alone() {
+    let checker = Checker { port: honest };
+    let clz = [0x1e, 0x00];
+    let verdict = checker
+        .check(&clz, 1)
+        .expect("it is held against the model");
+    assert_eq!(verdict, differential::Verdict::OutsideTheDomain);
+}
