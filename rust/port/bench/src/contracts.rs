@@ -1,0 +1,151 @@
+//! Contracts: the library's call, the binding's map and the Rust, one after the other.
+
+use std::hint::black_box;
+use std::time::{Duration, Instant};
+
+use aznifrem::{HIGHEST_LIMIT, Mapper};
+use codes::Random;
+use codes::contract::{Style, sized};
+
+use crate::heap::peak;
+use crate::port::Rooms;
+use crate::stats::{highest, kibibytes, median, milliseconds};
+
+/// A class of contracts.
+pub struct Class {
+    pub name: &'static str,
+    bytes: usize,
+    style: Style,
+}
+
+pub const CLASSES: [Class; 4] = [
+    Class {
+        name: "1k",
+        bytes: 1_000,
+        style: Style::Plain,
+    },
+    Class {
+        name: "6k",
+        bytes: 6_000,
+        style: Style::Plain,
+    },
+    Class {
+        name: "24k",
+        bytes: 24_576,
+        style: Style::Plain,
+    },
+    Class {
+        name: "24k of calls",
+        bytes: 24_576,
+        style: Style::Calls,
+    },
+];
+
+/// "At or below 0.3 on the contracts."
+pub const GOAL: f64 = 0.3;
+
+const CEILING: usize = 1 << 30;
+const FEWEST_TURNS: usize = 3;
+const MOST_TURNS: usize = 25;
+const TIME_A_CODE: Duration = Duration::from_millis(300);
+
+/// The medians of one code.
+struct Times {
+    call: f64,
+    map: f64,
+    rust: f64,
+}
+
+/// What was measured of a class.
+pub struct Measured {
+    times: Vec<Times>,
+    longest: usize,
+    lent: usize,
+    peaks: Vec<f64>,
+}
+
+impl Class {
+    pub fn measure(&self, count: usize, seed: u64) -> Measured {
+        let mut random = Random::new(seed.wrapping_add(self.bytes as u64));
+        let draw = |_| sized(&mut random, self.bytes, self.style);
+        let codes: Vec<Vec<u8>> = (0..count).map(draw).collect();
+        let mut rooms = Rooms::new();
+        let mut mapper = Mapper::new();
+        for code in &codes {
+            let grown = rooms.grow_for(code, CEILING);
+            assert_eq!(grown, Ok(()), "a contract needs more than {CEILING} bytes");
+            let map = mapper.map(code, HIGHEST_LIMIT).expect("it is answered");
+            assert_eq!(map.blocks.len(), oracle::blocks(code).len());
+        }
+        let lent = codes.iter().map(|code| rooms.lent(code.len()));
+        let lent = lent.max().unwrap_or(0);
+        let heap = |code: &Vec<u8>| peak(|| oracle::blocks(code)) as f64;
+        let peaks = codes.iter().map(heap).collect();
+        let times = codes
+            .iter()
+            .map(|code| timed(code, &mut rooms, &mut mapper))
+            .collect();
+        Measured {
+            times,
+            longest: codes.iter().map(Vec::len).max().unwrap_or(0),
+            lent,
+            peaks,
+        }
+    }
+}
+
+/// The three in turn, over and over: what disturbs one disturbs the others as well.
+fn timed(code: &[u8], rooms: &mut Rooms, mapper: &mut Mapper) -> Times {
+    let (mut call, mut map, mut rust) = (Vec::new(), Vec::new(), Vec::new());
+    let begun = Instant::now();
+    while call.len() < FEWEST_TURNS || (call.len() < MOST_TURNS && begun.elapsed() < TIME_A_CODE) {
+        call.push(time(|| rooms.call(code)));
+        rust.push(time(|| oracle::blocks(code)));
+        map.push(time(|| mapper.map(code, HIGHEST_LIMIT)));
+    }
+    Times {
+        call: median(&call),
+        map: median(&map),
+        rust: median(&rust),
+    }
+}
+
+/// Milliseconds of a run; its result is dropped within them, as a caller would have to.
+fn time<T>(run: impl FnOnce() -> T) -> f64 {
+    let begun = Instant::now();
+    drop(black_box(run()));
+    milliseconds(begun.elapsed())
+}
+
+impl Measured {
+    /// The median over the codes of call / Rust.
+    pub fn ratio(&self) -> f64 {
+        median(&self.ratios(|times| times.call))
+    }
+
+    fn ratios(&self, ours: fn(&Times) -> f64) -> Vec<f64> {
+        let ratio = |times: &Times| ours(times) / times.rust;
+        self.times.iter().map(ratio).collect()
+    }
+
+    fn middle(&self, of: fn(&Times) -> f64) -> f64 {
+        let values: Vec<f64> = self.times.iter().map(of).collect();
+        median(&values)
+    }
+
+    /// A line of the table.
+    pub fn row(&self, name: &str) -> String {
+        format!(
+            "| {name} | {} | {} | {:.3} | {:.3} | {:.2} | {:.2} | {:.2} | {} | {} |",
+            self.times.len(),
+            self.longest,
+            self.middle(|times| times.call),
+            self.middle(|times| times.rust),
+            self.ratio(),
+            highest(&self.ratios(|times| times.call)),
+            median(&self.ratios(|times| times.map)),
+            kibibytes(self.lent),
+            kibibytes(highest(&self.peaks) as usize)
+        )
+    }
+}
