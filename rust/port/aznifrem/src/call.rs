@@ -21,7 +21,6 @@ pub struct Lent<'a> {
 
 #[allow(unsafe_code)] // The library's contract asks nothing of its caller but valid slices.
 mod linked {
-    #[link(name = "aznifrem", kind = "static")]
     unsafe extern "C" {
         #[allow(clippy::too_many_arguments)]
         pub fn aznifrem_map(

@@ -10,7 +10,8 @@ use crate::{LONGEST_CODE, read};
 const LEAST_WRITTEN: u64 = 18;
 
 /// Maps codes in rooms that it keeps, so that a thousand of them allocate a few times. A room
-/// grows when the library refuses a call by its number; then the call is made again.
+/// grows when the library refuses a call by its number; then the call is made again. A room that
+/// one code made larger than 8 MiB is given back at the next, as every call wipes what it is lent.
 ///
 /// ```
 /// use aznifrem::{HIGHEST_LIMIT, Mapper};

@@ -53,17 +53,15 @@ fn moved_sides(lines: &mut Vec<String>, old: &Block, new: &Block) {
     let sides = sides(&old.btype).into_iter().zip(sides(&new.btype));
     for (name, (before, after)) in names.into_iter().zip(sides) {
         if before != after {
-            let (before, after) = (place(before), place(after));
             let start = old.start;
-            lines.push(format!(
-                "{name} moved: of block {start}, {before} -> {after}"
-            ));
+            let (before, after) = (place(before, "none"), place(after, "none"));
+            lines.push(format!("{name} moved: block {start}: {before} -> {after}"));
         }
     }
 }
 
-fn place(to: Option<usize>) -> String {
-    to.map_or("none".into(), |to| to.to_string())
+fn place(to: Option<usize>, missing: &str) -> String {
+    to.map_or(missing.into(), |to| to.to_string())
 }
 
 /// The record, block by block.
@@ -87,20 +85,37 @@ fn moved_paths(lines: &mut Vec<String>, start: usize, old: &[DynamicJump], new: 
     let mut went = without(old, new);
     let came = without(new, old);
     if went.is_empty() && came.is_empty() {
-        lines.push(format!("paths changed their order: of block {start}"));
+        lines.push(format!("paths changed their order: block {start}"));
     }
     for jump in came {
         let same = went.iter().position(|other| other.path == jump.path);
-        lines.push(match same.map(|at| went.remove(at)) {
-            Some(before) => {
-                let before = place(before.to);
-                format!("jump moved: of block {start}, {before} -> {jump}")
-            }
-            None => format!("jump came: of block {start}, {jump}"),
-        });
+        let after = place(jump.to, UNKNOWN);
+        let line = match same.map(|at| went.remove(at)) {
+            Some(before) => format!(
+                "moved: {}: {} -> {after}",
+                way(start, jump),
+                place(before.to, UNKNOWN)
+            ),
+            None => format!("came: {}: {after}", way(start, jump)),
+        };
+        lines.push(format!("jump {line}"));
     }
-    let gone = |jump: &&DynamicJump| format!("jump went: of block {start}, {jump}");
+    let gone = |jump: &&DynamicJump| {
+        format!(
+            "jump went: {}: {}",
+            way(start, jump),
+            place(jump.to, UNKNOWN)
+        )
+    };
     lines.extend(went.iter().map(gone));
+}
+
+/// A path without a destination.
+const UNKNOWN: &str = "unknown";
+
+fn way(start: usize, jump: &DynamicJump) -> String {
+    let path: Vec<String> = jump.path.iter().map(usize::to_string).collect();
+    format!("block {start} by path {}", path.join(", "))
 }
 
 /// The first list without the second, each as often as it is there.
@@ -189,9 +204,9 @@ mod tests {
             differences(&old, &new),
             [
                 "block changed: 0-1 Jump to 5 -> 0-1 Jump to 7",
-                "jump moved: of block 0, 5 -> 7",
+                "jump moved: block 0: 5 -> 7",
                 "block changed: 2-3 Jumpi to 5, else to 6 -> 2-3 Jumpi to 5, else to 8",
-                "false side moved: of block 2, 6 -> 8",
+                "false side moved: block 2: 6 -> 8",
             ]
         );
     }
@@ -206,7 +221,7 @@ mod tests {
             differences(&with(5), &with(9)),
             [
                 "block changed its paths: 7-8 DynamicJump, paths: 1",
-                "jump moved: of block 7, 5 -> to 9 by 7, 0",
+                "jump moved: block 7 by path 7, 0: 5 -> 9",
             ]
         );
     }
@@ -217,14 +232,14 @@ mod tests {
         let (first, second) = (jump(&[7, 0], Some(5)), jump(&[7, 3], Some(5)));
         let old = map(&blocks, &[(7, first.clone()), (7, second.clone())]);
         let new = map(&blocks, &[(7, second), (7, first)]);
-        let order = ["paths changed their order: of block 7"];
+        let order = ["paths changed their order: block 7"];
         assert_eq!(differences(&old, &new), order);
         let none = map(&blocks, &[(7, jump(&[7, 0], None))]);
         assert_eq!(
             differences(&old, &none),
             [
-                "jump moved: of block 7, 5 -> to nowhere known by 7, 0",
-                "jump went: of block 7, to 5 by 7, 3",
+                "jump moved: block 7 by path 7, 0: 5 -> unknown",
+                "jump went: block 7 by path 7, 3: 5",
             ]
         );
     }

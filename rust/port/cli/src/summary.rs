@@ -24,7 +24,7 @@ fn figures(name: &str, map: &Map) -> String {
     let found = map.records.iter().filter(|record| record.jump.to.is_some());
     let found = found.count();
     format!(
-        "{name}: {} bytes of code, {} blocks, {dynamic} of them dynamic ({unresolved} unresolved), {} paths recorded ({found} with a destination), energy {}\n",
+        "{name}: bytes {}; blocks {}, dynamic {dynamic}, unresolved {unresolved}; paths recorded {}, with a destination {found}; energy {}\n",
         map.code_length,
         map.blocks.len(),
         map.records.len(),

@@ -70,14 +70,14 @@ fn the_summary_can_be_read() {
     assert_eq!(exit, 0);
     assert_eq!(
         out,
-        "-: 9 bytes of code, 3 blocks, 0 of them dynamic (0 unresolved), 1 paths recorded (1 with a destination), energy 2
+        "-: bytes 9; blocks 3, dynamic 0, unresolved 0; paths recorded 1, with a destination 1; energy 2
   0-4 Jump to 7
   5-6 Terminate, success
   7-8 Jump to 5
 "
     );
     let (_, out, _) = all(&run_with(RETURN, &["--summary", "--limit=0", "-"]));
-    assert!(out.contains("1 of them dynamic (1 unresolved)"), "{out}");
+    assert!(out.contains("dynamic 1, unresolved 1;"), "{out}");
 }
 
 #[test]
@@ -137,7 +137,7 @@ fn a_night_is_stored_and_compared() {
     assert_eq!(same, (0, "maps: 2, differences: 0\n".into(), String::new()));
     let moved = all(&run(&here, &["diff", "first", "second"]));
     let lines = "deep/b.hex.map: block changed: 0-2 Jump to 3 -> 0-2 Jump to 4
-deep/b.hex.map: jump moved: of block 0, 3 -> 4
+deep/b.hex.map: jump moved: block 0: 3 -> 4
 deep/b.hex.map: block went: 3-4 Terminate, success
 deep/b.hex.map: block came: 4-5 Terminate, success
 maps: 2, differences: 4
