@@ -75,14 +75,30 @@ impl Mapper {
     /// # Ok::<(), aznifrem::Error>(())
     /// ```
     pub fn entries(&mut self, code: &[u8], limit: u64) -> Result<&[u8], Error> {
+        let kept = self.rooms.bytes() > 0;
+        let mut answer = self.answer(code, limit);
+        // What an earlier code needed must not stand in the way of this one.
+        if kept && matches!(answer, Err(Error::RoomFull { .. })) {
+            self.rooms.give_back();
+            answer = self.answer(code, limit);
+        }
+        self.written(answer?)
+    }
+
+    /// Calls until the library answers; gives the bytes that it says it has written.
+    fn answer(&mut self, code: &[u8], limit: u64) -> Result<u64, Error> {
         // A longer code is refused whatever is lent.
-        let length = code.len().min(LONGEST_CODE);
+        let length = if code.len() > LONGEST_CODE {
+            0
+        } else {
+            code.len()
+        };
         self.rooms.ready(length)?;
         loop {
             self.calls += 1;
             let number = call(code, limit, &mut self.rooms.lent(length));
             if number >= LEAST_WRITTEN {
-                return self.written(number);
+                return Ok(number);
             }
             self.answer_refusal(number, code.len(), limit)?;
         }

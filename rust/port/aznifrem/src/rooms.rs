@@ -112,7 +112,8 @@ impl Rooms {
         self.held.iter().map(Vec::len).sum()
     }
 
-    /// Before a call: every room at its start at least, and W as this code needs it.
+    /// Before a call: every room at its start at least, and W as this code needs it. If the ceiling
+    /// is too low for that, the call says so, after what it has to say first.
     pub fn ready(&mut self, code_length: usize) -> Result<(), Error> {
         for room in ROOMS {
             let start = room.start().min(self.ceiling / 8);
@@ -121,15 +122,17 @@ impl Rooms {
                 self.allocate(room, start)?;
             }
         }
-        let work = work(code_length);
         let lent = self.held[Room::W as usize].len();
-        if lent >= work {
-            return Ok(());
+        let work = work(code_length).min(lent.saturating_add(self.free()));
+        if lent < work {
+            self.allocate(Room::W, work)?;
         }
-        if work - lent > self.free() {
-            return Err(self.full(Room::W));
-        }
-        self.allocate(Room::W, work)
+        Ok(())
+    }
+
+    /// Forgets what earlier codes needed.
+    pub fn give_back(&mut self) {
+        self.held = Default::default();
     }
 
     /// Twice the room, or as much as the ceiling leaves.

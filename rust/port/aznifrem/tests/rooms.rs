@@ -73,6 +73,31 @@ fn the_ceiling_is_kept_and_named() {
 }
 
 #[test]
+fn what_an_earlier_code_needed_does_not_refuse_a_later_one() {
+    let ceiling = 2 << 20;
+    for (first, second) in [(diamonds(10), fan(1_600)), (fan(1_600), diamonds(10))] {
+        let mut mapper = Mapper::with_ceiling(ceiling);
+        for code in [&first, &second, &first] {
+            let alone = answered(&mut Mapper::with_ceiling(ceiling), code);
+            assert!(answered(&mut mapper, code) == alone);
+            assert!(mapper.lent() <= ceiling);
+        }
+    }
+}
+
+#[test]
+fn refusals_keep_their_order_under_any_ceiling() {
+    let mut mapper = Mapper::with_ceiling(0);
+    let number = |mapper: &mut Mapper, length: usize, limit: u64| {
+        let refused = mapper.map(&vec![0; length], limit).map(|_| ());
+        refused.expect_err("nothing may be lent").number()
+    };
+    assert_eq!(number(&mut mapper, 24_577, 500_001), Some(1));
+    assert_eq!(number(&mut mapper, 24_576, 500_001), Some(2));
+    assert_eq!(number(&mut mapper, 0, 500_000), Some(3));
+}
+
+#[test]
 fn any_ceiling_is_answered_or_named() {
     for ceiling in 0..4_000 {
         let mut mapper = Mapper::with_ceiling(ceiling);
