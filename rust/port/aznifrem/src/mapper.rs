@@ -137,3 +137,19 @@ impl Mapper {
         self.calls
     }
 }
+
+#[cfg(test)]
+mod tests {
+    use super::{Error, Mapper};
+
+    #[test]
+    fn numbers_that_document_01_does_not_have_are_told() {
+        let mut mapper = Mapper::new();
+        for number in [0, 10, 17] {
+            let told = mapper.answer_refusal(number, 1, 1);
+            assert_eq!(told, Err(Error::NoSuchAnswer { number }));
+        }
+        let number = 1 << 40;
+        assert_eq!(mapper.written(number), Err(Error::NoSuchAnswer { number }));
+    }
+}

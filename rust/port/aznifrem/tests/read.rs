@@ -141,6 +141,22 @@ fn bodies_are_as_long_as_their_kind_says() {
     assert_eq!(fault(&[head(0, 1), endless]), (18, Fault::Length(8)));
 }
 
+#[test]
+fn a_map_that_does_not_fit_is_not_written() {
+    let bytes = [head(1, 1), stop(0), record()].concat();
+    let map = Map::from_bytes(&bytes).expect("it is good");
+    let with = |to: Option<usize>, last: usize| {
+        let mut map = map.clone();
+        map.records[0].jump.to = to;
+        map.records[0].jump.path[1] = last;
+        map.to_bytes().map_err(|unwritable| unwritable.value)
+    };
+    assert_eq!(with(Some(5), 0), Ok(bytes));
+    assert_eq!(with(Some(0x8000), 0), Err(0x8000));
+    assert_eq!(with(Some(5), 65_536), Err(65_536));
+    assert!(with(None, 0x8000).is_ok());
+}
+
 /// Some hundred answers, with paths and records.
 fn answers() -> Vec<Vec<u8>> {
     let mut mapper = Mapper::new();

@@ -15,6 +15,7 @@ use crate::progress::Progress;
 use crate::summary;
 
 const HEADER: usize = 6;
+const DIGITS: &[u8; 16] = b"0123456789abcdef";
 
 pub fn run(options: &Options, out: &mut impl Write) -> io::Result<Outcome> {
     let mut outcome = Outcome::Fine;
@@ -125,9 +126,10 @@ fn lines(mut entries: &[u8]) -> String {
     while let Some(length) = entries.first_chunk().map(|four| u32::from_le_bytes(*four)) {
         let end = (HEADER + length as usize).min(entries.len());
         let (entry, rest) = entries.split_at(end);
-        entry
-            .iter()
-            .for_each(|byte| text.push_str(&format!("{byte:02x}")));
+        for byte in entry {
+            text.push(char::from(DIGITS[usize::from(byte >> 4)]));
+            text.push(char::from(DIGITS[usize::from(byte & 15)]));
+        }
         text.push('\n');
         entries = rest;
     }

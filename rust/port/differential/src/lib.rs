@@ -11,5 +11,6 @@ mod tally;
 
 pub use check::{Checker, Mismatch, Port, Verdict};
 pub use families::{FAMILIES, Family};
+pub use lend::{Given, call as fenced_call};
 pub use shrink::smaller;
 pub use tally::Tally;
