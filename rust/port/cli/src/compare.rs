@@ -243,4 +243,13 @@ mod tests {
             ]
         );
     }
+
+    #[test]
+    fn a_path_that_is_there_once_less_has_gone() {
+        let again = jump(&[7, 0], Some(5));
+        let dynamic = |to: Vec<DynamicJump>| map(&[block(7, BlockType::DynamicJump { to })], &[]);
+        let (twice, once) = (vec![again.clone(), again.clone()], vec![again]);
+        let lines = differences(&dynamic(twice), &dynamic(once));
+        assert_eq!(lines[1..], ["jump went: block 7 by path 7, 0: 5"]);
+    }
 }

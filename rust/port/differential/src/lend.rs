@@ -142,3 +142,24 @@ fn called(port: Port, code: &[u8], limit: u64, rooms: &mut [Room]) -> u64 {
     };
     port(code, limit, &mut lent)
 }
+
+#[cfg(test)]
+mod tests {
+    use super::Room;
+    use codes::Random;
+
+    #[test]
+    fn a_byte_on_either_side_of_a_room_is_seen() {
+        let fresh = || Room::new("S", 10, &mut Random::new(4));
+        assert_eq!(fresh().fences(), Ok(()));
+        let outside = [0, fresh().from - 1, fresh().to, fresh().bytes.len() - 1];
+        for at in outside {
+            let mut room = fresh();
+            room.bytes[at] ^= 1;
+            assert!(room.fences().is_err(), "byte {at}");
+        }
+        let mut room = fresh();
+        room.lent().fill(0);
+        assert_eq!((room.fences(), room.wiped()), (Ok(()), Ok(())));
+    }
+}
