@@ -164,7 +164,7 @@ planOf n limit head rooms =
       end = 64 * n + 256;
       head = head;
       buckets = (13 * n + 52) / 4;
-      shelves = min (rooms .t) (n + 64);
+      shelves = min (rooms .t) 0x10000;
       limit = limit;
       rooms = rooms;
     }

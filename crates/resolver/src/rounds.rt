@@ -85,12 +85,12 @@ fn rooms_of(p: &[u8], s: &[u8], t: &[u8], r: &[u8], q: &[u8]) -> Rooms
     }
 }
 
-// The plan of a search over a code of n bytes. T has as many buckets as rows, and no more than the code has bytes, and 64.
+// The plan of a search over a code of n bytes. T has a bucket for each of its rows, up to 65,536.
 fn plan_of(n: usize, limit: usize, head: usize, rooms: Rooms) -> Plan
     requires { ⌜ n ≤ 24576 ⌝ }
     ensures { λ k. ⌜ k ≡ planOf n limit head rooms ⌝ }
 {
-    let most = n + 64;
+    let most = 0x1_0000;
     let shelves = if rooms.t < most { rooms.t } else { most };
     Plan {
         n,

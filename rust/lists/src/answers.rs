@@ -17,7 +17,7 @@ pub struct Line {
 }
 
 impl Line {
-    fn new(limit: u64, lent: &Lent, code: &[u8]) -> Line {
+    pub fn new(limit: u64, lent: &Lent, code: &[u8]) -> Line {
         let Lent {
             w,
             p,
@@ -97,7 +97,7 @@ pub fn whole(code: &[u8]) -> Option<Map> {
     model::map(&ENOUGH, HIGHEST_LIMIT, code).ok()
 }
 
-fn hex(text: &str) -> Vec<u8> {
+pub fn hex(text: &str) -> Vec<u8> {
     codes::from_hex(text).expect("a code of this program is hexadecimal")
 }
 
@@ -184,7 +184,7 @@ fn corners() -> Vec<Line> {
     lines
 }
 
-fn energy(code: &[u8]) -> u64 {
+pub fn energy(code: &[u8]) -> u64 {
     whole(code).map_or(u64::MAX, |map| map.energy)
 }
 

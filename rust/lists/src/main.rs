@@ -1,9 +1,11 @@
-//! `lists [--check]`: writes `tests/answers.list` and `tests/rust.list`, the same bytes each time;
-//! with `--check` it writes nothing and fails if a file holds anything else.
+//! `lists [--check]`: writes `tests/answers.list`, `tests/rust.list` and the cases of
+//! `crates/trials`, the same bytes each time; with `--check` it writes nothing and fails if a file
+//! holds anything else.
 
 mod answers;
 mod maps;
 mod summary;
+mod trials;
 
 use std::fs;
 use std::path::{Path, PathBuf};
@@ -32,27 +34,33 @@ fn run(check: bool) -> Result<(), String> {
     let taken = answers.iter().map(|line| line.code.clone()).collect();
     let maps = maps::lines(taken);
     let texts: Vec<String> = answers.iter().map(answers::Line::text).collect();
-    settle(check, "answers.list", &texts)?;
+    settle(check, "tests/answers.list", &texts)?;
     println!("{}", summary::of_answers(&answers));
     let texts: Vec<String> = maps.iter().map(|code| maps::text(code)).collect();
-    settle(check, "rust.list", &texts)?;
+    settle(check, "tests/rust.list", &texts)?;
     println!("{}", summary::of_maps(&maps));
+    let trials = trials::lines();
+    let texts: Vec<String> = trials.iter().map(trials::case).collect();
+    settle(check, "crates/trials/stdin", &texts)?;
+    let texts: Vec<String> = trials.iter().map(trials::told).collect();
+    settle(check, "crates/trials/stdout", &texts)?;
+    println!("{}", summary::of_trials(&trials));
     Ok(())
 }
 
-/// The folder `tests` of the repository that this program was built in.
+/// The repository that this program was built in.
 fn folder() -> PathBuf {
-    Path::new(env!("CARGO_MANIFEST_DIR")).join("../../tests")
+    Path::new(env!("CARGO_MANIFEST_DIR")).join("../..")
 }
 
-/// Writes the lines to the list, or compares them with it.
+/// Writes the lines to the file, or compares them with it.
 fn settle(check: bool, name: &str, lines: &[String]) -> Result<(), String> {
     let path = folder().join(name);
     let text: String = lines.iter().map(|line| format!("{line}\n")).collect();
     if !check {
-        return fs::write(&path, text).map_err(|e| format!("cannot write tests/{name}: {e}"));
+        return fs::write(&path, text).map_err(|e| format!("cannot write {name}: {e}"));
     }
-    let there = fs::read_to_string(&path).map_err(|e| format!("cannot read tests/{name}: {e}"))?;
+    let there = fs::read_to_string(&path).map_err(|e| format!("cannot read {name}: {e}"))?;
     if there == text {
         return Ok(());
     }
@@ -62,7 +70,7 @@ fn settle(check: bool, name: &str, lines: &[String]) -> Result<(), String> {
         .take_while(|(old, new)| old == new)
         .count();
     Err(format!(
-        "tests/{name} is not what would be written, from line {} on",
+        "{name} is not what would be written, from line {} on",
         same + 1
     ))
 }

@@ -22,6 +22,15 @@ pub fn of_answers(lines: &[Line]) -> String {
     )
 }
 
+/// Cases of the program by refusal.
+pub fn of_trials(lines: &[Line]) -> String {
+    let mut numbers: BTreeMap<u8, usize> = BTreeMap::new();
+    for line in lines {
+        *numbers.entry(line.answer().number()).or_default() += 1;
+    }
+    format!("trials: {} cases; by number {numbers:?}", lines.len())
+}
+
 /// Codes by what is in their map.
 pub fn of_maps(codes: &[Vec<u8>]) -> String {
     let mut kinds: BTreeMap<u16, usize> = BTreeMap::new();

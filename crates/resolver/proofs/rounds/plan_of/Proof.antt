@@ -1,7 +1,7 @@
 -- `plan_of`: T has as many shelves as rows, up to a number. Assumes nothing.
 use mathlib.Core.Path.{_≡_}
 use mathlib.Core.Logic.{⊎-elim}
-use Prim.Native.Nat.{_+_, min}
+use Prim.Native.Nat.{min}
 use native.Mathlib.Omega.{arith}
 use borrow.Author.Needs.{needs}
 use Rattle.resolver.proofs.rounds.plan_of.Statement.{statement}
@@ -9,10 +9,10 @@ use Rattle.resolver.proofs.rounds.plan_of.Tie as tie
 
 returns : tie.Need-returns
 returns c =
-    let few : c .if1 .shelves ≡ min (c .before .before .args .rooms .t) (c .before .before .args .n + 64) = ⊎-elim (λ y. omega (arith, y)) (λ y. omega (arith, y)) (c .if1 .came) in
+    let few : c .if1 .shelves ≡ min (c .before .before .args .rooms .t) 0x10000 = ⊎-elim (λ y. omega (arith, y)) (λ y. omega (arith, y)) (c .if1 .came) in
     rw few
 
 pub plan-of-spec : {M : Type 1} → statement M
 plan-of-spec =
     tie.close
-    (tie.spec (λ c. search needs) (λ c. search needs) (λ c. search needs) (λ c. search needs) (λ c. search needs) returns)
+    (tie.spec (λ c. search needs) (λ c. search needs) (λ c. search needs) (λ c. search needs) returns)

@@ -1,0 +1,62 @@
+// From what is typed to the code.
+use lent::get8;
+use lent::put8;
+ghost use Prim.Native.Nat.{_≤_};
+ghost use lib.ListN.{length};
+ghost use Rattle.map.specs.Contracts.{Worth, Decodes};
+
+// What a character is worth as a digit, or 16.
+fn worth(c: usize) -> usize
+    ensures { λ v. ⌜ Worth c v ⌝ }
+{
+    if c < 0x30 {
+        return 16;
+    }
+    if c <= 0x39 {
+        return c - 0x30;
+    }
+    if c < 0x41 {
+        return 16;
+    }
+    if c <= 0x46 {
+        return c - 0x37;
+    }
+    if c < 0x61 {
+        return 16;
+    }
+    if c <= 0x66 {
+        return c - 0x57;
+    }
+    16
+}
+
+// The code that is typed, put at the start of `code`, and its length; or 513 where it is refused.
+pub fn decode(text: &[u8], code: &mut [u8]) -> usize
+    requires { ⌜ 512 ≤ length (now code) ⌝ }
+    ensures { λ n. ⌜ Decodes (now (text .entry)) (now (code .entry)) (now (code .exit)) n ⌝ }
+{
+    let size = text.len();
+    if 1025 < size {
+        return 513;
+    }
+    let mut i = 0;
+    while 2 * i + 1 < size {
+        let a = worth(get8(text, 2 * i));
+        let b = worth(get8(text, 2 * i + 1));
+        if 15 < a {
+            return 513;
+        }
+        if 15 < b {
+            return 513;
+        }
+        put8(code, i, 16 * a + b);
+        i += 1;
+    }
+    if 2 * i == size {
+        return i;
+    }
+    if get8(text, 2 * i) == 0x0A {
+        return i;
+    }
+    513
+}
