@@ -1,5 +1,5 @@
-//! `lists [--check]`: writes `tests/answers.list`, `tests/rust.list` and the cases of
-//! `crates/trials`, the same bytes each time; with `--check` it writes nothing and fails if a file
+//! `lists [--check]`: writes `tests/answers.list`, `tests/rust.list`, `tests/rooms.list` and the cases
+//! of `crates/trials`, the same bytes each time; with `--check` it writes nothing and fails if a file
 //! holds anything else.
 
 mod answers;
@@ -45,7 +45,23 @@ fn run(check: bool) -> Result<(), String> {
     let texts: Vec<String> = trials.iter().map(trials::told).collect();
     settle(check, "crates/trials/stdout", &texts)?;
     println!("{}", summary::of_trials(&trials));
+    let rooms = rooms(&answers, &trials);
+    let texts: Vec<String> = rooms.iter().map(|line| line.text()).collect();
+    settle(check, "tests/rooms.list", &texts)?;
+    println!("rooms: {} calls", rooms.len());
     Ok(())
+}
+
+/// Calls of the trials on short codes that `tests/answers.list` does not have: with it more than
+/// a thousand whose numbers the definitions give.
+fn rooms<'a>(answers: &[answers::Line], trials: &'a [answers::Line]) -> Vec<&'a answers::Line> {
+    let known: std::collections::HashSet<String> = answers.iter().map(|line| line.text()).collect();
+    let short = trials
+        .iter()
+        .filter(|line| line.code.len() <= 20 && answers::energy(&line.code) <= 12);
+    let new: Vec<_> = short.filter(|line| !known.contains(&line.text())).collect();
+    let step = (new.len() / 280).max(1);
+    new.into_iter().step_by(step).take(280).collect()
 }
 
 /// The repository that this program was built in.
