@@ -10,7 +10,6 @@ use Rattle.spec.specs.Ending.{finals, pruned}
 use Rattle.spec.specs.Entries.{Map, bytes}
 use Rattle.spec.specs.Answer as spec
 use Rattle.spec.specs.Answer.{prepared, searched, mapped, within-out, within-rooms, numberOf, written, output-after}
-use Rattle.theorems.proofs.Energy.{search-energy}
 use Rattle.initial.specs.Contracts.{Initial}
 use Rattle.parents.specs.Contracts as parents
 use Rattle.parents.specs.Contracts.{Known, Prepared}
@@ -60,7 +59,7 @@ module _ {limit : ℕ} {code w w₁ : List ℕ} (l : Lends limit code w) (i : In
       module _ (z : d .code ≡ 0) (long : length (m₃ .w) ≡ length w₂) where
         run-fits : graph.Fits code (m₃ .s) (plan code limit head (buffers w₂ P S T R Q) .rooms .s) (length code) (d .counts .records) (m₃ .w) (m₃ .r) (m₃ .q)
         run-fits =
-            search-fits limit code (s .tables z) refl (known-prefix (m₃ .w) (sym (s .rows z)) (p .known) .blocks)
+            search-fits limit code (s .between z .idle .tables) refl (known-prefix (m₃ .w) (sym (s .rows z)) (p .known) .blocks)
             (record { short = l .short; room = omega (arith, l .lent, long, long-w) }) (s .recs z)
 
         pub run-graphs : Graphs (length code) (d .counts .records) (m₃ .w) (m₃ .r) (m₃ .q)
@@ -83,7 +82,7 @@ module _ {limit : ℕ} {code w w₁ : List ℕ} (l : Lends limit code w) (i : In
             recs = found;
             ends = run-ends;
             short = l .short;
-            small = omega (arith, s .energy z, search-energy limit (prepared code), l .limited);
+            small = omega (arith, s .energy-most z, l .limited);
           }
 
           map-is : mapOf code found (d .energy) ≡ mapped code (searched limit code)

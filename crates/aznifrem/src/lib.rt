@@ -3,7 +3,7 @@ use answer::map_code;
 ghost use Rattle.steps.specs.Runs.{buffers};
 ghost use Rattle.aznifrem.specs.Contracts.{Exported};
 
-// Maps a code at an energy limit over seven lent buffers; gives the number of the refusal, or the bytes written, which are never under 18.
+// Maps a code at an energy limit over seven lent buffers; gives the number of the refusal, or the bytes written, which are never under 18 (`answered-long`).
 #[no_mangle]
 pub extern "C" fn aznifrem_map(
     limit: u64,

@@ -11,34 +11,24 @@ pub struct Walker<'a> {
 }
 
 impl<'a> Walker<'a> {
-    // A walker at the start of the code.
-    pub fn new(code: &'a [u8]) -> Walker<'a>
-        ensures { λ r. ⌜ r ≡ walkerAt (code .entry) 0 ⌝ }
+    // A walker at a place of the code.
+    pub fn new(code: &'a [u8], at: usize) -> Walker<'a>
+        ensures { λ r. ⌜ r ≡ walkerAt (code .entry) at ⌝ }
     {
-        Walker { code, at: 0 }
+        Walker { code, at }
     }
 
     // What stands at the walker's place.
-    pub fn next(self) -> Step
+    pub fn here(self) -> Step
         ensures { λ r. ⌜ r ≡ stepAt (now (self .entry .code)) (self .entry .at) ⌝ }
     {
         step_at(self.code, self.at)
     }
-
-    // The walker at another place of the same code.
-    pub fn moved(self, at: usize) -> Walker<'a>
-        ensures { λ r. ⌜ r ≡ walkerAt (self .entry .code) at ⌝ }
-    {
-        Walker {
-            code: self.code,
-            at,
-        }
-    }
 }
 
-// What stands at the start of the code.
-pub fn first(code: &[u8]) -> Step
-    ensures { λ r. ⌜ r ≡ stepAt (now (code .entry)) 0 ⌝ }
+// What a walker at a place of the code finds. A loop calls this: over the struct itself it would be proved by hand.
+pub fn step_from(code: &[u8], at: usize) -> Step
+    ensures { λ r. ⌜ r ≡ stepAt (now (code .entry)) at ⌝ }
 {
-    Walker::next(Walker::new(code))
+    Walker::here(Walker::new(code, at))
 }

@@ -4,7 +4,7 @@ use lent::get16;
 use lent::get32;
 use lent::put32;
 use reachable::begin;
-use tables::link::NONE;
+use tables::NONE;
 ghost use mathlib.Core.Path.{_≡_};
 ghost use Prim.Native.Nat.{_<_};
 ghost use Rattle.reachable.specs.Contracts.{Room};

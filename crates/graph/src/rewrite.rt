@@ -9,7 +9,7 @@ use lent::get16;
 use lent::get32;
 use lent::put16;
 use lent::put32;
-use tables::link::NONE;
+use tables::NONE;
 ghost use Prim.Native.Nat.{_+_, _*_, _≤_, _<_};
 ghost use lib.ListN.{length};
 ghost use Rattle.graph.specs.Contracts.{EdgeIs, EdgePut, RewritesRow, RewroteRow, Rewrites, Rewrote};

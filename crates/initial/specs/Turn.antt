@@ -19,7 +19,7 @@ use Rattle.initial.specs.declared.turn.Mode.the-variants.{Opened, Waitin
 use Rattle.initial.specs.declared.turn.Turn.{Turn}
 use Rattle.initial.specs.declared.turn.Turn.the-variants.{Goes, Closes}
 
--- A destination is kept in two bytes: past any code's end 0xffff stands for it.
+-- A destination is kept in two bytes: 0xffff stands for one above, which is past the end of any code too.
 abbrev pub clip : Kind → Kind
 clip (terminate success) = terminate success
 clip (jump t) = jump (min t 0xFFFF)

@@ -8,7 +8,7 @@ use crate::turn::closes;
 use crate::turn::cut_of;
 use crate::turn::terminate;
 use evm::walk::Step;
-use evm::walk::step_at;
+use evm::walker::step_from;
 use lent::wipe_part;
 ghost use mathlib.Core.List.{_++_, map};
 ghost use lib.ListN.{length};
@@ -31,7 +31,7 @@ pub fn cut(code: &[u8], w: &mut [u8])
     let mut prev = 0;
     let mut at = 0;
     loop {
-        match step_at(code, at) {
+        match step_from(code, at) {
             Step::End => {
                 last(w, n, mode, prev);
                 return;

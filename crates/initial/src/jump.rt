@@ -14,7 +14,7 @@ ghost use Rattle.initial.specs.Rows.{typeOf};
 ghost use Rattle.initial.specs.Turn.{clip, pushedAt, targetOf};
 ghost use Rattle.initial.specs.Contracts.{Whole};
 
-// Where a jump goes: to a number that was pushed, 0xffff if it is past any code, or to what only the stack can say.
+// Where a jump goes: to a number that was pushed, one over 0xffff kept as 0xffff, or to what only the stack can say.
 pub enum Target {
     Static(usize),
     Dynamic,

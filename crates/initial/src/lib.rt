@@ -1,10 +1,10 @@
 // Cuts code into blocks, written as rows of the lent buffer W, and checks where their jumps go.
-pub mod check;
-pub mod cut;
-pub mod jump;
-pub mod op;
+mod check;
+mod cut;
+mod jump;
+mod op;
 pub mod row;
-pub mod turn;
+mod turn;
 
 use crate::check::check;
 use crate::cut::cut;

@@ -9,7 +9,7 @@ ghost use Rattle.initial.specs.Contracts.{Put, TypeIs};
 // The bytes of a row.
 pub const ROW: usize = 20;
 
-// Where its fields stand; the kind is its first byte.
+// Where its fields stand; the kind is first, in two bytes of which the second is 0 until a block takes turns.
 pub const END: usize = 2;
 
 pub const TO: usize = 4;

@@ -14,15 +14,14 @@ use Rattle.theorems.proofs.Branch.{if-true, if-false}
 use Rattle.initial.specs.Rows.{typed, tagAt, typeAt}
 use Rattle.initial.specs.Contracts.{TypeIs, Put}
 use Rattle.state.specs.Symbols.{symOf}
-use Rattle.state.specs.Owns.{goesOf, roomOf, Runs, Owned}
+use Rattle.state.specs.Owns.{goesOf, Runs, Owned}
 use Rattle.state.specs.declared.sym.StackSym.{StackSym}
 use Rattle.state.specs.declared.sym.StackSym.the-variants.{Before, Constant, Jumpdest, Other}
 use Rattle.state.specs.declared.run.Goes.the-variants.{To, Nowhere}
 use Rattle.state.specs.declared.run.Own.{Own}
-use Rattle.lent.proofs.Parts.{take-less}
 use Rattle.initial.specs.declared.row.BlockType.{BlockType}
 use Rattle.parents.specs.Writes.{link, linkSides, takeTurn, staticType, place, goesAt}
-use Rattle.parents.specs.Contracts.{scratch, Sides, LinkRoom, Wrote, Settles, Ran, Settled, Placed, Number}
+use Rattle.parents.specs.Contracts.{Sides, LinkRoom, Wrote, Settles, Ran, Settled, Placed, Number}
 
 pub number-is : {k at r : ℕ} {w : List ℕ} → Holds k w at r → Number r (numAt k w at) k
 number-is h = record { is = h .is; small = h .small }
@@ -138,7 +137,7 @@ module _ {code w : List ℕ} {end a : ℕ} (s : Settles code w end a) {t : Block
     ran-in : Ran code w end w₁
     ran-in =
         record {
-          front = take-less w₁ w (end - roomOf code) (d .inside .front) (end - scratch code) (omega arith);
+          front = d .inside .front;
           back = d .inside .back;
           kept = d .inside .kept;
         }

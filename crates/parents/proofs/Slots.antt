@@ -24,7 +24,8 @@ use Rattle.initial.specs.declared.row.BlockType.{BlockType}
 use Rattle.parents.specs.Links.{firstAt}
 use Rattle.parents.specs.Rows.{ownBytes, linkBytes, edgeTo, firstTo, toPast, otherPast}
 use Rattle.parents.specs.Writes.{link, linkSides, takeTurn, staticType, place}
-use Rattle.parents.specs.Contracts.{scratch, Beside, Ran}
+use Rattle.state.specs.Owns.{roomOf}
+use Rattle.parents.specs.Contracts.{Beside, Ran}
 use Rattle.parents.proofs.Parts.{part-stored}
 use Rattle.parents.proofs.Falls.{Within}
 
@@ -75,20 +76,20 @@ module _ (code w₀ : List ℕ) (end a : ℕ) (w : List ℕ) where
     pub firsts : (x : ℕ) → x ≤ length code → first w′ x ≡ little 2 (F x)
     pub beside : Beside code w₀ end w′
 
-module _ {code w₀ : List ℕ} {end : ℕ} (room : 20 * (length code + 1) + scratch code ≤ end) (inside : end ≤ length w₀) where
+module _ {code w₀ : List ℕ} {end : ℕ} (room : 20 * (length code + 1) + roomOf code ≤ end) (inside : end ≤ length w₀) where
   beside-row : {w w′ bs : List ℕ} {m at : ℕ} → Beside code w₀ end w → Stored m w at bs w′ → at + m ≤ 20 * (length code + 1) → Beside code w₀ end w′
   beside-row {w} {w′} b s h =
       record {
-        between = ap (λ (v : List ℕ). take (end - scratch code - 20 * (length code + 1)) v) (kept-drop s (20 * (length code + 1)) h) ∙ b .between;
+        between = ap (λ (v : List ℕ). take (end - roomOf code - 20 * (length code + 1)) v) (kept-drop s (20 * (length code + 1)) h) ∙ b .between;
         past = kept-drop s end (omega arith) ∙ b .past;
         kept = s .kept ∙ b .kept;
       }
 
   pub beside-ran : {w w′ : List ℕ} → Beside code w₀ end w → Ran code w end w′ → Beside code w₀ end w′
   beside-ran {w} {w′} b r =
-      let k : ℕ = end - scratch code - 20 * (length code + 1) in
+      let k : ℕ = end - roomOf code - 20 * (length code + 1) in
       record {
-        between = part-prefix w′ w (end - scratch code) (r .front) k (20 * (length code + 1)) (omega arith) ∙ b .between;
+        between = part-prefix w′ w (end - roomOf code) (r .front) k (20 * (length code + 1)) (omega arith) ∙ b .between;
         past = r .back ∙ b .past;
         kept = r .kept ∙ b .kept;
       }
@@ -98,7 +99,7 @@ module _ {code w₀ : List ℕ} {end : ℕ} (room : 20 * (length code + 1) + scr
         → Rows code w₀ end a w w′ (own w a) (links w a) F
     rows-ran {w′} b f r =
         let part : (k i : ℕ) → i + k ≤ 20 * (length code + 1) → take k (drop i w′) ≡ take k (drop i w) =
-        λ k i h. part-prefix w′ w (end - scratch code) (r .front) k i (omega arith) in
+        λ k i h. part-prefix w′ w (end - roomOf code) (r .front) k i (omega arith) in
         record {
           own-here = part 12 (20 * a) (omega arith);
           links-here = part 6 (20 * a + 14) (omega arith);
@@ -163,7 +164,7 @@ module _ {code w₀ : List ℕ} {end : ℕ} (room : 20 * (length code + 1) + scr
 
 -- ---- sides are linked
 
-module _ {code w₀ : List ℕ} {end : ℕ} (room : 20 * (length code + 1) + scratch code ≤ end) (inside : end ≤ length w₀) {a : ℕ} {w : List ℕ} (here : a ≤ length code) where
+module _ {code w₀ : List ℕ} {end : ℕ} (room : 20 * (length code + 1) + roomOf code ≤ end) (inside : end ≤ length w₀) {a : ℕ} {w : List ℕ} (here : a ≤ length code) where
   rows-link : {w₁ o l : List ℕ} {F : ℕ → ℕ} → Rows code w₀ end a w w₁ o l F → (side t : ℕ) {w₂ : List ℕ} → side ≤ 1 → t ≤ length code → F t < 65536
       → w₂ ≡ link w₁ a side t → Rows code w₀ end a w w₂ o (patch l (2 * side) (little 2 (F t))) (λ x. if (eqb x t) (2 * a + side + 1) (F x))
   unfolding link
@@ -232,7 +233,7 @@ linksPlaced (some (other pc)) head = linkBytes 0 0 0
 static-small : (t : BlockType) (u : ℕ) → staticType t u .kind / 256 % 256 ≡ 0
 static-small t u = both (λ (k : BlockType). k .kind / 256 % 256 ≡ 0) (eqb (t .kind) 5) (λ _. refl) (λ _. refl)
 
-module _ {code w₀ : List ℕ} {end : ℕ} (room : 20 * (length code + 1) + scratch code ≤ end) (inside : end ≤ length w₀) {a : ℕ} {w : List ℕ} (here : a ≤ length code)
+module _ {code w₀ : List ℕ} {end : ℕ} (room : 20 * (length code + 1) + roomOf code ≤ end) (inside : end ≤ length w₀) {a : ℕ} {w : List ℕ} (here : a ≤ length code)
     (t : BlockType) (e head : ℕ) (small : e < 65536) {F : ℕ → ℕ} {w₁ : List ℕ}
     (r : Rows code w₀ end a w w₁ (ownBytes (t .kind) 0 e (t .to) (t .other) 0) (linkBytes 0 0 0) F) where
   turn-placed : (p : ℕ) {w₂ : List ℕ} → w₂ ≡ takeTurn w₁ a p head → Rows code w₀ end a w w₂ (ownPlaced t e (some (before p))) (linksPlaced (some (before p)) head) F

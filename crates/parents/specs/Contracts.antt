@@ -11,25 +11,23 @@ use Rattle.spec.specs.Search.{Node, takers}
 use Rattle.spec.specs.Answer.{prepared}
 use Rattle.initial.specs.Rows.{tagAt, typeAt, blocksAt, Laid}
 use Rattle.initial.specs.declared.row.BlockType.{BlockType}
+use Rattle.state.specs.Owns.{roomOf}
 use Rattle.parents.specs.Links.{firstAt, startOf, Parents, turnOf, Takers, directTo, fromOf}
 use Rattle.parents.specs.Rows.{rowFor}
 use Rattle.parents.specs.Writes.{place, headPast, goesAt}
 
 -- ---- what is lent: the rows as `initial_blocks` leaves them, and past them a part for the runs, which ends at `end`
 
-abbrev pub scratch : List ℕ → ℕ
-scratch code = 9 * (length code + 18)
-
 pub record Lent (code w : List ℕ) (end : ℕ) : Type 0 where
   pub short : length code ≤ 24576
   pub same : blocksAt w (length code) ≡ blocks code (instructions code)
   pub laid : Laid w (length code)
-  pub room : 20 * (length code + 1) + scratch code ≤ end
+  pub room : 20 * (length code + 1) + roomOf code ≤ end
   pub inside : end ≤ length w
 
 -- W changed in its rows and in the part for the runs alone
 pub record Beside (code w : List ℕ) (end : ℕ) (w′ : List ℕ) : Type 0 where
-  pub between : take (end - scratch code - 20 * (length code + 1)) (drop (20 * (length code + 1)) w′) ≡ take (end - scratch code - 20 * (length code + 1)) (drop (20 * (length code + 1)) w)
+  pub between : take (end - roomOf code - 20 * (length code + 1)) (drop (20 * (length code + 1)) w′) ≡ take (end - roomOf code - 20 * (length code + 1)) (drop (20 * (length code + 1)) w)
   pub past : drop end w′ ≡ drop end w
   pub kept : length w′ ≡ length w
 
@@ -56,12 +54,12 @@ pub record Settles (code w : List ℕ) (end a : ℕ) : Type 0 where
   pub stands : 5 ≤ tagAt w a → from a (instructions code) ≡ walk (drop a code) a 0
   pub short : length code ≤ 24576
   pub row : a ≤ length code
-  pub room : 20 * (length code + 1) + scratch code ≤ end
+  pub room : 20 * (length code + 1) + roomOf code ≤ end
   pub inside : end ≤ length w
 
 -- the run changed its part alone
 pub record Ran (code w : List ℕ) (end : ℕ) (w′ : List ℕ) : Type 0 where
-  pub front : take (end - scratch code) w′ ≡ take (end - scratch code) w
+  pub front : take (end - roomOf code) w′ ≡ take (end - roomOf code) w
   pub back : drop end w′ ≡ drop end w
   pub kept : length w′ ≡ length w
 

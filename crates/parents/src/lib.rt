@@ -1,6 +1,6 @@
 // Prepares the blocks for the search: dynamic jumps that their own block settles, the blocks that take turns, and the direct parents.
 pub mod link;
-pub mod settle;
+mod settle;
 pub mod taker;
 
 use crate::link::link_sides;

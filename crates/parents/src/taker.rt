@@ -11,7 +11,7 @@ ghost use Rattle.parents.specs.Links.{positionAt, takerAt};
 ghost use Rattle.parents.specs.Writes.{takeTurn};
 ghost use Rattle.parents.specs.Contracts.{Wrote, Number};
 
-// Where a row has the turn flag, the position that is asked for, and the link to the next block that takes turns.
+// Where a row has the turn flag, which no function reads, the position that is asked for, and the link to the next block that takes turns.
 const TURN: usize = 1;
 
 const POSITION: usize = 8;

@@ -1,4 +1,4 @@
-// Marks, when an address was reached, and flags, whether its own sides have been followed.
+// Marks, when an address was reached, and flags, whether its own sides have been followed or wait to be.
 use initial::row::ROW;
 use lent::get8;
 use lent::get32;
@@ -12,7 +12,7 @@ ghost use Rattle.reachable.specs.Contracts.{Room, Address, Begun, Marked
 // Where an address's flag stands among its 20 bytes; its mark is first.
 pub const FLAG: usize = 18;
 
-// Makes every mark, flag and field of others 0.
+// Makes every mark and flag, and what other crates keep beside them, 0.
 pub fn begin(w: &mut [u8], n: usize)
     requires { ⌜ Room n (now w) ⌝ }
     ensures { λ _. ⌜ Begun n (now (w .entry)) (now (w .exit)) ⌝ }
@@ -32,7 +32,7 @@ pub fn is_marked(w: &[u8], n: usize, a: usize, by: usize) -> bool
     m <= by
 }
 
-// Have the sides of a been followed?
+// Have the sides of a been followed, or do they wait to be?
 pub fn is_flagged(w: &[u8], n: usize, a: usize) -> bool
     requires { ⌜ Address n (now w) a ⌝ }
     ensures { λ r. ⌜ r ≡ mem a (flagged (now (w .entry)) n) ⌝ }

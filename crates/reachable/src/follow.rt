@@ -19,7 +19,7 @@ ghost use Rattle.reachable.specs.Marks.{entryAt};
 ghost use Rattle.reachable.specs.Edges.{sidesAt};
 ghost use Rattle.reachable.specs.Contracts.{Room, Going, SidesWithin, Took};
 
-// Where the worklist starts, over the number of addresses.
+// Where the worklist starts, in bytes an address.
 pub const LIST: usize = 40;
 
 // The last entry of the worklist.
@@ -40,7 +40,7 @@ fn push(w: &mut [u8], n: usize, count: usize, x: usize)
     put16(w, LIST * (n + 1) + 2 * count, x);
 }
 
-// Takes x: if it is not flagged it is, is marked, and waits in the worklist, whose number of entries is the answer.
+// Takes x: an address that is not flagged is flagged and marked, and waits in the worklist, whose number of entries is the answer.
 pub fn enter(w: &mut [u8], n: usize, x: usize, when: usize, count: usize) -> usize
     requires { ⌜ Going n (now w) x when count ⌝ }
     ensures { λ r. ⌜ Took n when (x ∷ []) (now (w .entry)) count (now (w .exit)) r ⌝ }

@@ -39,7 +39,7 @@ pub fn link(w: &mut [u8], n: usize, r: &mut [u8], m: usize, by: usize)
     }
 }
 
-// The first row of the key x, and 1 more.
+// The number of the first row of the key x plus 1, or 0.
 pub fn first_row(w: &[u8], n: usize, x: usize, by: usize) -> usize
     requires { ⌜ Address n (now w) x ⌝ }
     requires { ⌜ Key by ⌝ }
@@ -48,7 +48,7 @@ pub fn first_row(w: &[u8], n: usize, x: usize, by: usize) -> usize
     get32(w, ROW * (n + 1 + x) + (HEADS + by))
 }
 
-// The next row of the same key after row i, and 1 more.
+// The number of the next row of the same key after row i plus 1, or 0.
 pub fn next_row(r: &[u8], i: usize, by: usize) -> usize
     requires { ⌜ 32 * i + 32 ≤ length (now r) ⌝ }
     requires { ⌜ Key by ⌝ }

@@ -1,20 +1,18 @@
 -- What is skipped, and what a path ends in by the symbol read. Assumes nothing.
-use mathlib.Core.Path.{_≡_, refl, ap, _∙_, sym}
-use Prim.Native.Nat.{ℕ, _+_, _*_, _≤_, _<_}
+use mathlib.Core.Path.{_≡_, refl, ap, _∙_}
+use Prim.Native.Nat.{ℕ, _*_, _≤_, _<_}
 use native.Mathlib.Omega.{arith}
-use mathlib.Core.Bool.{Bool, true, false, not, _&&_}
+use mathlib.Core.Bool.{Bool, false, not}
 use mathlib.Core.List.{List}
-use lib.Dec.{eqb, ltb}
+use lib.Dec.{eqb}
 use borrow.Author.Tests.{lt-ltb, le-ltb}
-use Rattle.spec.specs.Stacks.{Sym, before, constant, jumpdest, other, Stack}
+use Rattle.spec.specs.Stacks.{before, constant, jumpdest, other, Stack}
 use Rattle.spec.specs.Search.{Found, nowhere, found}
 use Rattle.state.specs.Symbols.{symOf}
 use Rattle.state.specs.Cells.{tag, value, stackAt}
-use Rattle.state.specs.declared.sym.StackSym.{StackSym}
 use Rattle.state.specs.declared.sym.StackSym.the-variants.{Before, Constant, Jumpdest, Other}
 use Rattle.tables.specs.Tables as tables
 use Rattle.tables.specs.declared.Answer.{Answer}
-use Rattle.tables.specs.declared.Entry.{Entry}
 use Rattle.tables.specs.declared.row.Seen.{Seen}
 use Rattle.parents.specs.Links.{startOf}
 use Rattle.steps.specs.Paths.{countAt}
@@ -51,15 +49,15 @@ ends-other : {s : Stack} {y : Found} {pc : ℕ} → Ends s (other pc) y → y �
 ends-other at-other = refl
 
 pub ended-with : {p : List ℕ} {np start : ℕ} {k : Plan} {m m′ : tables.Mem} {l : Level} {o d : Run} {y : Found} {a : Answer} {e : Opening}
-    → Noted p np k m (o .counts) start y m′ a → d ≡ afterWith o a → e ≡ shutWith d l → Ended p np k m start l o y m′ e
+    → Noted p np k m (o .counts) start y m′ a → d ≡ afterWith o (a .code) (a .counts) → e ≡ shutWith d l → Ended p np k m start l o y m′ e
 ended-with n f g = rw (g, f) (record { is = refl; energy = refl; noted = n })
 
 module _ {p : List ℕ} {np start : ℕ} {k : Plan} {m : tables.Mem} {l : Level} {x : Seen} {o : Run} where
   -- a Before has no end
-  pub arrived-before : {n : ℕ} → x .symbol ≡ Before n → Arrived p np k m start l x o m (openWith o np n x l)
-  arrived-before {n} e = record {
-    opens = λ i h. (ap (λ (j : ℕ). openWith o np j x l) (ap value (rw e at h)), refl);
-    ends = λ y h. absurd (none-there (rw e at h));
+  pub arrived-before : {n : ℕ} {e : Opening} → x .symbol ≡ Before n → e ≡ openWith o np n x l → Arrived p np k m start l x o m e
+  arrived-before {n} g f = record {
+    opens = λ i h. (f ∙ ap (λ (j : ℕ). openWith o np j x l) (ap value (rw g at h)), refl);
+    ends = λ y h. absurd (none-there (rw g at h));
   }
     where
       none-there : {y : Found} → Ends (stackAt (m .s) (9 * x .from) (x .cells)) (before n) y → ⊥

@@ -5,7 +5,7 @@ use mathlib.Core.List.{List, [], _∷_, map}
 use Prim.Native.Nat.{ℕ, _+_, _*_, _/_, _≤_}
 use native.Mathlib.Omega.{arith}
 use lib.Dec.{ltb, leb}
-use lib.ListN.{length, take, replicate, length-replicate}
+use lib.ListN.{length, take, drop, replicate, length-replicate}
 use Rattle.spec.specs.Lists.{if, mem}
 use Rattle.spec.specs.Blocks.{Block}
 use Rattle.spec.specs.Search as search
@@ -15,9 +15,11 @@ use Rattle.spec.specs.Answer.{prepared}
 use Rattle.theorems.proofs.Branch.{both}
 use Rattle.theorems.proofs.Members.{In, in-map}
 use Rattle.theorems.proofs.Older.{clear}
+use Rattle.theorems.proofs.Energy.{search-energy}
 use Rattle.lent.specs.Bytes.{Stored, numAt}
+use Rattle.lent.proofs.Parts.{drop-more}
 use Rattle.lent.proofs.Numbers.{num-zeros}
-use Rattle.lent.proofs.Stored.{stored, kept-take, kept-num, read-num}
+use Rattle.lent.proofs.Stored.{stored, kept-take, kept-drop, kept-num, read-num}
 use Rattle.tables.specs.Records.{recsOf}
 use Rattle.tables.specs.Rows.{metOf}
 use Rattle.tables.specs.Tables.{NoLinks}
@@ -39,9 +41,10 @@ use Rattle.reachable.proofs.Marks.{begun-num, begun-rows}
 use Rattle.reachable.proofs.Rows.{gather-in, map-in, within-sides, closed-sides, sides-kept, node-edges}
 use Rattle.steps.specs.Paths.{occurs}
 use Rattle.steps.specs.Runs.{Mem, buffers, stOf}
-use Rattle.resolver.specs.Turns.{Idle, RoundsAsks, Rounds, SearchAsks, Searched, roomsOf, planOf, plan, begunRun}
+use Rattle.resolver.specs.Turns.{Idle, Between, last-since, Rounds, SearchAsks, Searched, roomsOf, planOf, plan, begunRun}
 use Rattle.steps.specs.declared.Plan.{Plan}
 use Rattle.steps.specs.declared.Run.{Run}
+use Rattle.resolver.proofs.Rolling.{between-marked}
 
 -- ---- what `reach` asks
 
@@ -85,6 +88,11 @@ module _ {code w w₁ w₂ : List ℕ} {limit head : ℕ} (a : SearchAsks code w
 
   begin-rows : take (20 * (n + 1)) w₂ ≡ take (20 * (n + 1)) w
   begin-rows = kept-take s (20 * (n + 1)) (omega arith) ∙ r .kept .rows ∙ begun-rows begun
+
+  begin-beyond : drop (64 * n + 256) w₂ ≡ drop (64 * n + 256) w
+  begin-beyond =
+      kept-drop s (64 * n + 256) (omega arith) ∙ drop-more w₁ (wiped n w) (42 * (n + 1)) (r .kept .beyond) (64 * n + 256) (omega arith)
+      ∙ kept-drop (begun .wipes) (64 * n + 256) (omega arith)
 
   -- what is before the heads stays
   stays : (k i : ℕ) → i + k ≤ 42 * (n + 1) → numAt k w₂ i ≡ numAt k w₁ i
@@ -177,8 +185,8 @@ module _ {code w w₁ w₂ : List ℕ} {limit head : ℕ} (a : SearchAsks code w
             let z : j ≡ 0 = omega arith in
             rw (z, begin-marks x h) (fresh-mark (mem x (flagged w₂ n)) ∙ begin-flags x ∙ sym (or-false (mem x (reached-by (prepared code) []))))
 
-    begin-asks : RoundsAsks code k (buffers w₂ p s′ t₁ r′ q) begunRun
-    begin-asks = record { idle = begin-idle; none-yet = refl; spent = refl; flags = begin-flags }
+    begin-between : Between code k 0 (buffers w₂ p s′ t₁ r′ q) begunRun
+    begin-between = record { idle = begin-idle; flags = begin-flags }
 
     -- ---- what it gives
 
@@ -205,15 +213,22 @@ module _ {code w w₁ w₂ : List ℕ} {limit head : ℕ} (a : SearchAsks code w
       unfolding search.search shortage
       short l h = f .did .short l h begin begins refl
 
+      energy : d .code ≡ 0 → d .energy ≡ search.search limit (prepared code) .energy
+      energy z = sym (ap (λ (x : St). x .energy) (made z))
+
+      between : d .code ≡ 0 → Between code k (last-since 128 limit (prepared code) 0 begin) m′ d
+      between z = rw begins (f .between z)
+
       begin-searched : Searched code limit head (buffers w p s′ t r′ q) m′ d
       begin-searched = record {
         short = λ l ep es et er eq. sym (short l (lends l ep es et er eq));
         recs = λ z. sym (ap (λ (x : St). x .recs) (made z));
-        energy = λ z. sym (ap (λ (x : St). x .energy) (made z));
-        tables = f .tables;
-        sound = f .sound;
+        energy = energy;
+        energy-most = λ z. omega (arith, energy z, search-energy limit (prepared code));
+        between = between;
         rows = λ z. f .rows z ∙ begin-rows;
-        reached = λ z. rw begins (f .reached z);
+        beyond = λ z. f .beyond z ∙ begin-beyond;
+        reached = λ z. between-marked (between z);
       }
 
 -- ---- the same, by the values that the functions give
@@ -228,10 +243,10 @@ search-begins t ek e = record { inT = omega (arith, ap (λ (x : Plan). x .shelve
 module _ {code w p s t r q : List ℕ} {limit head : ℕ} {rooms : Rooms} {k : Plan} (er : rooms ≡ roomsOf p s t r q) (ek : k ≡ planOf (length code) limit head rooms) where
   module _ {w₁ w₂ t₁ : List ℕ} {o : Run} (a : SearchAsks code w limit head) (e : Reaches (length code) w w₁)
       (h : Stored (4 * k .buckets) w₁ (42 * (length code + 1)) (replicate (4 * k .buckets) 0) w₂) (f : Emptied (k .shelves) t t₁) (eo : o ≡ begunRun) where
-    pub search-asks : RoundsAsks code k (buffers w₂ p s t₁ r q) o
+    pub search-asks : Between code k 0 (buffers w₂ p s t₁ r q) o
     search-asks =
         let is : k ≡ plan code limit head (buffers w p s t r q) = ek ∙ ap (planOf (length code) limit head) er in
-        rw (is, eo) (begin-asks a e (rw is at h) p q r s t t₁ (rw is at f))
+        rw (is, eo) (begin-between a e (rw is at h) p q r s t t₁ (rw is at f))
 
     pub search-done : {m′ : Mem} {d : Run} → Rounds code k (buffers w₂ p s t₁ r q) o m′ d → Searched code limit head (buffers w p s t r q) m′ d
     search-done g =

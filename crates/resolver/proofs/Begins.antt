@@ -3,7 +3,7 @@ use mathlib.Core.Path.{_≡_, refl, sym, ap, _∙_}
 use mathlib.Core.List.{List, [], _∷_}
 use Prim.Native.Nat.{ℕ, _+_, _-_, _*_, _^_, _≤_, _<_}
 use native.Mathlib.Omega.{arith}
-use lib.ListN.{take, drop}
+use lib.ListN.{length, take, drop}
 use Rattle.spec.specs.Lists.{little, total}
 use Rattle.spec.specs.Walk.{instructions}
 use Rattle.spec.specs.Stacks.{cells, run}
@@ -30,7 +30,7 @@ use Rattle.steps.specs.declared.Plan.{Plan}
 use Rattle.steps.specs.declared.Level.{Level}
 use Rattle.steps.specs.declared.Run.{Run}
 use Rattle.resolver.specs.Fits.{Fits, levelOf, Stands}
-use Rattle.resolver.specs.Turns.{Idle, begunWith}
+use Rattle.resolver.specs.Turns.{Idle, begunWith, Places, Placed}
 use Rattle.resolver.proofs.Works.{Alike, alike-then, alike-counts, alike-run, counts-run, alike-marks, alike-known, alike-room}
 use Rattle.resolver.proofs.Taking.{Taking}
 
@@ -42,6 +42,37 @@ module _ {p p₁ : List ℕ} {start : ℕ} (put : Stored 2 p 0 (little 2 start) 
 
   pub inside-one : {n : ℕ} → start ≤ n → Inside n (addrs p₁ 0 1)
   inside-one {n} h = rw path-one (record { each = λ a i. let e : a ≡ start = in-only i in omega (arith, e, h) })
+
+-- ---- the first level in place
+
+module _ {w p s : List ℕ} {k : Plan} {start : ℕ} {own : Own} (a : Places w p s k start own) where
+  pub place-copies : (0 + 9 * own .n ≤ length s) × (own .at + 9 * own .n ≤ length w)
+  place-copies = (omega (arith, a .lentS), a .lentW)
+
+  pub place-puts : 0 + 2 ≤ length p
+  place-puts = omega (arith, a .lentP)
+
+  pub place-counts : {p₁ : List ℕ} → Stored 2 p 0 (little 2 start) p₁ → Counting (k .n) w p₁ 0 1
+  unfolding addrs
+  place-counts put =
+      record {
+        lent = a .lent;
+        inP = omega (arith, put .fits, put .kept);
+        most = omega arith;
+        order = omega arith;
+        inside = inside-one put (omega (arith, a .inside, a .lent .short)) (a .inside);
+        counts = a .counts;
+      }
+
+  pub place-reads : {p₁ w₁ : List ℕ} → Counted (k .n) w p₁ 1 w₁ → 20 * start + 20 ≤ length w₁
+  place-reads counted = omega (arith, a .inside, a .lent .room, counted .only .long)
+
+pub place-done : {w w₁ p p₁ s s₁ : List ℕ} {k : Plan} {start position : ℕ} {own : Own} → Stored (9 * own .n) s 0 (take (9 * own .n) (drop (own .at) w)) s₁
+    → Stored 2 p 0 (little 2 start) p₁ → Counted (k .n) w p₁ 1 w₁ → Number position (positionAt w₁ start) 4
+    → Placed w p s k start own w₁ p₁ s₁ (record { np = 1; position = position; from = 0; cells = own .n; left = 255 })
+place-done copied put counted reads = record { copied = copied; put = put; counted = counted; reads = reads; is = refl }
+
+-- ---- the turn's first level
 
 module _ {code : List ℕ} {k : Plan} {reached : List ℕ} {since : ℕ} {m : Mem} {o : Run} (idle : Idle code k reached since m o) where
   -- the cells in use, with a first state and nothing met yet
@@ -71,35 +102,33 @@ module _ {code : List ℕ} {k : Plan} {reached : List ℕ} {since : ℕ} {m : Me
       ran : Alike (k .n) (k .buckets) (m .w) w₁
       ran = alike-run (k .n) (k .buckets) (owned .inside) (idle .planned .scratch)
 
-      -- its start is counted
-      pub count-asks : {p₁ : List ℕ} → Stored 2 (m .p) 0 (little 2 start) p₁ → Counting (k .n) w₁ p₁ 0 1
-      unfolding addrs
-      count-asks put =
+      -- its state and its start have room
+      pub place-asks : (k .rooms .p ≡ 0 → ⊥) → o .counts .kept + own .n ≤ k .rooms .s → Places w₁ (m .p) (m .s) k start own
+      place-asks some room =
           record {
             lent = alike-room ran (idle .planned .lentW);
-            inP = omega (arith, put .fits, put .kept);
-            most = omega arith;
-            order = omega arith;
-            inside = inside-one put taker-small (taking .inside);
+            inside = taking .inside;
             counts = counts-run (k .n) (k .buckets) (owned .inside) (idle .planned .scratch) (idle .counts);
+            lentP = omega (arith, idle .planned .lentP, some);
+            lentS = omega (arith, room, idle .tables .within .lentS);
+            lentW = omega (arith, owned .high, owned .inside .kept, idle .planned .ends);
           }
 
-      module _ {p₁ s₁ w₂ : List ℕ} (room : o .counts .kept + own .n ≤ k .rooms .s) (copied : Stored (9 * own .n) (m .s) 0 (take (9 * own .n) (drop (own .at) w₁)) s₁)
-          (put : Stored 2 (m .p) 0 (little 2 start) p₁) (counted : Counted (k .n) w₁ p₁ 1 w₂) where
+      module _ {p₁ s₁ w₂ : List ℕ} {l : Level} (room : o .counts .kept + own .n ≤ k .rooms .s) (placed : Placed w₁ (m .p) (m .s) k start own w₂ p₁ s₁ l) where
         abbrev now : Mem
         now = buffers w₂ p₁ s₁ (m .t) (m .r) (m .q)
 
         pub begun-alike : Alike (k .n) (k .buckets) (m .w) w₂
-        begun-alike = alike-then ran (alike-counts (counted .only) (k .buckets))
+        begun-alike = alike-then ran (alike-counts (placed .counted .only) (k .buckets))
 
         lies : Lies s₁ 0 (own .n) (run code (instructions code) start .stack)
-        lies = lies-copied copied (owned .lies)
+        lies = lies-copied (placed .copied) (owned .lies)
 
         top : drop (9 * (k .rooms .s - o .counts .kept)) s₁ ≡ drop (9 * (k .rooms .s - o .counts .kept)) (m .s)
-        top = kept-drop copied (9 * (k .rooms .s - o .counts .kept)) (omega (arith, room))
+        top = kept-drop (placed .copied) (9 * (k .rooms .s - o .counts .kept)) (omega (arith, room))
 
         pub begun-recs : recsIn k now (begunWith o (own .n) .counts) ≡ recsIn k m (o .counts)
-        begun-recs = recs-stay (idle .tables) w₂ s₁ (begun-alike .links) top (copied .kept)
+        begun-recs = recs-stay (idle .tables) w₂ s₁ (begun-alike .links) top (placed .copied .kept)
 
         -- document 01's state is the same
         pub begun-state : stOf k now (begunWith o (own .n)) ≡ stOf k m o
@@ -120,22 +149,22 @@ module _ {code : List ℕ} {k : Plan} {reached : List ℕ} {since : ℕ} {m : Me
                 lentW = alike-room begun-alike (g .lentW);
                 ends = omega (arith, g .ends, begun-alike .links .long);
                 scratch = g .scratch;
-                lentP = omega (arith, g .lentP, put .kept);
+                lentP = omega (arith, g .lentP, placed .put .kept);
                 mostP = g .mostP;
                 shelves = g .shelves;
               };
               stored = refl;
               started = is;
               starts = taking .inside;
-              tables = tables-kept (idle .tables) w₂ s₁ (begun-alike .links) top (copied .kept) (own .n) 0 room;
+              tables = tables-kept (idle .tables) w₂ s₁ (begun-alike .links) top (placed .copied .kept) (own .n) 0 room;
               remembers = record {
-                rows = λ i l. absurd (omega (arith, l));
-                inside = λ i l. absurd (omega (arith, l));
+                rows = λ i h. absurd (omega (arith, h));
+                inside = λ i h. absurd (omega (arith, h));
                 shelves = rw (idle .rowless) at (r .shelves);
                 fitsT = omega arith;
                 lentT = r .lentT;
                 mostT = r .mostT;
-                fitsS = omega (arith, copied .fits, copied .kept);
+                fitsS = omega (arith, placed .copied .fits, placed .copied .kept);
                 mostS = omega (arith, room, idle .tables .within .mostS);
               };
               packs = record { is = sym own-cells };
@@ -145,30 +174,29 @@ module _ {code : List ℕ} {k : Plan} {reached : List ℕ} {since : ℕ} {m : Me
               sound = rw begun-recs (idle .sound);
             }
 
-        module _ {position : ℕ} (reads : Number position (positionAt w₂ start) 4) where
-          abbrev first : Level
-          first = record { np = 1; position = position; from = 0; cells = own .n; left = 255 }
+        abbrev first : Level
+        first = record { np = 1; position = l .position; from = 0; cells = own .n; left = 255 }
 
-          position-is : position ≡ x .position
-          position-is =
-              reads .is ∙ num-prefix w₂ (m .w) (20 * (k .n + 1)) (begun-alike .rows) 4 (20 * start + 8) (omega (arith, taking .inside)) ∙ sym (taking .position)
+        position-is : l .position ≡ x .position
+        position-is =
+            placed .reads .is ∙ num-prefix w₂ (m .w) (20 * (k .n + 1)) (begun-alike .rows) 4 (20 * start + 8) (omega (arith, taking .inside)) ∙ sym (taking .position)
 
-          pub begun-stands : (k .rooms .p ≡ 0 → ⊥) → Stands k now (begunWith o (own .n) .counts) first
-          begun-stands some =
-              record {
-                some = omega arith;
-                room = omega (arith, some);
-                inside = inside-one put taker-small (taking .inside);
-                state = lies .state;
-                low = omega arith;
-                sound = rw (lies .is) (taking .sound);
-                near = omega (arith, position-is, taking .near, idle .planned .lentW .short);
-                left = omega arith;
-              }
+        pub begun-stands : (k .rooms .p ≡ 0 → ⊥) → Stands k now (begunWith o (own .n) .counts) first
+        begun-stands some =
+            record {
+              some = omega arith;
+              room = omega (arith, some);
+              inside = inside-one (placed .put) taker-small (taking .inside);
+              state = lies .state;
+              low = omega arith;
+              sound = rw (lies .is) (taking .sound);
+              near = omega (arith, position-is, taking .near, idle .planned .lentW .short);
+              left = omega arith;
+            }
 
-          -- and its level is the turn's first
-          pub begun-level : x .start ≡ start → levelOf now first ≡ record { path = x .start ∷ []; position = x .position; state = x .first }
-          begun-level is =
-              let path = path-one put taker-small ∙ ap (λ (a : ℕ). a ∷ []) (sym is) in
-              let state = lies .is ∙ sym (taking .first) in
-              λ i. record { path = path i; position = position-is i; state = state i }
+        -- and its level is the turn's first
+        pub begun-level : x .start ≡ start → levelOf now first ≡ record { path = x .start ∷ []; position = x .position; state = x .first }
+        begun-level is =
+            let path = path-one (placed .put) taker-small ∙ ap (λ (a : ℕ). a ∷ []) (sym is) in
+            let state = lies .is ∙ sym (taking .first) in
+            λ i. record { path = path i; position = position-is i; state = state i }

@@ -1,21 +1,21 @@
 -- What of a turn's buffers stays when a step changes some of them. Assumes nothing.
 use mathlib.Core.Path.{_≡_, refl, sym, ap, _∙_}
 use mathlib.Core.Logic.{_⊎_, inl, inr}
-use Prim.Native.Nat.{ℕ, suc, _+_, _-_, _*_, _^_, _≤_, _<_}
+use Prim.Native.Nat.{ℕ, _+_, _-_, _*_, _≤_}
 use native.Mathlib.Omega.{arith}
 use mathlib.Core.List.{List, [], _∷_, _++_}
-use lib.ListN.{length, take, drop}
+use lib.ListN.{length, take}
 use Rattle.spec.specs.Stacks.{Stack, cells}
-use Rattle.spec.specs.Search.{Found, Rec, St, Turn}
+use Rattle.spec.specs.Search.{Found, Rec, Turn}
 use Rattle.theorems.proofs.Members.{In, in-cases, in-only}
-use Rattle.lent.proofs.Parts.{take-less}
+use Rattle.lent.proofs.Parts.{take-less, drop-more}
 use Rattle.lent.proofs.Numbers.{num-prefix}
 use Rattle.state.specs.Owns.{roomOf}
 use Rattle.tables.specs.Addrs.{addrs}
 use Rattle.tables.specs.Records.{recsOf}
 use Rattle.tables.specs.Rows.{metOf, usedOf}
-use Rattle.tables.specs.Tables.{mem, recs, Tables, SameLinks}
-use Rattle.tables.specs.Mets.{Remembers, Packs, Memorized, remembering}
+use Rattle.tables.specs.Tables.{mem, recs, SameLinks}
+use Rattle.tables.specs.Mets.{Remembers, Packs, Memorized}
 use Rattle.tables.specs.declared.Rooms.{Rooms}
 use Rattle.tables.specs.declared.Counts.{Counts}
 use Rattle.tables.specs.declared.Answer.{Answer}
@@ -28,7 +28,7 @@ use Rattle.reachable.proofs.Frames.{num-in}
 use Rattle.steps.specs.Sound.{SoundRec}
 use Rattle.steps.specs.States.{Took}
 use Rattle.steps.specs.Lands.{Noted}
-use Rattle.steps.specs.Runs.{Mem, buffers, recsIn, stOf}
+use Rattle.steps.specs.Runs.{Mem, buffers, stOf}
 use Rattle.resolver.specs.Fits.{Planned, Fits, Stays}
 use Rattle.steps.specs.declared.Plan.{Plan}
 use Rattle.steps.specs.declared.Level.{Level}
@@ -134,6 +134,7 @@ module _ {code : List ℕ} {k : Plan} {t : Turn} {since start : ℕ} {w p s T r 
       bottom = o .bottom;
       rows = taken-rows;
       flags = flagged-same w w′ (k .n) (λ a h. num-prefix w′ w (k .end - roomOf code) (o .front) 1 (20 * (k .n + 1 + a) + 18) (omega (arith, f .planned .scratch)));
+      beyond = o .back;
       uses = omega arith;
       more = omega arith;
       older = recs-take r q s′ (k .rooms .s) (c .records) (c .records) (omega arith) ∙ taken-recs;
@@ -166,6 +167,7 @@ module _ {code : List ℕ} {k : Plan} {t : Turn} {since start : ℕ} {w p s T r 
       bottom = refl;
       rows = refl;
       flags = refl;
+      beyond = refl;
       uses = omega arith;
       more = omega arith;
       older = recs-take r q s (k .rooms .s) (c .records) (c .records) (omega arith);
@@ -216,6 +218,7 @@ module _ {code : List ℕ} {k : Plan} {t : Turn} {since start : ℕ} {w p s T r 
       bottom = o .around .bottom;
       rows = o .around .front;
       flags = flagged-same w w′ (k .n) (λ a h. num-in w′ w 8 (20 * (k .n + 1) + 20 * a + 12) (o .around .rests a h) 1 (20 * (k .n + 1 + a) + 18) (omega arith) (omega arith));
+      beyond = drop-more w′ w (42 * (k .n + 1) + 4 * k .buckets) (o .around .back) (k .end) (omega (arith, f .planned .scratch));
       uses = omega (arith, o .used);
       more = noted-more;
       older = noted-older o;

@@ -2,7 +2,7 @@
 use mathlib.Core.Path.{_≡_, refl, ap, _∙_}
 use mathlib.Core.Bool.{true, false, not}
 use mathlib.Core.List.{List}
-use Prim.Native.Nat.{ℕ, _+_, _*_, _<_}
+use Prim.Native.Nat.{ℕ, _+_, _*_, _<_, _≤_}
 use native.Mathlib.Omega.{arith}
 use borrow.Author.Tests.{not-true, not-false}
 use Rattle.spec.specs.Search.{Turn, level}
@@ -45,6 +45,10 @@ module _ {code : List ℕ} {k : Plan} {start : ℕ} {l : Level} {at : ℕ} {m : 
     fits : Fits code k (pre .entering .turn) (pre .entering .since) start (buffers w₁ p₁ s₁ t₁ r₁ q₁) (e .run .counts)
     fits = out .fits (opens .code)
 
+    -- the counts stand before W's part for runs
+    counts-low : 40 * (k .n + 1) ≤ k .end
+    counts-low = omega (arith, fits .planned .scratch)
+
     -- a level with less weight left
     pub opens-lighter : 2 * e .level .left + 1 < 2 * l .left
     opens-lighter = omega (arith, opens .lighter)
@@ -55,7 +59,7 @@ module _ {code : List ℕ} {k : Plan} {start : ℕ} {l : Level} {at : ℕ} {m : 
     module _ {w₂ : List ℕ} (c : Counted (k .n) w₁ p₁ (e .level .np) w₂) where
       stands : Stands k (buffers w₂ p₁ s₁ t₁ r₁ q₁) (e .run .counts) (e .level)
       stands =
-          stands-stay (e .level) (stays-counts (c .only)) (opens .stands)
+          stands-stay (e .level) (stays-counts counts-low (c .only)) (opens .stands)
           (omega (arith, fits .tables .within .fitsS, fits .tables .within .lentS))
 
       pub parent-opens : Opened code k start (e .level) (buffers w₂ p₁ s₁ t₁ r₁ q₁) (e .run)
@@ -111,7 +115,7 @@ module _ {code : List ℕ} {k : Plan} {start : ℕ} {l : Level} {at : ℕ} {m : 
             stays : (t : Turn) (since b : ℕ) → After t since b → Stays k (l .np) m (o .counts) (buffers w₄ p₃ s₃ t₃ r₃ q₃) (d .counts)
             stays t since b x =
                 stays-then (x .stays (opens .code))
-                (stays-then (stays-counts (c .only)) (stays-then (stays-less (opens .longer) (tried t since b x .stays z)) (stays-counts (u .only))))
+                (stays-then (stays-counts counts-low (c .only)) (stays-then (stays-less (opens .longer) (tried t since b x .stays z)) (stays-counts counts-low (u .only))))
 
             pub parent-done : Tried code k start l at m o (buffers w₄ p₃ s₃ t₃ r₃ q₃) d
             parent-done = record {

@@ -1,40 +1,38 @@
 -- Steps 2 and 3 of a parent, and what comes after them. Assumes nothing.
-use mathlib.Core.Path.{_≡_, refl, sym, ap, ap₂, _∙_}
+use mathlib.Core.Path.{_≡_, refl, sym, ap, _∙_}
 use mathlib.Core.Logic.{_⊎_, inl, inr}
-use Prim.Native.Nat.{ℕ, zero, suc, _+_, _-_, _*_, _^_, _≤_, _<_}
+use Prim.Native.Nat.{ℕ, zero, suc, _+_, _-_, _*_, _≤_, _<_}
 use native.Mathlib.Omega.{arith}
 use native.Mathlib.Decide.{decLt}
 use mathlib.Core.Bool.{Bool, true, false, not, _&&_}
 use mathlib.Core.List.{List, [], _∷_, _++_}
-use lib.Dec.{eqb, ltb, leb}
-use lib.ListN.{length, take, drop, length-append}
+use lib.Dec.{eqb, ltb}
+use lib.ListN.{length, take, length-append}
 use borrow.Author.Tests.{lt-ltb, le-ltb, le-leb, lt-leb}
 use Rattle.spec.specs.Lists.{if, mem}
 use Rattle.spec.specs.Search as search
-use Rattle.spec.specs.Search.{Found, nowhere, Rec, P, St, need, in-use, Turn, record-nowhere, follow, loops}
+use Rattle.spec.specs.Search.{nowhere, P, St, need, Turn, record-nowhere, follow, loops}
 use Rattle.spec.specs.Rooms.{Lent, or-else, shortage}
 use Rattle.theorems.proofs.Branch.{if-true, if-false}
 use Rattle.theorems.proofs.Older.{clear}
 use Rattle.theorems.proofs.Growth.{Later, later}
 use Rattle.theorems.proofs.Carried.{carry-nowhere, carry-follow}
-use Rattle.state.specs.Cells.{stackAt}
 use Rattle.tables.specs.Addrs.{addrs}
-use Rattle.tables.specs.Records.{Row}
 use Rattle.tables.specs.Rows.{metOf}
 use Rattle.tables.specs.Tables as tables
-use Rattle.tables.specs.Recording.{Lends, shortOf, roomOf, noted, Holding}
+use Rattle.tables.specs.Recording.{Lends, shortOf, noted, Holding}
 use Rattle.tables.specs.declared.Rooms.{Rooms}
 use Rattle.tables.specs.declared.Counts.{Counts}
-use Rattle.tables.proofs.Addrs.{addrs-length, addrs-prefix}
+use Rattle.tables.proofs.Addrs.{addrs-length}
 use Rattle.tables.proofs.Uses.{cells-in-use}
 use Rattle.parents.specs.Links.{startOf}
 use Rattle.steps.specs.Cursors.{pathCursor}
 use Rattle.steps.specs.Paths.{countAt, OnPath, Growing, Grown}
 use Rattle.steps.specs.Sound.{SoundRec}
 use Rattle.steps.specs.Lands.{Strays, Noted}
-use Rattle.steps.specs.Runs.{Mem, buffers, recsIn, stOf, Did}
-use Rattle.resolver.specs.Fits.{Fits, levelOf, Stands, held, Parental, Stays}
-use Rattle.resolver.specs.Enters.{refusedWith, shutWith, SkipAsks, skips, going, onward, Ended, Opens, Outcome, Entering, Entered, Following, Followed}
+use Rattle.steps.specs.Runs.{Mem, buffers, stOf, Did}
+use Rattle.resolver.specs.Fits.{Fits, levelOf, held, Stays}
+use Rattle.resolver.specs.Enters.{refusedWith, shutWith, SkipAsks, skips, going, onward, Ended, Outcome, Entering, Entered, Following, Followed}
 use Rattle.steps.specs.declared.Plan.{Plan}
 use Rattle.steps.specs.declared.Level.{Level}
 use Rattle.steps.specs.declared.Run.{Run}
@@ -61,7 +59,7 @@ fits-p k u h = rw (le-leb u (k .p) h)
 pub stays-path : (k : Plan) (np : ℕ) (w p s t r q p′ : List ℕ) (c : Counts) → take (2 * np) p′ ≡ take (2 * np) p
     → Stays k np (buffers w p s t r q) c (buffers w p′ s t r q) c
 stays-path k np w p s t r q p′ c e =
-    record { path = e; bottom = refl; rows = refl; flags = refl; uses = omega arith; more = omega arith; older = recs-take r q s (k .rooms .s) (c .records) (c .records) (omega arith) }
+    record { path = e; bottom = refl; rows = refl; flags = refl; beyond = refl; uses = omega arith; more = omega arith; older = recs-take r q s (k .rooms .s) (c .records) (c .records) (omega arith) }
 
 module _ {code : List ℕ} {k : Plan} {start : ℕ} {l : Level} {at : ℕ} {w p s t r q : List ℕ} {o : Run} (h : Entering code k start l at (buffers w p s t r q) o) where
   abbrev path : List ℕ

@@ -1,14 +1,13 @@
 -- What `follow` asks on its way, and the ways in which it ends. Assumes nothing.
 use mathlib.Core.Path.{_≡_, refl, sym, ap, _∙_}
-use Prim.Native.Nat.{ℕ, _+_, _-_, _*_, _^_, _≤_, _<_}
+use Prim.Native.Nat.{ℕ, _*_, _≤_}
 use native.Mathlib.Omega.{arith}
-use mathlib.Core.Bool.{Bool, true, false}
-use mathlib.Core.List.{List, _++_}
+use mathlib.Core.Bool.{true, false}
+use mathlib.Core.List.{List}
 use lib.ListN.{length}
 use Rattle.spec.specs.Lists.{lastOf}
-use Rattle.spec.specs.Stacks.{Sym, before, constant, jumpdest, other, Stack, read, compose}
+use Rattle.spec.specs.Stacks.{Sym, before, constant, jumpdest, other}
 use Rattle.spec.specs.Search.{Found, nowhere, found, Turn, follow}
-use Rattle.lent.specs.Bytes.{numAt, Holds}
 use Rattle.state.specs.Symbols.{symOf}
 use Rattle.state.specs.Cells.{stackAt}
 use Rattle.tables.specs.Addrs.{addrs}
@@ -22,8 +21,8 @@ use Rattle.steps.specs.States.{Took}
 use Rattle.steps.specs.Meets as meets
 use Rattle.steps.specs.Meets.{Meets}
 use Rattle.steps.specs.Runs.{Mem, buffers}
-use Rattle.resolver.specs.Fits.{Fits, levelOf, held}
-use Rattle.resolver.specs.Enters.{refusedWith, shutWith, openWith, Ends, at-jumpdest, at-constant, at-other, Ended, Arriving, Arrived, Outcome, Following, Followed}
+use Rattle.resolver.specs.Fits.{levelOf, held}
+use Rattle.resolver.specs.Enters.{afterWith, refusedWith, shutWith, Ends, at-jumpdest, at-constant, at-other, Arriving, Arrived, Outcome, Saw, Following, Followed}
 use Rattle.steps.specs.declared.Plan.{Plan}
 use Rattle.steps.specs.declared.Level.{Level}
 use Rattle.steps.specs.declared.Run.{Run}
@@ -47,44 +46,44 @@ module _ {code : List ℕ} {k : Plan} {start : ℕ} {l : Level} {at np : ℕ} {w
   followed-short n f g turn since b fits = rw (g, f) (follow-short h a turn since b fits n)
 
   -- the last block of the path in hand
-  pub follow-path : (h .more ≡ 0 → ⊥) × (2 * (np - 1) + 2 ≤ length p)
-  follow-path = (omega (arith, h .some), omega (arith, h .room, h .is, h .some, h .entering .fits .planned .lentP))
+  pub follow-sees : (1 ≤ np) × (2 * np ≤ length p)
+  follow-sees = (omega (arith, h .is, h .some), omega (arith, h .room, h .entering .fits .planned .lentP))
 
-  module _ {last : ℕ} (is-last : Holds 2 p (2 * (np - 1)) last) (x0 : x .code ≡ 0) where
-    last-is : last ≡ lastOf (addrs p 0 np)
-    last-is = is-last .is ∙ sym (last-of p np (omega (arith, h .is, h .some)))
+  module _ {y : Seen} (saw : Saw p np x (o .counts .used) y) (x0 : x .code ≡ 0) where
+    last-is : y .last ≡ lastOf (addrs p 0 np)
+    last-is = saw .last .is ∙ sym (last-of p np (omega (arith, h .is, h .some)))
 
     abbrev m : Seen
-    m = record { last = last; symbol = x .symbol; from = o .counts .used; cells = x .cells }
+    m = record { last = y .last; symbol = x .symbol; from = o .counts .used; cells = x .cells }
 
-    pub follow-meets : Meets t s′ k (o .counts) m
+    pub follow-meets : Meets t s′ k (o .counts) y
     follow-meets =
         let f = h .entering .fits in
-        record {
+        rw (saw .is) (record {
           remembers = remembers-kept (f .remembers) s′ (a .bottom) (omega (arith, a .longS));
-          fresh = record { state = a .lies x0 .state; next = refl; last = omega (arith, is-last .small); most = omega (arith, a .fits x0, f .tables .within .mostS) };
+          fresh = record { state = a .lies x0 .state; next = refl; last = omega (arith, saw .last .small); most = omega (arith, a .fits x0, f .tables .within .mostS) };
           some = f .planned .shelves;
-        }
+        })
 
-    module _ {t′ : List ℕ} {g : Meeting} (met : meets.Met t s′ k (o .counts) m t′ g) where
+    module _ {t′ : List ℕ} {g : Meeting} (gives : meets.Met t s′ k (o .counts) y t′ g) where
+      met : meets.Met t s′ k (o .counts) m t′ g
+      met = rw (saw .is) at gives
+
       -- it was met before
       pub followed-met : {e : Opening} → g .met ≡ true → e ≡ shutWith o l → Followed code k start l at np (buffers w p s t r q) o (buffers w′ p s′ t′ r q) e
-      followed-met y c turn since b fits = rw c (follow-met h a turn since b fits x0 last-is met y (h .entering .unrefused))
+      followed-met again c turn since b fits = rw c (follow-met h a turn since b fits x0 last-is met again (h .entering .unrefused))
 
       -- T is short
-      pub followed-full : {e : Opening} → g .met ≡ false → (g .code ≡ 0 → ⊥) → e ≡ shutWith (record { code = g .code; energy = o .energy; counts = g .counts }) l
+      pub followed-full : {d : Run} {e : Opening} → g .met ≡ false → (g .code ≡ 0 → ⊥) → d ≡ afterWith o (g .code) (g .counts) → e ≡ shutWith d l
           → Followed code k start l at np (buffers w p s t r q) o (buffers w′ p s′ t′ r q) e
-      followed-full y n c turn since b fits = rw c (follow-full h a turn since b fits x0 last-is met y n)
+      followed-full unmet n f c turn since b fits = rw (c, f) (follow-full h a turn since b fits x0 last-is met unmet n)
 
-      module _ (unmet : g .met ≡ false) (g0 : g .code ≡ 0) where
-        abbrev here : Run
-        here = record { code = g .code; energy = o .energy; counts = g .counts }
-
-        pub follow-arriving : Arriving p np k (mem w′ r q s′) start l m here
+      module _ (unmet : g .met ≡ false) (g0 : g .code ≡ 0) {here : Run} (here-is : here ≡ afterWith o (g .code) (g .counts)) where
+        pub follow-arriving : Arriving p np k (mem w′ r q s′) start l y here
         follow-arriving =
             let f = h .entering .fits in
             let v = fits-met (fits-taken f a) (met .new unmet) g0 (a .fits x0) in
-            record {
+            rw (saw .is, here-is) (record {
               lent = v .planned .lentW;
               nowhere = record {
                 tables = v .tables;
@@ -94,15 +93,18 @@ module _ {code : List ℕ} {k : Plan} {start : ℕ} {l : Level} {at np : ℕ} {w
               };
               state = a .lies x0 .state;
               inside = omega (arith, ap (λ (c : Counts). c .used) (met .new unmet .counts g0));
-              lands = λ y e. sound-read (h .entering .parental .sound) (l .position) (sym (a .symbol-is) ∙ e);
+              lands = λ to e. sound-read (h .entering .parental .sound) (l .position) (sym (a .symbol-is) ∙ e);
               left = h .left;
-            }
+            })
 
         -- the symbol decides
-        pub followed-arrived : {w₂ r₂ q₂ s₂ : List ℕ} {e : Opening} → Arrived p np k (mem w′ r q s′) start l m here (mem w₂ r₂ q₂ s₂) e
+        pub followed-arrived : {w₂ r₂ q₂ s₂ : List ℕ} {e : Opening} → Arrived p np k (mem w′ r q s′) start l y here (mem w₂ r₂ q₂ s₂) e
             → Followed code k start l at np (buffers w p s t r q) o (buffers w₂ p s₂ t′ r₂ q₂) e
-        followed-arrived {w₂} {r₂} {q₂} {s₂} {e} c turn since b fits = by (symOf (x .symbol)) refl
+        followed-arrived {w₂} {r₂} {q₂} {s₂} {e} arrived turn since b fits = by (symOf (x .symbol)) refl
           where
+            c : Arrived p np k (mem w′ r q s′) start l m (afterWith o (g .code) (g .counts)) (mem w₂ r₂ q₂ s₂) e
+            c = rw (saw .is, here-is) at arrived
+
             ended : {y : Found} → Ends (stackAt s′ (9 * o .counts .used) (x .cells)) (symOf (x .symbol)) y → Comes-to turn since b (buffers w₂ p s₂ t′ r₂ q₂) e
             ended {y} i =
                 let d = c .ends y i in

@@ -2,33 +2,29 @@
 use mathlib.Core.Path.{_≡_, refl, sym, ap, _∙_}
 use Prim.Native.Nat.{ℕ, zero, suc, _+_, _-_, _*_, _^_, _≤_, _<_}
 use native.Mathlib.Omega.{arith}
-use mathlib.Core.Bool.{Bool, true, false}
+use mathlib.Core.Bool.{true, false}
 use mathlib.Core.List.{List, [], _∷_, _++_}
-use lib.ListN.{length, take, drop, length-append}
-use Rattle.spec.specs.Lists.{if, lastOf, some?}
-use Rattle.spec.specs.Stacks.{Sym, before, constant, jumpdest, other, Stack, cells, read, compose}
+use lib.ListN.{length, length-append}
+use Rattle.spec.specs.Lists.{lastOf, some?}
+use Rattle.spec.specs.Stacks.{Sym, before, Stack, cells, read, compose}
 use Rattle.spec.specs.Search as search
-use Rattle.spec.specs.Search.{Found, nowhere, found, Rec, S, T, St, need, remember, Met, met?, in-use, Turn, arrive, follow}
+use Rattle.spec.specs.Search.{Found, nowhere, found, S, T, St, need, remember, Met, met?, in-use, Turn, arrive, follow}
 use Rattle.spec.specs.Rooms.{Lent, or-else, shortage}
 use Rattle.theorems.proofs.Branch.{both, if-true, if-false}
 use Rattle.theorems.proofs.Older.{clear}
 use Rattle.theorems.proofs.Growth.{Later, later}
 use Rattle.theorems.proofs.Carried.{carry-arrive}
-use Rattle.theorems.proofs.Members.{In}
-use Rattle.lent.specs.Bytes.{numAt, Holds}
+use Rattle.lent.specs.Bytes.{numAt}
 use Rattle.state.specs.Symbols.{symOf}
-use Rattle.state.specs.Cells.{stackAt, State, Lies, reach}
+use Rattle.state.specs.Cells.{stackAt, State, Lies}
 use Rattle.state.specs.Owns.{roomOf}
-use Rattle.tables.specs.Addrs.{addrs, Path}
+use Rattle.tables.specs.Addrs.{addrs}
 use Rattle.tables.specs.Records.{toAt, keptOf, none}
 use Rattle.tables.specs.Rows.{metOf, seenMet, sameMet}
-use Rattle.tables.specs.Tables.{mem, Tables, Goes, leads, leads-nowhere, Nowhere}
+use Rattle.tables.specs.Tables.{mem, Goes, leads, leads-nowhere}
 use Rattle.tables.specs.Mets as mets
-use Rattle.tables.specs.Mets.{Fresh, Memorized}
 use Rattle.tables.specs.Recording.{Lends, shortOf, noted, Holding}
-use Rattle.tables.specs.declared.Rooms.{Rooms}
 use Rattle.tables.specs.declared.Counts.{Counts}
-use Rattle.tables.specs.declared.Answer.{Answer}
 use Rattle.tables.specs.declared.row.Seen.{Seen}
 use Rattle.tables.proofs.Addrs.{addrs-length}
 use Rattle.tables.proofs.Frames.{kept-grow}
@@ -38,21 +34,19 @@ use Rattle.steps.specs.Paths.{Inside, OnPath}
 use Rattle.steps.specs.Sound.{SoundStack, SoundRec}
 use Rattle.steps.specs.States.{Composing, Took}
 use Rattle.steps.specs.Meets as meets
-use Rattle.steps.specs.Meets.{Meets}
 use Rattle.steps.specs.Lands.{Noted}
 use Rattle.steps.specs.Runs.{Mem, buffers, recsIn, stOf, Did}
-use Rattle.resolver.specs.Fits.{Planned, Fits, levelOf, Stands, held, Parental, Stays}
-use Rattle.resolver.specs.Enters.{refusedWith, shutWith, openWith, Ends, at-jumpdest, at-constant, at-other, Ended, Arriving, Arrived, Opens, Outcome, Entering, Following}
+use Rattle.resolver.specs.Fits.{Fits, levelOf, Stands, held, Stays}
+use Rattle.resolver.specs.Enters.{refusedWith, shutWith, openWith, Ends, at-jumpdest, at-constant, at-other, Outcome, Following}
 use Rattle.steps.specs.declared.Plan.{Plan}
 use Rattle.steps.specs.declared.Level.{Level}
 use Rattle.steps.specs.declared.Run.{Run}
 use Rattle.steps.specs.declared.state_of.Taken.{Taken}
 use Rattle.steps.specs.declared.meet.Meeting.{Meeting}
-use Rattle.resolver.specs.declared.enter.Opening.{Opening}
 use Rattle.steps.proofs.Splits.{inside-append}
 use Rattle.steps.proofs.Paths.{counts-prefix, counts-kept}
 use Rattle.steps.proofs.Nexts.{last-addrs}
-use Rattle.steps.proofs.Sound.{sound-compose, sound-read, sound-before}
+use Rattle.steps.proofs.Sound.{sound-compose, sound-before}
 use Rattle.resolver.proofs.Shorts.{short-later, short-need, not-true, Laters, outcome-refused}
 use Rattle.resolver.proofs.Changes.{fits-taken, stays-taken, taken-recs, taken-mets, state-taken, fits-met, stays-met, fits-noted, stays-noted, noted-mets}
 use Rattle.resolver.proofs.Staying.{stays-then, stays-less}

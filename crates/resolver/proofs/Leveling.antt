@@ -24,22 +24,11 @@ use Rattle.steps.proofs.Cursors.{level-parents, first-left, end-left, fuel}
 use Rattle.steps.proofs.Nexts.{last-addrs, NextLeft}
 use Rattle.steps.proofs.Splits.{inside-at}
 use Rattle.resolver.proofs.Dids.{did-nothing, did-same}
+use Rattle.resolver.proofs.Lengths.{Long, long-same, long-then}
 use Rattle.resolver.proofs.Tries.{trying-none, level-tries}
 use Rattle.resolver.proofs.Staying.{stays-none, stands-stay, its-counts}
 use Rattle.resolver.proofs.Parentals.{parental}
 use Rattle.resolver.proofs.Halfway.{those, tried?, Halfway, half-next, half-live, half-skips, half-passes, half-refused, half-tried}
-
--- the buffers are as long as they were
-pub record Long (m m′ : Mem) : Type 0 where
-  pub w : length (m′ .w) ≡ length (m .w)
-  pub p : length (m′ .p) ≡ length (m .p)
-  pub s : length (m′ .s) ≡ length (m .s)
-  pub t : length (m′ .t) ≡ length (m .t)
-  pub r : length (m′ .r) ≡ length (m .r)
-  pub q : length (m′ .q) ≡ length (m .q)
-
-pub long-then : {m m₁ m₂ : Mem} → Long m m₁ → Long m₁ m₂ → Long m m₂
-long-then x y = record { w = y .w ∙ x .w; p = y .p ∙ x .p; s = y .s ∙ x .s; t = y .t ∙ x .t; r = y .r ∙ x .r; q = y .q ∙ x .q }
 
 -- it is halfway in every turn that fits
 pub record Going (code : List ℕ) (k : Plan) (start : ℕ) (l : Level) (m₀ : Mem) (o : Run) (b : ℕ) (m : Mem) (cur : Run) (at : ℕ) : Type 0 where
@@ -72,7 +61,7 @@ module _ {code : List ℕ} {k : Plan} {start : ℕ} {l : Level} {m₀ : Mem} {o 
       block = level-block;
       unrefused = pre .unrefused;
       energy = omega (arith, pre .energy);
-      long = record { w = refl; p = refl; s = refl; t = refl; r = refl; q = refl };
+      long = long-same;
       half = λ t since f. record {
         fits = f;
         stays = stays-none;

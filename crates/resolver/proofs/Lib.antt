@@ -1,5 +1,6 @@
 pub mod Shorts
 pub mod Dids
+pub mod Lengths
 pub mod Staying
 pub mod Changes
 pub mod Arrives

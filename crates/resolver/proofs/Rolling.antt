@@ -5,24 +5,25 @@ use mathlib.Core.List.{List}
 use Prim.Native.Nat.{ℕ, suc, _+_, _-_, _*_, _≤_, _<_}
 use native.Mathlib.Omega.{arith}
 use lib.Dec.{eqb}
-use lib.ListN.{length, take}
+use lib.ListN.{length, take, drop}
 use lib.Seq.{take-all}
 use borrow.Author.Tests.{lt-ltb, le-ltb, eq-eqb, ne-eqb}
-use Rattle.spec.specs.Lists.{if, mem}
+use Rattle.spec.specs.Lists.{if}
 use Rattle.spec.specs.Search.{Node, Rec, St, takers, direct, round, rounds, reached-by}
 use Rattle.spec.specs.Answer.{prepared}
 use Rattle.theorems.proofs.Branch.{both, if-true, if-false}
 use Rattle.theorems.proofs.Older.{clear}
 use Rattle.theorems.proofs.Carried.{carry-rounds}
 use Rattle.theorems.proofs.Growth.{Later, later}
+use Rattle.lent.proofs.Parts.{drop-more}
 use Rattle.tables.proofs.Counted.{recs-length}
-use Rattle.reachable.specs.Marks.{flagged}
 use Rattle.steps.specs.Runs.{Mem, buffers, recsIn, stOf, Did}
-use Rattle.resolver.specs.Turns.{Idle, Came, RoundAsks, Rounded, Settles, Settled, RoundsAsks, last-since, Reached, Rounds}
+use Rattle.resolver.specs.Turns.{Idle, Passed, Between, RoundAsks, Rounded, Settles, Settled, last-since, Reached, Rounds}
 use Rattle.steps.specs.declared.Plan.{Plan}
 use Rattle.steps.specs.declared.Run.{Run}
 use Rattle.resolver.proofs.Renewing.{renew-settles, renew-flags, renewed}
 use Rattle.resolver.proofs.Dids.{did-nothing, did-same, did-then, did-stops}
+use Rattle.resolver.proofs.Lengths.{Long, long-same, long-then}
 
 -- ---- one round of document 01
 
@@ -64,32 +65,23 @@ module _ (limit : ℕ) (ns : List Node) where
 
 -- ---- the loop
 
--- the buffers are as long as they were
-pub record Long (m m′ : Mem) : Type 0 where
-  pub w : length (m′ .w) ≡ length (m .w)
-  pub p : length (m′ .p) ≡ length (m .p)
-  pub s : length (m′ .s) ≡ length (m .s)
-  pub t : length (m′ .t) ≡ length (m .t)
-  pub r : length (m′ .r) ≡ length (m .r)
-  pub q : length (m′ .q) ≡ length (m .q)
-
--- Between rounds: what the records before `since` lead to is flagged, and what `left` rounds from here come to, all of them come to, with the same last round.
+-- what `left` rounds from here come to, all of them come to, with the same last round
 pub record Rolling (code : List ℕ) (k : Plan) (m₀ : Mem) (o : Run) (m : Mem) (cur : Run) (since left : ℕ) : Type 0 where
-  pub idle : Idle code k (reached-by (prepared code) (take since (recsIn k m (cur .counts)))) since m cur
-  pub flags : (x : ℕ) → mem x (flagged (m .w) (k .n)) ≡ mem x (reached-by (prepared code) (take since (recsIn k m (cur .counts))))
+  pub between : Between code k since m cur
   pub rows : take (20 * (k .n + 1)) (m .w) ≡ take (20 * (k .n + 1)) (m₀ .w)
+  pub beyond : drop (k .end) (m .w) ≡ drop (k .end) (m₀ .w)
   pub long : Long m₀ m
   pub ends : (number : ℕ) (b : St) → Did (k .rooms) (rounds left (k .limit) (prepared code)) (stOf k m cur) number b
       → Did (k .rooms) (rounds 128 (k .limit) (prepared code)) (stOf k m₀ o) number b
   pub lasts : (x : ℕ) → ((mid : St) → clear mid ≡ stOf k m cur → last-since left (k .limit) (prepared code) since mid ≡ x)
       → last-since 128 (k .limit) (prepared code) 0 (stOf k m₀ o) ≡ x
 
-pub roll-start : {code : List ℕ} {k : Plan} {m : Mem} {o : Run} → RoundsAsks code k m o → Rolling code k m o m o 0 128
-roll-start {k = k} {m = m} {o = o} a = record {
-  idle = a .idle;
-  flags = a .flags;
+pub roll-start : {code : List ℕ} {k : Plan} {m : Mem} {o : Run} → Between code k 0 m o → Rolling code k m o m o 0 128
+roll-start {k = k} {m = m} {o = o} b = record {
+  between = b;
   rows = refl;
-  long = record { w = refl; p = refl; s = refl; t = refl; r = refl; q = refl };
+  beyond = refl;
+  long = long-same;
   ends = λ number b d. d;
   lasts = λ x h. h (stOf k m o) refl;
 }
@@ -97,9 +89,10 @@ roll-start {k = k} {m = m} {o = o} a = record {
 -- ---- the ways out
 
 -- the marks say what is reached, once all records are counted
-marked : {code : List ℕ} {k : Plan} {m : Mem} {cur : Run} {since : ℕ} → Idle code k (reached-by (prepared code) (take since (recsIn k m (cur .counts)))) since m cur
+pub between-marked : {code : List ℕ} {k : Plan} {m : Mem} {cur : Run} {since : ℕ} → Between code k since m cur
     → Reached (prepared code) (k .n) (m .w) since (cur .counts .records) (recsIn k m (cur .counts))
-marked {k = k} {m = m} {cur = cur} i a h =
+between-marked {k = k} {m = m} {cur = cur} b a h =
+    let i = b .idle in
     let long = recs-length (m .r) (m .q) (m .s) (k .rooms .s) (cur .counts .records) in
     rw (take-all (cur .counts .records) (recsIn k m (cur .counts)) (omega (arith, long))) at (i .marks .by (cur .counts .records) (i .began) (omega (arith, long)) a h)
 
@@ -108,12 +101,10 @@ module _ {code : List ℕ} {k : Plan} {m₀ : Mem} {o : Run} {m : Mem} {cur : Ru
   roll-out : Did (k .rooms) (rounds left (k .limit) (prepared code)) (stOf k m cur) 0 (stOf k m cur)
       → ((mid : St) → clear mid ≡ stOf k m cur → last-since left (k .limit) (prepared code) since mid ≡ since) → Rounds code k m₀ o m cur
   roll-out d stays = record {
-    did = rw (g .idle .unrefused) (g .ends 0 (stOf k m cur) d);
-    tables = λ _. g .idle .tables;
-    sound = λ _. g .idle .sound;
-    known = λ _. g .idle .known;
+    did = rw (g .between .idle .unrefused) (g .ends 0 (stOf k m cur) d);
+    between = λ _. rw (g .lasts since stays) (g .between);
     rows = λ _. g .rows;
-    reached = λ _. rw (g .lasts since stays) (marked (g .idle));
+    beyond = λ _. g .beyond;
   }
 
   -- all rounds are done
@@ -134,20 +125,23 @@ module _ {code : List ℕ} {k : Plan} {m₀ : Mem} {o : Run} {m : Mem} {cur : Ru
 module _ {code : List ℕ} {k : Plan} {m₀ : Mem} {o : Run} {w p s t r q : List ℕ} {cur : Run} {since left : ℕ}
     (g : Rolling code k m₀ o (buffers w p s t r q) cur since left) where
   pub roll-settles : Settles (k .n) w r since (cur .counts .records)
-  roll-settles = renew-settles (g .idle) (g .flags)
+  roll-settles = renew-settles (g .between .idle) (g .between .flags)
 
   module _ {w₁ : List ℕ} (e : Settled (k .n) w r since (cur .counts .records) w₁) where
     abbrev recs : List Rec
     recs = recsIn k (buffers w p s t r q) (cur .counts)
 
     renewal : Idle code k (reached-by (prepared code) recs) (cur .counts .records) (buffers w₁ p s t r q) cur
-    renewal = renewed (g .idle) (g .flags) e
+    renewal = renewed (g .between .idle) (g .between .flags) e
 
     pub roll-asks : RoundAsks code k (buffers w₁ p s t r q) cur
     roll-asks = record { reached = reached-by (prepared code) recs; idle = renewal }
 
     module _ (ne : left ≡ 0 → ⊥) (l : cur .energy < k .limit) {m′ : Mem} {d : Run} (v : Rounded code k (buffers w₁ p s t r q) cur m′ d) where
-      came : Came code k (reached-by (prepared code) recs) (cur .counts .records) (rolled (k .limit) (prepared code) recs) (buffers w₁ p s t r q) cur m′ d
+      settled-long : Long (buffers w p s t r q) (buffers w₁ p s t r q)
+      settled-long = record { w = e .kept .long; p = refl; s = refl; t = refl; r = refl; q = refl }
+
+      came : Passed code k (reached-by (prepared code) recs) (cur .counts .records) (rolled (k .limit) (prepared code) recs) (buffers w₁ p s t r q) cur m′ d
       came = v (reached-by (prepared code) recs) renewal
 
       -- the state of document 01 goes on to what follows the round
@@ -180,19 +174,27 @@ module _ {code : List ℕ} {k : Plan} {m₀ : Mem} {o : Run} {w p s t r q : List
       grown mid h z more = ne-eqb _ _ (λ same. more (sym (after mid h z) ∙ same ∙ before))
 
       -- the round began with the first records of those that it leaves
-      later-idle : d .code ≡ 0 → Idle code k (reached-by (prepared code) (take (cur .counts .records) (recsIn k m′ (d .counts)))) (cur .counts .records) m′ d
-      later-idle z = rw (came .older z) (came .idle z)
+      later-between : d .code ≡ 0 → Between code k (cur .counts .records) m′ d
+      later-between z = record {
+        idle = rw (came .older z) (came .idle z);
+        flags = λ x. rw (came .older z, came .flags z) (renew-flags (g .between .idle) (g .between .flags) e x);
+      }
+
+      later-rows : d .code ≡ 0 → take (20 * (k .n + 1)) (m′ .w) ≡ take (20 * (k .n + 1)) (m₀ .w)
+      later-rows z = came .rows z ∙ e .kept .rows ∙ g .rows
+
+      later-beyond : d .code ≡ 0 → drop (k .end) (m′ .w) ≡ drop (k .end) (m₀ .w)
+      later-beyond z =
+          came .beyond z ∙ drop-more w₁ w (42 * (k .n + 1)) (e .kept .beyond) (k .end) (omega (arith, g .between .idle .planned .scratch)) ∙ g .beyond
 
       -- a shortage
       pub roll-short : (d .code ≡ 0 → ⊥) → Rounds code k m₀ o m′ d
       roll-short nz = record {
         did = g .ends (d .code) (stOf k m′ d) (did-same (λ x. next (k .limit) (prepared code) (left - 1) (length recs) (rolled (k .limit) (prepared code) recs x)) (rounds left (k .limit) (prepared code)) goes
             (did-stops (rolled (k .limit) (prepared code) recs) (next (k .limit) (prepared code) (left - 1) (length recs)) (next-later (k .limit) (prepared code) (left - 1) (length recs)) (came .did) nz));
-        tables = λ z. absurd (nz z);
-        sound = λ z. absurd (nz z);
-        known = λ z. absurd (nz z);
+        between = λ z. absurd (nz z);
         rows = λ z. absurd (nz z);
-        reached = λ z. absurd (nz z);
+        beyond = λ z. absurd (nz z);
       }
 
       -- no record more
@@ -200,28 +202,19 @@ module _ {code : List ℕ} {k : Plan} {m₀ : Mem} {o : Run} {w p s t r q : List
       roll-last z no-more = record {
         did = g .ends (d .code) (stOf k m′ d) (did-same (rolled (k .limit) (prepared code) recs) (rounds left (k .limit) (prepared code))
             (λ mid h. goes mid h ∙ if-true _ _ _ (still mid h z no-more)) (came .did));
-        tables = λ _. came .idle z .tables;
-        sound = λ _. came .idle z .sound;
-        known = λ _. came .idle z .known;
-        rows = λ _. came .rows z ∙ e .kept .rows ∙ g .rows;
-        reached = λ _. rw (g .lasts (cur .counts .records) (λ mid h. goes-last mid h ∙ if-true _ _ _ (still mid h z no-more) ∙ before)) (marked (later-idle z));
+        between = λ _. rw (g .lasts (cur .counts .records) (λ mid h. goes-last mid h ∙ if-true _ _ _ (still mid h z no-more) ∙ before)) (later-between z);
+        rows = λ _. later-rows z;
+        beyond = λ _. later-beyond z;
       }
 
       -- the next round
       pub roll-next : d .code ≡ 0 → (d .counts .records ≡ cur .counts .records → ⊥) → Long (buffers w₁ p s t r q) m′
           → Rolling code k m₀ o m′ d (cur .counts .records) (left - 1)
       roll-next z more long = record {
-        idle = later-idle z;
-        flags = λ x. rw (came .older z, came .flags z) (renew-flags (g .idle) (g .flags) e x);
-        rows = came .rows z ∙ e .kept .rows ∙ g .rows;
-        long = record {
-          w = long .w ∙ e .kept .long ∙ g .long .w;
-          p = long .p ∙ g .long .p;
-          s = long .s ∙ g .long .s;
-          t = long .t ∙ g .long .t;
-          r = long .r ∙ g .long .r;
-          q = long .q ∙ g .long .q;
-        };
+        between = later-between z;
+        rows = later-rows z;
+        beyond = later-beyond z;
+        long = long-then (g .long) (long-then settled-long long);
         ends = λ number b rest. g .ends number b (did-same (λ x. rounds (left - 1) (k .limit) (prepared code) (rolled (k .limit) (prepared code) recs x)) (rounds left (k .limit) (prepared code))
             (λ mid h. goes mid h ∙ if-false _ _ _ (grown mid h z more))
             (did-then (rolled (k .limit) (prepared code) recs) (rounds (left - 1) (k .limit) (prepared code)) (came .did) z rest));

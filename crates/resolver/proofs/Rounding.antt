@@ -7,7 +7,7 @@ use Prim.Native.Nat.{ℕ, suc, _+_, _-_, _*_, _≤_, _<_}
 use native.Mathlib.Decide.{ℕ-discrete}
 use native.Mathlib.Omega.{arith}
 use lib.Dec.{eqb, ltb}
-use lib.ListN.{length, take}
+use lib.ListN.{length, take, drop}
 use lib.Seq.{take-all, take-take}
 use borrow.Author.Tests.{lt-ltb, le-ltb, eq-eqb, ne-eqb}
 use Rattle.spec.specs.Lists.{if, mem}
@@ -31,9 +31,10 @@ use Rattle.reachable.specs.Contracts.{Address}
 use Rattle.steps.specs.Runs.{Mem, recsIn, stOf, Did}
 use Rattle.steps.specs.declared.Plan.{Plan}
 use Rattle.steps.specs.declared.Run.{Run}
-use Rattle.resolver.specs.Turns.{Idle, Came, TurnAsks, Turned, RoundAsks, Rounded}
+use Rattle.resolver.specs.Turns.{Idle, Passed, TurnAsks, Turned, RoundAsks, Rounded}
 use Rattle.resolver.proofs.Dids.{did-then, did-stops, did-same}
-use Rattle.resolver.proofs.Turning.{came-refused}
+use Rattle.resolver.proofs.Lengths.{Long, long-same, long-then}
+use Rattle.resolver.proofs.Turning.{passed-refused}
 
 -- ---- document 01's round, one block at a time
 
@@ -89,14 +90,6 @@ marked-is {k = k} {reached} {since} {a} {m} {o} idle h =
 
 -- ---- the loop
 
-pub record Long (m m′ : Mem) : Type 0 where
-  pub w : length (m′ .w) ≡ length (m .w)
-  pub p : length (m′ .p) ≡ length (m .p)
-  pub s : length (m′ .s) ≡ length (m .s)
-  pub t : length (m′ .t) ≡ length (m .t)
-  pub r : length (m′ .r) ≡ length (m .r)
-  pub q : length (m′ .q) ≡ length (m .q)
-
 -- what the blocks that are left do from here ends where the whole round ends
 pub record Went (code : List ℕ) (k : Plan) (reached : List ℕ) (left : List Taker) (m₀ : Mem) (o₀ : Run) (m : Mem) (o : Run) : Type 0 where
   pub idle : Idle code k reached (o₀ .counts .records) m o
@@ -104,6 +97,7 @@ pub record Went (code : List ℕ) (k : Plan) (reached : List ℕ) (left : List T
       → Did (k .rooms) (round (k .limit) (direct (prepared code)) reached (takers (prepared code))) (stOf k m₀ o₀) y b
   pub flags : flagged (m .w) (k .n) ≡ flagged (m₀ .w) (k .n)
   pub rows : take (20 * (k .n + 1)) (m .w) ≡ take (20 * (k .n + 1)) (m₀ .w)
+  pub beyond : drop (k .end) (m .w) ≡ drop (k .end) (m₀ .w)
   pub older : take (o₀ .counts .records) (recsIn k m (o .counts)) ≡ recsIn k m₀ (o₀ .counts)
 
 pub record Going (code : List ℕ) (k : Plan) (m₀ : Mem) (o₀ : Run) (by : ℕ) (m : Mem) (o : Run) (link : ℕ) : Type 0 where
@@ -126,13 +120,14 @@ round-begins {code} {k} {m} {o} a e =
       chain = a .idle .known .takers;
       rises = takers-rise code;
       among = λ x i. i;
-      long = record { w = refl; p = refl; s = refl; t = refl; r = refl; q = refl };
+      long = long-same;
       by-is = e;
       went = λ reached idle. record {
         idle = idle;
         rest = λ y b d. d;
         flags = refl;
         rows = refl;
+        beyond = refl;
         older = take-all (o .counts .records) (recsIn k m (o .counts)) (omega (arith, recs-length (m .r) (m .q) (m .s) (k .rooms .s) (o .counts .records)));
       };
     }
@@ -288,7 +283,7 @@ module _ {code : List ℕ} {k : Plan} {m₀ m : Mem} {o₀ o : Run} {by link : �
         by-is = g .by-is;
         went = λ reached idle.
             let v = w idle in
-            record { idle = v .idle; rest = λ y b d. v .rest y b (skips idle (h reached idle) d); flags = v .flags; rows = v .rows; older = v .older };
+            record { idle = v .idle; rest = λ y b d. v .rest y b (skips idle (h reached idle) d); flags = v .flags; rows = v .rows; beyond = v .beyond; older = v .older };
       }
 
   pub round-skips : {link′ : ℕ} {b : Bool} → Number link′ (takerAt (m .w) (link - 1)) 2 → b ≡ markedBy (m .w) (k .n) (link - 1) by → b ≡ false
@@ -303,7 +298,7 @@ module _ {code : List ℕ} {k : Plan} {m₀ m : Mem} {o₀ o : Run} {by link : �
   module _ {b : Bool} {m′ : Mem} {d : Run} (f : b ≡ markedBy (m .w) (k .n) (link - 1) by) (marked : b ≡ true) (left : o .energy < k .limit)
       (turned : Turned code k (link - 1) m o m′ d) where
     came : {reached : List ℕ} → Idle code k reached (o₀ .counts .records) m₀ o₀
-        → Came code k reached (o₀ .counts .records) (turn (k .limit) (turn-of (direct (prepared code)) reached (this .x)) (this .x .position)) m o m′ d
+        → Passed code k reached (o₀ .counts .records) (turn (k .limit) (turn-of (direct (prepared code)) reached (this .x)) (this .x .position)) m o m′ d
     came {reached} idle = turned reached (o₀ .counts .records) (w idle .idle) (this .x) took (this .start)
 
     takes-it : {reached : List ℕ} (idle : Idle code k reached (o₀ .counts .records) m₀ o₀) (mid : St) → clear mid ≡ stOf k m o
@@ -312,7 +307,7 @@ module _ {code : List ℕ} {k : Plan} {m₀ m : Mem} {o₀ o : Run} {by link : �
 
     pub round-refused : (d .code ≡ 0 → ⊥) → Rounded code k m₀ o₀ m′ d
     round-refused n reached idle =
-        came-refused n
+        passed-refused n
         (w idle .rest (d .code) (stOf k m′ d) (did-refused (k .limit) (direct (prepared code)) reached (this .x) (this .xs) (takes-it idle) (came idle .did) n))
 
     module _ (z : d .code ≡ 0) where
@@ -326,6 +321,7 @@ module _ {code : List ℕ} {k : Plan} {m₀ m : Mem} {o₀ o : Run} {by link : �
                 (did-take (k .limit) (direct (prepared code)) reached (this .x) (this .xs) (takes-it idle) (c .did) z r);
             flags = c .flags z ∙ v .flags;
             rows = c .rows z ∙ v .rows;
+            beyond = c .beyond z ∙ v .beyond;
             older = sym (take-take (o₀ .counts .records) (o .counts .records) (recsIn k m′ (d .counts)) (v .idle .began)) ∙ ap (take (o₀ .counts .records)) (c .older z) ∙ v .older;
           }
 
@@ -339,14 +335,7 @@ module _ {code : List ℕ} {k : Plan} {m₀ m : Mem} {o₀ o : Run} {by link : �
             chain = rw (e .is) (takers-prefix (m .w) (m′ .w) (length code) same (this .chain));
             rises = rising-from (omega arith) rest-rises;
             among = others;
-            long = record {
-              w = long .w ∙ g .long .w;
-              p = long .p ∙ g .long .p;
-              s = long .s ∙ g .long .s;
-              t = long .t ∙ g .long .t;
-              r = long .r ∙ g .long .r;
-              q = long .q ∙ g .long .q;
-            };
+            long = long-then (g .long) long;
             by-is = g .by-is;
             went = λ reached idle. went-on idle;
           }
@@ -357,7 +346,7 @@ pub round-done : {code : List ℕ} {k : Plan} {m₀ m : Mem} {o₀ o : Run} {by 
 round-done {code} {k} {m₀} {m} {o₀} {o} g z reached idle =
     let v = subst (λ (l : List Taker). Went code k reached l m₀ o₀ m o) (none (g .left) (end-takers (g .chain) z)) (g .went reached idle) in
     let all = v .rest 0 (stOf k m o) (did-none (k .limit) (direct (prepared code)) reached) in
-    record { did = rw (v .idle .unrefused) all; idle = λ _. v .idle; flags = λ _. v .flags; rows = λ _. v .rows; older = λ _. v .older }
+    record { did = rw (v .idle .unrefused) all; idle = λ _. v .idle; flags = λ _. v .flags; rows = λ _. v .rows; beyond = λ _. v .beyond; older = λ _. v .older }
   where
     none : (left : List Taker) → map turnOf left ≡ [] → left ≡ []
     none [] e = refl

@@ -3,9 +3,9 @@ use mathlib.Core.Path.{_≡_, refl, sym, ap, _∙_}
 use Prim.Native.Nat.{ℕ, zero, suc}
 use native.Mathlib.Omega.{arith}
 use mathlib.Core.Bool.{true, false}
-use mathlib.Core.List.{List, [], _∷_, _++_}
+use mathlib.Core.List.{List, [], _∷_}
 use Rattle.spec.specs.Search as search
-use Rattle.spec.specs.Search.{Room, Need, St, need, Turn}
+use Rattle.spec.specs.Search.{Room, St, need, Turn}
 use Rattle.spec.specs.Rooms.{Lent, or-else, shortage}
 use Rattle.theorems.proofs.Older.{clear}
 use Rattle.theorems.proofs.Shortage.{first-stays}
@@ -13,8 +13,7 @@ use Rattle.theorems.proofs.Growth.{Later}
 use Rattle.tables.specs.Recording.{Lends, shortOf}
 use Rattle.tables.proofs.Shorts.{short-after}
 use Rattle.tables.specs.declared.Rooms.{Rooms}
-use Rattle.steps.specs.Runs.{Mem, stOf, Did}
-use Rattle.resolver.specs.Fits.{Fits}
+use Rattle.steps.specs.Runs.{Mem, stOf}
 use Rattle.resolver.specs.Enters.{shutWith, Outcome}
 use Rattle.steps.specs.declared.Plan.{Plan}
 use Rattle.steps.specs.declared.Level.{Level}

@@ -1,14 +1,14 @@
 -- What stays while a level is tried: it composes, and keeps the level's path and state, and the counts of its path. Assumes nothing.
 use mathlib.Core.Path.{_≡_, refl, sym, ap, ap₂, _∙_}
 use mathlib.Core.List.{List}
-use Prim.Native.Nat.{ℕ, _*_, _≤_}
+use Prim.Native.Nat.{ℕ, _+_, _*_, _≤_}
 use native.Mathlib.Omega.{arith}
 use lib.ListN.{length, take}
 use lib.Seq.{take-all, take-take}
 use Rattle.spec.specs.Stacks.{Stack}
 use Rattle.spec.specs.Search as search
 use Rattle.spec.specs.Search.{Rec}
-use Rattle.lent.proofs.Parts.{take-less, part-prefix}
+use Rattle.lent.proofs.Parts.{take-less, drop-more, part-prefix}
 use Rattle.state.specs.Cells.{stackAt, Lies}
 use Rattle.state.proofs.States.{state-lies, lies-within}
 use Rattle.tables.specs.Addrs.{addrs}
@@ -35,18 +35,20 @@ module _ {k : Plan} {np : ℕ} where
     bottom = refl;
     rows = refl;
     flags = refl;
+    beyond = refl;
     uses = omega arith;
     more = omega arith;
     older = recs-all k m c;
   }
 
   -- where W changes in the counts alone
-  pub stays-counts : {w w′ p s t r q : List ℕ} {c : Counts} → CountsOnly (k .n) w w′ → Stays k np (buffers w p s t r q) c (buffers w′ p s t r q) c
-  stays-counts {w′ = w′} {p} {s} {t} {r} {q} {c} o = record {
+  pub stays-counts : {w w′ p s t r q : List ℕ} {c : Counts} → 40 * (k .n + 1) ≤ k .end → CountsOnly (k .n) w w′ → Stays k np (buffers w p s t r q) c (buffers w′ p s t r q) c
+  stays-counts {w} {w′} {p} {s} {t} {r} {q} {c} h o = record {
     path = refl;
     bottom = refl;
     rows = o .front;
     flags = only-flagged o;
+    beyond = drop-more w′ w (40 * (k .n + 1)) (o .back) (k .end) h;
     uses = omega arith;
     more = omega arith;
     older = recs-all k (buffers w′ p s t r q) c;
@@ -58,6 +60,7 @@ module _ {k : Plan} {np : ℕ} where
     bottom = take-less (m₂ .s) (m₁ .s) (9 * c₁ .used) (y .bottom) (9 * c .used) (omega (arith, x .uses)) ∙ x .bottom;
     rows = y .rows ∙ x .rows;
     flags = y .flags ∙ x .flags;
+    beyond = y .beyond ∙ x .beyond;
     uses = omega (arith, x .uses, y .uses);
     more = omega (arith, x .more, y .more);
     older =
@@ -72,6 +75,7 @@ module _ {k : Plan} {np : ℕ} where
     bottom = x .bottom;
     rows = x .rows;
     flags = x .flags;
+    beyond = x .beyond;
     uses = x .uses;
     more = x .more;
     older = x .older;

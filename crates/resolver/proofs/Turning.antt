@@ -2,11 +2,11 @@
 use mathlib.Core.Path.{_≡_, refl, sym, ap, subst, _∙_}
 use mathlib.Core.Bool.{true}
 use mathlib.Core.List.{List, [], _∷_}
-use Prim.Native.Nat.{ℕ, _+_, _-_, _*_, _≤_, _<_}
+use Prim.Native.Nat.{ℕ, _+_, _*_, _≤_, _<_}
 use native.Mathlib.Omega.{arith}
 use lib.ListN.{take, drop}
 use lib.Seq.{take-take}
-use Rattle.spec.specs.Lists.{little, mem}
+use Rattle.spec.specs.Lists.{mem}
 use Rattle.spec.specs.Stacks.{cells}
 use Rattle.spec.specs.Search as search
 use Rattle.spec.specs.Search.{Taker, takers, direct, P, S, Rec, dests, St, need, forget, Turn, turn-of, in-use, level, turn}
@@ -15,7 +15,7 @@ use Rattle.theorems.proofs.Members.{In}
 use Rattle.theorems.proofs.Carried.{carry-level}
 use Rattle.theorems.proofs.Growth.{Later, later}
 use Rattle.theorems.proofs.Older.{clear}
-use Rattle.lent.specs.Bytes.{Stored}
+use Rattle.lent.proofs.Parts.{drop-more}
 use Rattle.state.specs.Owns.{Runs, Owned}
 use Rattle.state.specs.declared.run.Own.{Own}
 use Rattle.tables.specs.Addrs.{addrs}
@@ -24,20 +24,17 @@ use Rattle.tables.specs.Mets.{Emptied}
 use Rattle.tables.specs.declared.Rooms.{Rooms}
 use Rattle.tables.proofs.Addrs.{addrs-prefix}
 use Rattle.tables.proofs.Uses.{tables-kept}
-use Rattle.parents.specs.Links.{positionAt}
-use Rattle.parents.specs.Contracts.{Number}
 use Rattle.reachable.specs.Marks.{flagged}
 use Rattle.reachable.proofs.Rows.{within-sides, closed-sides, sides-kept}
-use Rattle.steps.specs.Paths.{Counting, Counted, Uncounting}
+use Rattle.steps.specs.Paths.{Counted, Uncounting}
 use Rattle.steps.specs.Runs.{Mem, buffers, recsIn, stOf, Did}
 use Rattle.steps.specs.declared.Plan.{Plan}
 use Rattle.steps.specs.declared.Level.{Level}
 use Rattle.steps.specs.declared.Run.{Run}
 use Rattle.resolver.specs.Fits.{Fits, levelOf}
-use Rattle.resolver.specs.Levels as levels
-use Rattle.resolver.specs.Levels.{Opened, Leveled}
+use Rattle.resolver.specs.Levels.{Came, Opened, Leveled}
 use Rattle.resolver.specs.Enters.{refusedWith}
-use Rattle.resolver.specs.Turns.{Idle, Came, begunWith, endedWith, TurnAsks, Turned}
+use Rattle.resolver.specs.Turns.{Idle, Passed, begunWith, endedWith, Places, Placed, TurnAsks, Turned}
 use Rattle.resolver.proofs.Dids.{did-then, did-stops, did-same, did-from, did-need, did-short}
 use Rattle.resolver.proofs.Works.{Alike, alike-counts, alike-marks, alike-known, alike-room}
 use Rattle.resolver.proofs.Taking.{Taking, taking}
@@ -106,24 +103,22 @@ asks-taking {code} a =
 pub turn-runs : {code : List ℕ} {k : Plan} {start : ℕ} {m : Mem} {o : Run} → TurnAsks code k start m o → Runs code start (m .w) (k .end)
 turn-runs a = begins.run-asks (a .idle) (asks-taking a)
 
-pub turn-counts : {code w w₁ p p₁ s t r q : List ℕ} {k : Plan} {start : ℕ} {o : Run} {own : Own} → TurnAsks code k start (buffers w p s t r q) o
-    → Owned code start w (k .end) w₁ own → Stored 2 p 0 (little 2 start) p₁ → Counting (k .n) w₁ p₁ 0 1
-turn-counts a owned = begins.count-asks (a .idle) (asks-taking a) owned
+pub turn-places : {code w w₁ p s t r q : List ℕ} {k : Plan} {start : ℕ} {o : Run} {own : Own} → TurnAsks code k start (buffers w p s t r q) o
+    → (k .rooms .p ≡ 0 → ⊥) → Owned code start w (k .end) w₁ own → o .counts .kept + own .n ≤ k .rooms .s → Places w₁ p s k start own
+turn-places a some owned room = begins.place-asks (a .idle) (asks-taking a) owned some room
 
-pub turn-opens : {code w w₁ w₂ p p₁ s s₁ t r q : List ℕ} {k : Plan} {start position : ℕ} {o b : Run} {own : Own} → TurnAsks code k start (buffers w p s t r q) o
-    → (k .rooms .p ≡ 0 → ⊥) → Owned code start w (k .end) w₁ own → o .counts .kept + own .n ≤ k .rooms .s
-    → Stored (9 * own .n) s 0 (take (9 * own .n) (drop (own .at) w₁)) s₁ → Stored 2 p 0 (little 2 start) p₁ → Counted (k .n) w₁ p₁ 1 w₂
-    → Number position (positionAt w₂ start) 4 → b ≡ begunWith o (own .n)
-    → Opened code k start (record { np = 1; position = position; from = 0; cells = own .n; left = 255 }) (buffers w₂ p₁ s₁ t r q) b
-turn-opens {code} {k = k} {start} a some owned room copied put counted reads e =
+pub turn-opens : {code w w₁ w₂ p p₁ s s₁ t r q : List ℕ} {k : Plan} {start : ℕ} {o b : Run} {own : Own} {l : Level} → TurnAsks code k start (buffers w p s t r q) o
+    → (k .rooms .p ≡ 0 → ⊥) → Owned code start w (k .end) w₁ own → o .counts .kept + own .n ≤ k .rooms .s → Placed w₁ p s k start own w₂ p₁ s₁ l
+    → b ≡ begunWith o (own .n) → Opened code k start l (buffers w₂ p₁ s₁ t r q) b
+turn-opens {code} {k = k} {start} a some owned room placed e =
     let x = asks-taking a in
-    rw e
+    rw (placed .is, e)
     (record {
       turn = turn-of (direct (prepared code)) (a .reached) (a .taker);
       since = a .since;
-      fits = begins.begun-fits (a .idle) x owned room copied put counted (a .is);
-      stands = begins.begun-stands (a .idle) x owned room copied put counted reads some;
-      on-its = counted .counts;
+      fits = begins.begun-fits (a .idle) x owned room placed (a .is);
+      stands = begins.begun-stands (a .idle) x owned room placed some;
+      on-its = placed .counted .counts;
       energy = omega (arith, a .energy);
       unrefused = a .idle .unrefused;
     })
@@ -131,13 +126,13 @@ turn-opens {code} {k = k} {start} a some owned room copied put counted reads e =
 -- ---- a turn that is refused
 
 -- its code is all that there is to show
-pub came-refused : {code : List ℕ} {k : Plan} {reached : List ℕ} {since : ℕ} {f : St → St} {m m′ : Mem} {o d : Run} → (d .code ≡ 0 → ⊥)
-    → Did (k .rooms) f (stOf k m o) (d .code) (stOf k m′ d) → Came code k reached since f m o m′ d
-came-refused n d = record { did = d; idle = λ z. absurd (n z); flags = λ z. absurd (n z); rows = λ z. absurd (n z); older = λ z. absurd (n z) }
+pub passed-refused : {code : List ℕ} {k : Plan} {reached : List ℕ} {since : ℕ} {f : St → St} {m m′ : Mem} {o d : Run} → (d .code ≡ 0 → ⊥)
+    → Did (k .rooms) f (stOf k m o) (d .code) (stOf k m′ d) → Passed code k reached since f m o m′ d
+passed-refused n d = record { did = d; idle = λ z. absurd (n z); flags = λ z. absurd (n z); rows = λ z. absurd (n z); beyond = λ z. absurd (n z); older = λ z. absurd (n z) }
 
 pub turn-short-p : {code : List ℕ} {k : Plan} {start : ℕ} {m : Mem} {o d : Run} → k .rooms .p ≡ 0 → d ≡ refusedWith o 4 → Turned code k start m o m d
 turn-short-p {code} {k} {start} {m} {o} z e reached since idle x takes is =
-    rw e (came-refused (λ n. omega (arith, n)) (short-p (k .limit) (turn-of (direct (prepared code)) reached x) (x .position) z))
+    rw e (passed-refused (λ n. omega (arith, n)) (short-p (k .limit) (turn-of (direct (prepared code)) reached x) (x .position) z))
 
 pub turn-short-s : {code w w₁ p s t r q : List ℕ} {k : Plan} {start : ℕ} {o d : Run} {own : Own} → (k .rooms .p ≡ 0 → ⊥) → Owned code start w (k .end) w₁ own
     → k .rooms .s < o .counts .kept + own .n → d ≡ refusedWith o 5 → Turned code k start (buffers w p s t r q) o (buffers w₁ p s t r q) d
@@ -146,43 +141,38 @@ turn-short-s {code} {k = k} some owned short e reached since idle x takes is =
     let y = taking code (g .is) (g .lentW .short) (idle .known) takes is in
     let t : Turn = turn-of (direct (prepared code)) reached x in
     rw e
-    (came-refused (λ n. omega (arith, n))
+    (passed-refused (λ n. omega (arith, n))
     (short-s (k .limit) t (x .position) (begins.begun-uses idle t) (omega (arith, some)) (omega (arith, short, begins.own-cells idle y owned))))
 
 -- ---- a turn whose first level was tried
 
--- how it came to that: the run, the copy, the path, its count, the position and the level
+-- how it came to that: the run, the first level in place, and what it did
 pub record Leveling (code : List ℕ) (k : Plan) (start : ℕ) (m : Mem) (o : Run) (m′ : Mem) (d : Run) : Type 0 where
   pub w₁ : List ℕ
   pub own : Own
   pub s₁ : List ℕ
   pub p₁ : List ℕ
   pub w₂ : List ℕ
-  pub position : ℕ
+  pub l : Level
   pub some : k .rooms .p ≡ 0 → ⊥
   pub owned : Owned code start (m .w) (k .end) w₁ own
   pub room : o .counts .kept + own .n ≤ k .rooms .s
-  pub copied : Stored (9 * own .n) (m .s) 0 (take (9 * own .n) (drop (own .at) w₁)) s₁
-  pub put : Stored 2 (m .p) 0 (little 2 start) p₁
-  pub counted : Counted (k .n) w₁ p₁ 1 w₂
-  pub reads : Number position (positionAt w₂ start) 4
-  pub leveled : Leveled code k start (record { np = 1; position = position; from = 0; cells = own .n; left = 255 }) (buffers w₂ p₁ s₁ (m .t) (m .r) (m .q))
+  pub placed : Placed w₁ (m .p) (m .s) k start own w₂ p₁ s₁ l
+  pub leveled : Leveled code k start (record { np = 1; position = l .position; from = 0; cells = own .n; left = 255 }) (buffers w₂ p₁ s₁ (m .t) (m .r) (m .q))
       (begunWith o (own .n)) m′ d
 
-pub leveling : {code w w₁ w₂ p p₁ s s₁ t r q : List ℕ} {k : Plan} {start position : ℕ} {m′ : Mem} {o b d : Run} {own : Own} → (k .rooms .p ≡ 0 → ⊥)
-    → Owned code start w (k .end) w₁ own → o .counts .kept + own .n ≤ k .rooms .s → Stored (9 * own .n) s 0 (take (9 * own .n) (drop (own .at) w₁)) s₁
-    → Stored 2 p 0 (little 2 start) p₁ → Counted (k .n) w₁ p₁ 1 w₂ → Number position (positionAt w₂ start) 4 → b ≡ begunWith o (own .n)
-    → Leveled code k start (record { np = 1; position = position; from = 0; cells = own .n; left = 255 }) (buffers w₂ p₁ s₁ t r q) b m′ d
-    → Leveling code k start (buffers w p s t r q) o m′ d
-leveling {w₁ = w₁} {w₂} {p₁ = p₁} {s₁ = s₁} {position = position} {own = own} some owned room copied put counted reads e leveled =
-    record { w₁ = w₁; own = own; s₁ = s₁; p₁ = p₁; w₂ = w₂; position = position; some = some; owned = owned; room = room; copied = copied; put = put; counted = counted; reads = reads; leveled = rw e at leveled }
+pub leveling : {code w w₁ w₂ p p₁ s s₁ t r q : List ℕ} {k : Plan} {start : ℕ} {m′ : Mem} {o b d : Run} {own : Own} {l : Level} → (k .rooms .p ≡ 0 → ⊥)
+    → Owned code start w (k .end) w₁ own → o .counts .kept + own .n ≤ k .rooms .s → Placed w₁ p s k start own w₂ p₁ s₁ l → b ≡ begunWith o (own .n)
+    → Leveled code k start l (buffers w₂ p₁ s₁ t r q) b m′ d → Leveling code k start (buffers w p s t r q) o m′ d
+leveling {w₁ = w₁} {w₂} {p₁ = p₁} {s₁ = s₁} {own = own} {l} some owned room placed e leveled =
+    record { w₁ = w₁; own = own; s₁ = s₁; p₁ = p₁; w₂ = w₂; l = l; some = some; owned = owned; room = room; placed = placed; leveled = rw (placed .is, e) at leveled }
 
 module _ {code : List ℕ} {k : Plan} {start : ℕ} {m m′ : Mem} {o d : Run} (h : Leveling code k start m o m′ d) where
   abbrev opened : Mem
   opened = buffers (h .w₂) (h .p₁) (h .s₁) (m .t) (m .r) (m .q)
 
   abbrev first : Level
-  first = record { np = 1; position = h .position; from = 0; cells = h .own .n; left = 255 }
+  first = record { np = 1; position = h .l .position; from = 0; cells = h .own .n; left = 255 }
 
   module _ {reached : List ℕ} {since : ℕ} (idle : Idle code k reached since m o) {x : Taker} (takes : In x (takers (prepared code))) (is : x .start ≡ start) where
     abbrev its : Turn
@@ -192,24 +182,24 @@ module _ {code : List ℕ} {k : Plan} {start : ℕ} {m m′ : Mem} {o d : Run} (
     takes-it = let g = idle .planned in taking code (g .is) (g .lentW .short) (idle .known) takes is
 
     alike : Alike (k .n) (k .buckets) (m .w) (h .w₂)
-    alike = begins.begun-alike idle takes-it (h .owned) (h .room) (h .copied) (h .put) (h .counted)
+    alike = begins.begun-alike idle takes-it (h .owned) (h .room) (h .placed)
 
-    came : levels.Came code k its since start (level (k .limit) its 255 (levelOf opened first)) first opened (begunWith o (h .own .n)) m′ d
-    came = h .leveled .came its since (begins.begun-fits idle takes-it (h .owned) (h .room) (h .copied) (h .put) (h .counted) is)
+    came : Came code k its since start (level (k .limit) its 255 (levelOf opened first)) first opened (begunWith o (h .own .n)) m′ d
+    came = h .leveled .came its since (begins.begun-fits idle takes-it (h .owned) (h .room) (h .placed) is)
 
     did-level : Did (k .rooms) (level (k .limit) its 255 (first-level (k .limit) its (x .position))) (stOf k m o) (d .code) (stOf k m′ d)
     did-level =
-        did-from (sym (begins.begun-state idle takes-it (h .owned) (h .room) (h .copied) (h .put) (h .counted)))
+        did-from (sym (begins.begun-state idle takes-it (h .owned) (h .room) (h .placed)))
         (subst (λ (l : search.Level). Did (k .rooms) (level (k .limit) its 255 l) (stOf k opened (begunWith o (h .own .n))) (d .code) (stOf k m′ d))
-        (begins.begun-level idle takes-it (h .owned) (h .room) (h .copied) (h .put) (h .counted) (h .reads) is) (came .did))
+        (begins.begun-level idle takes-it (h .owned) (h .room) (h .placed) is) (came .did))
 
     did-all : {c : St} {y : ℕ} → Did (k .rooms) (levels-on (k .limit) its (x .position)) (stOf k m o) y c → Did (k .rooms) (turn (k .limit) its (x .position)) (stOf k m o) y c
     did-all =
         asks-both (k .limit) its (x .position) (begins.begun-uses idle its) (omega (arith, h .some)) (omega (arith, h .room, begins.own-cells idle takes-it (h .owned)))
 
-    refused : (d .code ≡ 0 → ⊥) → Came code k reached since (turn (k .limit) its (x .position)) m o m′ d
+    refused : (d .code ≡ 0 → ⊥) → Passed code k reached since (turn (k .limit) its (x .position)) m o m′ d
     refused n =
-        came-refused n (did-all (did-stops (level (k .limit) its 255 (first-level (k .limit) its (x .position))) forget (λ s. later .forgets s) did-level n))
+        passed-refused n (did-all (did-stops (level (k .limit) its 255 (first-level (k .limit) its (x .position))) forget (λ s. later .forgets s) did-level n))
 
     module _ (z : d .code ≡ 0) where
       fits : Fits code k its since start m′ (d .counts)
@@ -227,7 +217,7 @@ module _ {code : List ℕ} {k : Plan} {start : ℕ} {m m′ : Mem} {o d : Run} (
             inP = omega (arith, g .lentP, h .some);
             most = omega arith;
             order = omega arith;
-            inside = rw path (begins.inside-one (h .put) (begins.taker-small idle takes-it) (takes-it .inside));
+            inside = rw path (begins.inside-one (h .placed .put) (begins.taker-small idle takes-it) (takes-it .inside));
             counts = rw path (came .counts z);
           }
 
@@ -241,11 +231,17 @@ module _ {code : List ℕ} {k : Plan} {start : ℕ} {m m′ : Mem} {o d : Run} (
         rows : take (20 * (k .n + 1)) w₄ ≡ take (20 * (k .n + 1)) (m .w)
         rows = off .rows ∙ came .stays z .rows ∙ alike .rows
 
+        beyond : drop (k .end) w₄ ≡ drop (k .end) (m .w)
+        beyond =
+            let low : 40 * (k .n + 1) ≤ k .end = omega (arith, idle .planned .scratch) in
+            drop-more w₄ (m′ .w) (40 * (k .n + 1)) (uncounted .only .back) (k .end) low ∙ came .stays z .beyond
+            ∙ drop-more (h .w₂) (h .w₁) (40 * (k .n + 1)) (h .placed .counted .only .back) (k .end) low ∙ h .owned .inside .back
+
         flags : flagged w₄ (k .n) ≡ flagged (m .w) (k .n)
         flags = off .flags ∙ came .stays z .flags ∙ alike .flags
 
         older : take (o .counts .records) (recsIn k after (endedWith d .counts)) ≡ recsIn k m (o .counts)
-        older = came .stays z .older ∙ begins.begun-recs idle takes-it (h .owned) (h .room) (h .copied) (h .put) (h .counted)
+        older = came .stays z .older ∙ begins.begun-recs idle takes-it (h .owned) (h .room) (h .placed)
 
         energy-left : d .energy ≤ k .limit + 256
         energy-left = h .leveled .energy z
@@ -294,12 +290,12 @@ module _ {code : List ℕ} {k : Plan} {start : ℕ} {m m′ : Mem} {o d : Run} (
                   idle .dests-in a (subst (λ (rs : List Rec). mem a (dests rs) ≡ true) same i);
             }
 
-        done : Came code k reached since (turn (k .limit) its (x .position)) m o after (endedWith d)
+        done : Passed code k reached since (turn (k .limit) its (x .position)) m o after (endedWith d)
         unfolding metOf
         done =
             let end : Did (k .rooms) forget (stOf k m′ d) 0 (stOf k after (endedWith d)) = did-forget refl refl refl refl in
             let did = did-all (did-then (level (k .limit) its 255 (first-level (k .limit) its (x .position))) forget did-level z end) in
-            record { did = rw z did; idle = λ _. idle-again; flags = λ _. flags; rows = λ _. rows; older = λ _. older }
+            record { did = rw z did; idle = λ _. idle-again; flags = λ _. flags; rows = λ _. rows; beyond = λ _. beyond; older = λ _. older }
 
   -- what it leaves, where its level is refused
   pub turn-refused : (d .code ≡ 0 → ⊥) → Turned code k start m o m′ d

@@ -12,13 +12,14 @@ use Rattle.spec.specs.Search.{Found, nowhere, found, P, St, need, Turn, Parent,
 use Rattle.spec.specs.Rooms.{Lent, shortage}
 use Rattle.theorems.proofs.Older.{clear}
 use Rattle.theorems.proofs.Growth.{Later}
+use Rattle.lent.specs.Bytes.{Holds}
 use Rattle.state.specs.Symbols.{symOf}
 use Rattle.state.specs.Cells.{stackAt, State}
 use Rattle.tables.specs.Addrs.{addrs}
 use Rattle.tables.specs.Tables as tables
 use Rattle.tables.specs.Tables.{Nowhere}
 use Rattle.tables.specs.Recording.{Lends}
-use Rattle.tables.specs.declared.Answer.{Answer}
+use Rattle.tables.specs.declared.Counts.{Counts}
 use Rattle.tables.specs.declared.row.Seen.{Seen}
 use Rattle.parents.specs.Links.{startOf}
 use Rattle.reachable.specs.Contracts.{Room, Address}
@@ -28,19 +29,24 @@ use Rattle.steps.specs.Runs.{Mem, stOf, Did}
 use Rattle.steps.specs.declared.Plan.{Plan}
 use Rattle.steps.specs.declared.Level.{Level}
 use Rattle.steps.specs.declared.Run.{Run}
+use Rattle.steps.specs.declared.state_of.Taken.{Taken}
 use Rattle.resolver.specs.Fits.{Fits, levelOf, Stands, OnIts, held, Parental, Stays}
 use Rattle.resolver.specs.declared.enter.Opening.{Opening}
 
 -- ---- how the search goes on
 
-abbrev pub refusedWith : Run → ℕ → Run
-refusedWith o code = record { code = code; energy = o .energy; counts = o .counts }
-
-abbrev pub afterWith : Run → Answer → Run
-afterWith o a = record { code = a .code; energy = o .energy; counts = a .counts }
+abbrev pub afterWith : Run → ℕ → Counts → Run
+afterWith o code counts = record { code = code; energy = o .energy; counts = counts }
 
 abbrev pub shutWith : Run → Level → Opening
 shutWith o l = record { opens = false; run = o; level = l }
+
+abbrev pub openWith : Run → ℕ → ℕ → Seen → Level → Opening
+openWith o np position x l =
+    record { opens = true; run = o; level = record { np = np; position = position; from = x .from; cells = x .cells; left = l .left - 1 } }
+
+abbrev pub refusedWith : Run → ℕ → Run
+refusedWith o code = afterWith o code (o .counts)
 
 -- ---- "A one-block parent already on the path is skipped."
 
@@ -104,11 +110,6 @@ pub record Arriving (p : List ℕ) (np : ℕ) (k : Plan) (m : tables.Mem) (start
   pub lands : (t : ℕ) → symOf (x .symbol) ≡ jumpdest t → t ≤ k .n
   pub left : l .left ≡ 0 → ⊥
 
--- the level that a Before opens
-abbrev pub openWith : Run → ℕ → ℕ → Seen → Level → Opening
-openWith o np position x l =
-    record { opens = true; run = o; level = record { np = np; position = position; from = x .from; cells = x .cells; left = l .left - 1 } }
-
 pub record Arrived (p : List ℕ) (np : ℕ) (k : Plan) (m : tables.Mem) (start : ℕ) (l : Level) (x : Seen) (o : Run) (m′ : tables.Mem) (e : Opening) : Type 0 where
   pub opens : (n : ℕ) → symOf (x .symbol) ≡ before n → (e ≡ openWith o np n x l) × (m′ ≡ m)
   pub ends : (y : Found) → Ends (stackAt (m .s) (9 * x .from) (x .cells)) (symOf (x .symbol)) y → Ended p np k m start l o y m′ e
@@ -127,6 +128,11 @@ abbrev pub Entered : List ℕ → Plan → ℕ → Level → ℕ → Mem → Run
 Entered code k start l at m o m′ e =
     (t : Turn) (since b : ℕ) → Fits code k t since start m (o .counts)
     → Outcome code k t since start (λ deeper. onward t deeper (l .left) (levelOf m l) (held code k m b at)) l m o m′ e
+
+-- the last address of the path in P, and the symbol and the cells taken
+pub record Saw (p : List ℕ) (np : ℕ) (taken : Taken) (used : ℕ) (x : Seen) : Type 0 where
+  pub last : Holds 2 p (2 * (np - 1)) (x .last)
+  pub is : x ≡ record { last = x .last; symbol = taken .symbol; from = used; cells = taken .cells }
 
 -- the same once the path has grown to np addresses, with weight left
 pub record Following (code : List ℕ) (k : Plan) (start : ℕ) (l : Level) (at np : ℕ) (m : Mem) (o : Run) : Type 0 where

@@ -2,7 +2,7 @@
 use mathlib.Core.Path.{_≡_}
 use Prim.Native.Nat.{ℕ, _+_, _-_, _*_, _^_, _≤_, _<_}
 use mathlib.Core.List.{List}
-use lib.ListN.{length, take}
+use lib.ListN.{length, take, drop}
 use Rattle.spec.specs.Stacks.{cells}
 use Rattle.spec.specs.Search as search
 use Rattle.spec.specs.Search.{Turn, Parent, parent, direct}
@@ -86,13 +86,14 @@ pub record Parental (code : List ℕ) (k : Plan) (m : Mem) (c : Counts) (at : �
   pub inside : Inside (k .n) (pathCursor (m .r) (m .q) at)
   pub sound : SoundStack (k .n) (length (pathCursor (m .r) (m .q) at)) (stackCursor code (m .r) (m .s) (k .rooms .s) at)
 
--- ---- what stays, while a level with a path of np addresses is tried: that path, the cells in use, W's rows and flags, and the records
+-- ---- what stays, while a level with a path of np addresses is tried: that path, the cells in use, W's rows and flags and what is beyond its parts, and the records
 
 pub record Stays (k : Plan) (np : ℕ) (m : Mem) (c : Counts) (m′ : Mem) (c′ : Counts) : Type 0 where
   pub path : take (2 * np) (m′ .p) ≡ take (2 * np) (m .p)
   pub bottom : take (9 * c .used) (m′ .s) ≡ take (9 * c .used) (m .s)
   pub rows : take (20 * (k .n + 1)) (m′ .w) ≡ take (20 * (k .n + 1)) (m .w)
   pub flags : flagged (m′ .w) (k .n) ≡ flagged (m .w) (k .n)
+  pub beyond : drop (k .end) (m′ .w) ≡ drop (k .end) (m .w)
   pub uses : c .used ≤ c′ .used
   pub more : c .records ≤ c′ .records
   pub older : take (c .records) (recsIn k m′ c′) ≡ recsIn k m c

@@ -10,7 +10,7 @@ use Rattle.steps.specs.Runs.{Mem, stOf, Did}
 use Rattle.steps.specs.declared.Plan.{Plan}
 use Rattle.steps.specs.declared.Level.{Level}
 use Rattle.steps.specs.declared.Run.{Run}
-use Rattle.resolver.specs.Fits.{Fits, levelOf, Stands, OnIts, held, Parental, Stays}
+use Rattle.resolver.specs.Fits.{Fits, levelOf, Stands, OnIts, held, Stays}
 use Rattle.resolver.specs.Enters.{onward, Entering}
 
 abbrev pub spentWith : Run → Run

@@ -5,29 +5,31 @@ use mathlib.Core.List.{List, [], _∷_, _++_}
 use mathlib.Core.Logic.{_⊎_}
 use mathlib.Core.Bool.{true, not, _&&_, _||_}
 use lib.Dec.{eqb, ltb}
-use lib.ListN.{length, take}
-use Rattle.spec.specs.Lists.{if, mem}
+use lib.ListN.{length, take, drop}
+use Rattle.spec.specs.Lists.{if, mem, little}
 use Rattle.spec.specs.Search as search
-use Rattle.spec.specs.Search.{Node, Taker, takers, direct, edges, Rec, dests, St, begin, turn-of, turn, round, rounds, reached-by}
+use Rattle.spec.specs.Search.{Node, Taker, takers, direct, Rec, dests, St, begin, turn-of, turn, round, rounds, reached-by}
 use Rattle.spec.specs.Reach.{closure}
 use Rattle.spec.specs.Answer.{prepared}
 use Rattle.spec.specs.Rooms.{Lent, units, shortage}
 use Rattle.theorems.proofs.Members.{In}
-use Rattle.theorems.proofs.Older.{clear}
+use Rattle.lent.specs.Bytes.{Stored}
+use Rattle.state.specs.declared.run.Own.{Own}
 use Rattle.tables.specs.Records.{toAt, none}
 use Rattle.tables.specs.Tables.{Tables}
 use Rattle.tables.specs.Mets.{Remembers}
 use Rattle.tables.specs.declared.Rooms.{Rooms}
-use Rattle.tables.specs.declared.Counts.{Counts}
-use Rattle.parents.specs.Contracts.{Known}
+use Rattle.parents.specs.Links.{positionAt}
+use Rattle.parents.specs.Contracts.{Known, Number}
 use Rattle.reachable.specs.Marks.{markAt, flagged, markedBy}
 use Rattle.reachable.specs.Edges.{rowEdges}
 use Rattle.reachable.specs.Contracts.{Room, SidesWithin, Closed, Kept}
-use Rattle.steps.specs.Paths.{OnPath}
+use Rattle.steps.specs.Paths.{OnPath, Counted}
 use Rattle.steps.specs.Sound.{SoundRecs}
 use Rattle.steps.specs.Lands.{Marks}
 use Rattle.steps.specs.Runs.{Mem, tabled, recsIn, stOf, Did}
 use Rattle.steps.specs.declared.Plan.{Plan}
+use Rattle.steps.specs.declared.Level.{Level}
 use Rattle.steps.specs.declared.Run.{Run}
 use Rattle.resolver.specs.Fits.{Planned}
 
@@ -52,11 +54,12 @@ pub record Idle (code : List ℕ) (k : Plan) (reached : List ℕ) (since : ℕ) 
   pub dests-in : (a : ℕ) → mem a (dests (take since (recsIn k m (o .counts)))) ≡ true → mem a reached ≡ true
 
 -- what a function that does f leaves between turns: the flags, and the older records, stay
-pub record Came (code : List ℕ) (k : Plan) (reached : List ℕ) (since : ℕ) (f : St → St) (m : Mem) (o : Run) (m′ : Mem) (d : Run) : Type 0 where
+pub record Passed (code : List ℕ) (k : Plan) (reached : List ℕ) (since : ℕ) (f : St → St) (m : Mem) (o : Run) (m′ : Mem) (d : Run) : Type 0 where
   pub did : Did (k .rooms) f (stOf k m o) (d .code) (stOf k m′ d)
   pub idle : d .code ≡ 0 → Idle code k reached since m′ d
   pub flags : d .code ≡ 0 → flagged (m′ .w) (k .n) ≡ flagged (m .w) (k .n)
   pub rows : d .code ≡ 0 → take (20 * (k .n + 1)) (m′ .w) ≡ take (20 * (k .n + 1)) (m .w)
+  pub beyond : d .code ≡ 0 → drop (k .end) (m′ .w) ≡ drop (k .end) (m .w)
   pub older : d .code ≡ 0 → take (o .counts .records) (recsIn k m′ (d .counts)) ≡ recsIn k m (o .counts)
 
 -- ---- a turn
@@ -72,6 +75,22 @@ begunWith o cells =
 abbrev pub endedWith : Run → Run
 endedWith o = begunWith o 0
 
+-- the block's own state fits into S, its start is an address, and none is counted
+pub record Places (w p s : List ℕ) (k : Plan) (start : ℕ) (own : Own) : Type 0 where
+  pub lent : Room (k .n) w
+  pub inside : start ≤ k .n
+  pub counts : OnPath (k .n) w []
+  pub lentP : 2 ≤ length p
+  pub lentS : 9 * own .n ≤ length s
+  pub lentW : own .at + 9 * own .n ≤ length w
+
+pub record Placed (w p s : List ℕ) (k : Plan) (start : ℕ) (own : Own) (w′ p′ s′ : List ℕ) (l : Level) : Type 0 where
+  pub copied : Stored (9 * own .n) s 0 (take (9 * own .n) (drop (own .at) w)) s′
+  pub put : Stored 2 p 0 (little 2 start) p′
+  pub counted : Counted (k .n) w p′ 1 w′
+  pub reads : Number (l .position) (positionAt w′ start) 4
+  pub is : l ≡ record { np = 1; position = l .position; from = 0; cells = own .n; left = 255 }
+
 -- the block at `start` takes turns
 pub record TurnAsks (code : List ℕ) (k : Plan) (start : ℕ) (m : Mem) (o : Run) : Type 0 where
   pub reached : List ℕ
@@ -85,7 +104,7 @@ pub record TurnAsks (code : List ℕ) (k : Plan) (start : ℕ) (m : Mem) (o : Ru
 abbrev pub Turned : List ℕ → Plan → ℕ → Mem → Run → Mem → Run → Type 0
 Turned code k start m o m′ d =
     (reached : List ℕ) (since : ℕ) → Idle code k reached since m o → (x : Taker) → In x (takers (prepared code)) → x .start ≡ start
-    → Came code k reached since (turn (k .limit) (turn-of (direct (prepared code)) reached x) (x .position)) m o m′ d
+    → Passed code k reached since (turn (k .limit) (turn-of (direct (prepared code)) reached x) (x .position)) m o m′ d
 
 -- ---- a round
 
@@ -96,7 +115,7 @@ pub record RoundAsks (code : List ℕ) (k : Plan) (m : Mem) (o : Run) : Type 0 w
 abbrev pub Rounded : List ℕ → Plan → Mem → Run → Mem → Run → Type 0
 Rounded code k m o m′ d =
     (reached : List ℕ) → Idle code k reached (o .counts .records) m o
-    → Came code k reached (o .counts .records) (round (k .limit) (direct (prepared code)) reached (takers (prepared code))) m o m′ d
+    → Passed code k reached (o .counts .records) (round (k .limit) (direct (prepared code)) reached (takers (prepared code))) m o m′ d
 
 -- ---- what is reached when a round begins
 
@@ -122,11 +141,10 @@ pub record Settled (n : ℕ) (w r : List ℕ) (since records : ℕ) (w′ : List
 
 -- ---- rounds
 
-pub record RoundsAsks (code : List ℕ) (k : Plan) (m : Mem) (o : Run) : Type 0 where
-  pub idle : Idle code k (reached-by (prepared code) []) 0 m o
-  pub none-yet : o .counts .records ≡ 0
-  pub spent : o .energy ≡ 0
-  pub flags : (x : ℕ) → mem x (flagged (m .w) (k .n)) ≡ mem x (reached-by (prepared code) [])
+-- between rounds: what the first `since` records lead to is flagged, and counts as reached
+pub record Between (code : List ℕ) (k : Plan) (since : ℕ) (m : Mem) (o : Run) : Type 0 where
+  pub idle : Idle code k (reached-by (prepared code) (take since (recsIn k m (o .counts)))) since m o
+  pub flags : (x : ℕ) → mem x (flagged (m .w) (k .n)) ≡ mem x (reached-by (prepared code) (take since (recsIn k m (o .counts))))
 
 -- How many records there were when the last of document 01's `rounds` began; where none takes place, those when the round before began. Each step is that
 -- of `rounds`.
@@ -142,15 +160,12 @@ last-since (suc n) limit ns since s =
 abbrev pub Reached : List Node → ℕ → List ℕ → ℕ → ℕ → List Rec → Type 0
 Reached ns n w since records recs = (a : ℕ) → a ≤ n → markedBy w n a (records + 1) ≡ mem a (reached-by ns (take since recs)) || mem a (dests recs)
 
--- the code is the first shortage of f's needs, and where it is 0 the buffers hold what f makes
+-- the code is the first shortage of all rounds, and where it is 0 the buffers hold what they make
 pub record Rounds (code : List ℕ) (k : Plan) (m : Mem) (o : Run) (m′ : Mem) (d : Run) : Type 0 where
   pub did : Did (k .rooms) (rounds 128 (k .limit) (prepared code)) (stOf k m o) (d .code) (stOf k m′ d)
-  pub tables : d .code ≡ 0 → Tables (k .n) (k .buckets) (k .rooms) (tabled m′) (d .counts)
-  pub sound : d .code ≡ 0 → SoundRecs (k .n) (recsIn k m′ (d .counts))
-  pub known : d .code ≡ 0 → Known code (m′ .w) (k .head)
+  pub between : d .code ≡ 0 → Between code k (last-since 128 (k .limit) (prepared code) 0 (stOf k m o)) m′ d
   pub rows : d .code ≡ 0 → take (20 * (k .n + 1)) (m′ .w) ≡ take (20 * (k .n + 1)) (m .w)
-  pub reached : d .code ≡ 0
-      → Reached (prepared code) (k .n) (m′ .w) (last-since 128 (k .limit) (prepared code) 0 (stOf k m o)) (d .counts .records) (recsIn k m′ (d .counts))
+  pub beyond : d .code ≡ 0 → drop (k .end) (m′ .w) ≡ drop (k .end) (m .w)
 
 -- ---- the search
 
@@ -183,15 +198,17 @@ pub record SearchAsks (code w : List ℕ) (limit head : ℕ) : Type 0 where
   pub known : Known code w head
 
 -- The code is the number of the first shortage of document 01's search, 0 if there is none. Where it is 0, the records, with their paths, destinations,
--- states and order, the energy and the addresses marked as reached are those of document 01's search; W's rows stay.
+-- states and order, the energy and the addresses marked as reached are those of document 01's search, nothing but the records is in use, and W's rows and
+-- the bytes that a search does not need stay.
 pub record Searched (code : List ℕ) (limit head : ℕ) (m m′ : Mem) (d : Run) : Type 0 where
   pub short : (l : Lent) → l .p ≡ length (m .p) → l .s ≡ length (m .s) → l .t ≡ length (m .t) → l .r ≡ length (m .r) → l .q ≡ length (m .q)
       → d .code ≡ shortage l (search.search limit (prepared code) .needs)
   pub recs : d .code ≡ 0 → recsIn (plan code limit head m) m′ (d .counts) ≡ search.search limit (prepared code) .recs
   pub energy : d .code ≡ 0 → d .energy ≡ search.search limit (prepared code) .energy
-  pub tables : d .code ≡ 0 → Tables (length code) ((13 * length code + 52) / 4) (plan code limit head m .rooms) (tabled m′) (d .counts)
-  pub sound : d .code ≡ 0 → SoundRecs (length code) (recsIn (plan code limit head m) m′ (d .counts))
+  pub energy-most : d .code ≡ 0 → d .energy ≤ limit + 256
+  pub between : d .code ≡ 0 → Between code (plan code limit head m) (last-since 128 limit (prepared code) 0 begin) m′ d
   pub rows : d .code ≡ 0 → take (20 * (length code + 1)) (m′ .w) ≡ take (20 * (length code + 1)) (m .w)
+  pub beyond : d .code ≡ 0 → drop (64 * length code + 256) (m′ .w) ≡ drop (64 * length code + 256) (m .w)
   pub reached : d .code ≡ 0
       → Reached (prepared code) (length code) (m′ .w) (last-since 128 limit (prepared code) 0 begin) (d .counts .records)
       (recsIn (plan code limit head m) m′ (d .counts))

@@ -11,18 +11,23 @@ use steps::land::stray;
 use steps::meet::meet;
 use steps::path::grow;
 use steps::path::on_path;
+use steps::state_of::Taken;
 use steps::state_of::take_state;
-use tables::Answer;
+use tables::Counts;
 use tables::Entry;
 use tables::row::Seen;
 ghost use mathlib.Core.Path.{_≡_};
-ghost use Prim.Native.Nat.{_*_};
+ghost use Prim.Native.Nat.{_*_, _≤_};
+ghost use lib.ListN.{length};
 ghost use Rattle.spec.specs.Search.{nowhere, found};
 ghost use Rattle.state.specs.Cells.{stackAt};
 ghost use Rattle.tables.specs.Tables.{mem};
 ghost use Rattle.steps.specs.Lands.{Lands, Strays};
 ghost use Rattle.steps.specs.Runs.{buffers};
-ghost use Rattle.resolver.specs.Enters.{refusedWith, afterWith, shutWith, SkipAsks, skips, Ended, Arriving, Arrived, Entering, Entered, Following, Followed};
+ghost use Rattle.resolver.specs.Enters.{refusedWith, afterWith, shutWith, openWith, SkipAsks, skips, Ended, Arriving, Arrived, Entering, Entered, Saw, Following, Followed};
+
+// The number of a refusal where P is short.
+pub const SHORT_P: usize = 4;
 
 // Whether a level opens, how the search goes, and the level.
 pub struct Opening {
@@ -31,11 +36,10 @@ pub struct Opening {
     pub level: Level,
 }
 
-// A room is short.
-fn refused(o: Run, code: usize) -> Run
-    ensures { λ r. ⌜ r ≡ refusedWith o code ⌝ }
+// What a step answered: the number of a room that was short, or 0, and what is in use.
+fn after(o: Run, code: usize, counts: Counts) -> Run
+    ensures { λ r. ⌜ r ≡ afterWith o code counts ⌝ }
 {
-    let counts = o.counts;
     Run {
         code,
         energy: o.energy,
@@ -43,16 +47,12 @@ fn refused(o: Run, code: usize) -> Run
     }
 }
 
-// A path was recorded, or found to be, or a room was short.
-fn after(o: Run, a: Answer) -> Run
-    ensures { λ r. ⌜ r ≡ afterWith o a ⌝ }
+// A room is short.
+pub fn refused(o: Run, code: usize) -> Run
+    ensures { λ r. ⌜ r ≡ refusedWith o code ⌝ }
 {
-    let counts = a.counts;
-    Run {
-        code: a.code,
-        energy: o.energy,
-        counts,
-    }
+    let counts = o.counts;
+    after(o, code, counts)
 }
 
 // No level opens.
@@ -63,6 +63,24 @@ fn shut(o: Run, l: Level) -> Opening
         opens: false,
         run: o,
         level: l,
+    }
+}
+
+// A level opens behind the grown path of np addresses, with the state that was seen.
+fn opened(o: Run, np: usize, position: usize, x: Seen, l: Level) -> Opening
+    requires { ⌜ (l .left ≡ 0 → ⊥) ⌝ }
+    ensures { λ r. ⌜ r ≡ openWith o np position x l ⌝ }
+{
+    Opening {
+        opens: true,
+        run: o,
+        level: Level {
+            np,
+            position,
+            from: x.from,
+            cells: x.cells,
+            left: l.left - 1,
+        },
     }
 }
 
@@ -96,7 +114,8 @@ fn end_nowhere(
 {
     let c = o.counts;
     let a = stray(p, np, w, r, q, s, k, c, start);
-    shut(after(o, a), l)
+    let counts = a.counts;
+    shut(after(o, a.code, counts), l)
 }
 
 // The path leads to the entry's destination, and no level opens.
@@ -118,7 +137,8 @@ fn end_at(
 {
     let c = o.counts;
     let a = land(p, np, w, r, q, s, k, c, x);
-    shut(after(o, a), l)
+    let counts = a.counts;
+    shut(after(o, a.code, counts), l)
 }
 
 // Step 6: a Before opens a level, a Jumpdest is where the path leads, and anything else leads nowhere.
@@ -141,17 +161,7 @@ fn arrive(
 {
     let symbol = x.symbol;
     match symbol {
-        StackSym::Before(position) => Opening {
-            opens: true,
-            run: o,
-            level: Level {
-                np,
-                position,
-                from: x.from,
-                cells: x.cells,
-                left: l.left - 1,
-            },
-        },
+        StackSym::Before(position) => opened(o, np, position, x, l),
         StackSym::Jumpdest(to) => {
             let e = Entry {
                 start,
@@ -163,6 +173,20 @@ fn arrive(
         }
         StackSym::Constant(_) => end_nowhere(p, np, w, r, q, s, k, start, l, o),
         StackSym::Other(_) => end_nowhere(p, np, w, r, q, s, k, start, l, o),
+    }
+}
+
+// What is seen at the end of the path of np addresses: its last address, the symbol and the state taken, which stands after `used` cells.
+fn seen(p: &[u8], np: usize, taken: Taken, used: usize) -> Seen
+    requires { ⌜ (1 ≤ np) × (2 * np ≤ length (now p)) ⌝ }
+    ensures { λ x. ⌜ Saw (now (p .entry)) np taken used x ⌝ }
+{
+    let symbol = taken.symbol;
+    Seen {
+        last: get16(p, 2 * (np - 1)),
+        symbol,
+        from: used,
+        cells: taken.cells,
     }
 }
 
@@ -192,23 +216,13 @@ fn follow(
     if taken.code != 0 {
         return shut(refused(o, taken.code), l);
     }
-    let symbol = taken.symbol;
-    let x = Seen {
-        last: get16(p, 2 * (np - 1)),
-        symbol,
-        from: c.used,
-        cells: taken.cells,
-    };
+    let x = seen(p, np, taken, c.used);
     let m = meet(t, s, k, c, x);
     if m.met {
         return shut(o, l);
     }
     let counts = m.counts;
-    let here = Run {
-        code: m.code,
-        energy: o.energy,
-        counts,
-    };
+    let here = after(o, m.code, counts);
     if m.code != 0 {
         return shut(here, l);
     }
@@ -241,7 +255,7 @@ pub fn enter(
     let rooms = k.rooms;
     let np = grow(p, r, q, rooms.p, l.np, at);
     if np == 0 {
-        return shut(refused(o, 4), l);
+        return shut(refused(o, SHORT_P), l);
     }
     if l.left == 0 {
         return end_nowhere(p, np, w, r, q, s, k, start, l, o);

@@ -1,4 +1,4 @@
-// The search: at most 128 rounds, from what is reached by the code's static sides alone.
+// The search: rounds of turns, from what is reached by the code's static sides alone.
 use crate::round::round;
 use lent::get16;
 use lent::units;
@@ -8,13 +8,19 @@ use reachable::reach;
 use steps::Plan;
 use steps::Run;
 use tables::Counts;
+use tables::NONE;
 use tables::Rooms;
-use tables::link::NONE;
 use tables::met::begin_rows;
 ghost use mathlib.Core.Path.{_≡_};
 ghost use Prim.Native.Nat.{_≤_};
 ghost use Rattle.steps.specs.Runs.{buffers};
-ghost use Rattle.resolver.specs.Turns.{Settles, Settled, RoundsAsks, Rounds, SearchAsks, Searched, roomsOf, planOf, begunRun};
+ghost use Rattle.resolver.specs.Turns.{Settles, Settled, Between, Rounds, SearchAsks, Searched, roomsOf, planOf, begunRun};
+
+// How many rounds there are at most.
+const ROUNDS: usize = 128;
+
+// How many buckets T has at most.
+const SHELVES: usize = 0x1_0000;
 
 // What the destinations of the records from `since` on lead to counts as reached when the next round begins.
 fn settle(w: &mut [u8], n: usize, r: &[u8], since: usize, records: usize)
@@ -43,14 +49,14 @@ fn rounds(
     k: Plan,
     o: Run,
 ) -> Run
-    requires { ⌜ RoundsAsks (now code) k (buffers (now w) (now p) (now s) (now t) (now r) (now q)) o ⌝ }
+    requires { ⌜ Between (now code) k 0 (buffers (now w) (now p) (now s) (now t) (now r) (now q)) o ⌝ }
     ensures { λ d. ⌜ Rounds (now (code .entry)) k
         (buffers (now (w .entry)) (now (p .entry)) (now (s .entry)) (now (t .entry)) (now (r .entry)) (now (q .entry))) o
         (buffers (now (w .exit)) (now (p .exit)) (now (s .exit)) (now (t .exit)) (now (r .exit)) (now (q .exit))) d ⌝ }
 {
     let mut cur = o;
     let mut since = 0;
-    let mut left: usize = 128;
+    let mut left = ROUNDS;
     while left != 0 {
         left -= 1;
         if k.limit <= cur.energy {
@@ -85,13 +91,12 @@ fn rooms_of(p: &[u8], s: &[u8], t: &[u8], r: &[u8], q: &[u8]) -> Rooms
     }
 }
 
-// The plan of a search over a code of n bytes. T has a bucket for each of its rows, up to 65,536.
+// The plan of a search over a code of n bytes. T has a bucket for each of its rows, up to `SHELVES`.
 fn plan_of(n: usize, limit: usize, head: usize, rooms: Rooms) -> Plan
     requires { ⌜ n ≤ 24576 ⌝ }
     ensures { λ k. ⌜ k ≡ planOf n limit head rooms ⌝ }
 {
-    let most = 0x1_0000;
-    let shelves = if rooms.t < most { rooms.t } else { most };
+    let shelves = if rooms.t < SHELVES { rooms.t } else { SHELVES };
     Plan {
         n,
         end: 64 * n + 256,

@@ -1,8 +1,11 @@
 // A turn of a block that takes turns: the first level, with the block's own state.
+use crate::enter::SHORT_P;
+use crate::enter::refused;
 use crate::levels::level;
 use lent::copy;
 use lent::put16;
 use parents::taker::position_at;
+use state::run::Own;
 use state::run::run;
 use steps::Level;
 use steps::Plan;
@@ -13,20 +16,13 @@ use tables::Counts;
 use tables::met::forget;
 ghost use mathlib.Core.Path.{_≡_};
 ghost use Rattle.steps.specs.Runs.{buffers};
-ghost use Rattle.resolver.specs.Enters.{refusedWith};
-ghost use Rattle.resolver.specs.Turns.{begunWith, endedWith, TurnAsks, Turned};
+ghost use Rattle.resolver.specs.Turns.{begunWith, endedWith, Places, Placed, TurnAsks, Turned};
 
-// A room is short.
-fn refused(o: Run, code: usize) -> Run
-    ensures { λ r. ⌜ r ≡ refusedWith o code ⌝ }
-{
-    let counts = o.counts;
-    Run {
-        code,
-        energy: o.energy,
-        counts,
-    }
-}
+// The number of a refusal where S is short.
+const SHORT_S: usize = 5;
+
+// 256 less the weight of a path of one block.
+const LEFT: usize = 255;
 
 // The turn's first state is in use.
 fn begun(o: Run, cells: usize) -> Run
@@ -54,6 +50,23 @@ fn ended(o: Run) -> Run
     begun(o, 0)
 }
 
+// The turn's first level: the block's own state at the bottom of S, and its start in P, counted.
+fn first_level(w: &mut [u8], p: &mut [u8], s: &mut [u8], k: Plan, start: usize, own: Own) -> Level
+    requires { ⌜ Places (now w) (now p) (now s) k start own ⌝ }
+    ensures { λ l. ⌜ Placed (now (w .entry)) (now (p .entry)) (now (s .entry)) k start own (now (w .exit)) (now (p .exit)) (now (s .exit)) l ⌝ }
+{
+    copy(s, 0, w, own.at, 9 * own.n);
+    put16(p, 0, start);
+    count(w, k.n, p, 0, 1);
+    Level {
+        np: 1,
+        position: position_at(w, start),
+        from: 0,
+        cells: own.n,
+        left: LEFT,
+    }
+}
+
 // The turn of the block at `start`: "A turn needs one address in P, then its state in S."
 pub fn turn(
     code: &[u8],
@@ -74,23 +87,14 @@ pub fn turn(
 {
     let rooms = k.rooms;
     if rooms.p == 0 {
-        return refused(o, 4);
+        return refused(o, SHORT_P);
     }
     let own = run(code, start, w, k.end);
     let c = o.counts;
     if rooms.s < c.kept + own.n {
-        return refused(o, 5);
+        return refused(o, SHORT_S);
     }
-    copy(s, 0, w, own.at, 9 * own.n);
-    put16(p, 0, start);
-    count(w, k.n, p, 0, 1);
-    let l = Level {
-        np: 1,
-        position: position_at(w, start),
-        from: 0,
-        cells: own.n,
-        left: 255,
-    };
+    let l = first_level(w, p, s, k, start, own);
     let d = level(code, w, p, s, t, r, q, k, start, l, begun(o, own.n));
     if d.code != 0 {
         return d;

@@ -1,16 +1,16 @@
 -- Each instruction keeps a stack within its bounds: the cells that it puts, the words that it takes, and the depths that it looks at. Assumes nothing.
-use mathlib.Core.Path.{_≡_, refl, sym, ap, _∙_}
+use mathlib.Core.Path.{_≡_, refl, ap}
 use mathlib.Core.Bool.{Bool, true, false}
 use mathlib.Core.Option.{Option, none, some}
 use mathlib.Core.List.{List, [], _∷_, _++_}
-use Prim.Native.Nat.{ℕ, zero, suc, _+_, _-_, _*_, _^_, _≤_, _<_, max}
+use Prim.Native.Nat.{ℕ, zero, suc, _+_, _-_, _*_, _^_, _≤_, _<_}
 use native.Mathlib.Omega.{arith}
 use lib.Dec.{ltb}
 use lib.ListN.{length, drop, replicate, length-append, length-drop, length-replicate}
 use Rattle.spec.specs.Lists.{if}
 use Rattle.spec.specs.Opcodes.{row}
 use Rattle.spec.specs.Walk.{Ins}
-use Rattle.spec.specs.Stacks.{Sym, before, constant, jumpdest, other, known-value, from-value, is, mask, anded, summed, Stack, entry, reads, read, span, pops, push, pushes, swap, trade, Does, pushes-value, pushes-pc, dups, swaps, ands, adds, jumps, jumpis, lands, halts, plain, does, act}
+use Rattle.spec.specs.Stacks.{Sym, other, known-value, from-value, is, mask, anded, summed, Stack, entry, read, span, pops, push, swap, trade, Does, pushes-value, pushes-pc, dups, swaps, ands, adds, jumps, jumpis, lands, halts, plain, does, act}
 use Rattle.state.specs.Cells.{depth, deepest, reach}
 use Rattle.state.specs.Bounds.{Bounded}
 use Rattle.state.proofs.Decides.{near-dups, near-swaps, trades-halts, trades-plain}

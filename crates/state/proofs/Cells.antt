@@ -1,16 +1,14 @@
 -- The laws of one cell: a symbol is read from its tag and its number, and what is put is read back. Assumes nothing.
-use mathlib.Core.Path.{_≡_, refl, sym, ap, ap₂, _∙_}
-use mathlib.Core.List.{List, [], _∷_, _++_}
-use Prim.Native.Nat.{ℕ, _+_, _^_, _≤_, _<_}
+use mathlib.Core.Path.{_≡_, refl}
+use mathlib.Core.List.{List, _++_}
+use Prim.Native.Nat.{ℕ, _+_, _^_, _<_}
 use native.Mathlib.Nat.{add-zero}
 use native.Mathlib.Omega.{arith}
-use lib.Seq.{drop-append-seam, take-length}
-use lib.ListN.{length, take, drop}
-use borrow.Author.Tests.{eq-eqb, ne-eqb}
+use borrow.Author.Tests.{ne-eqb}
 use Rattle.spec.specs.Lists.{if, little}
 use Rattle.spec.specs.Stacks.{Sym, before, constant, jumpdest, other}
-use Rattle.lent.specs.Bytes.{number, numAt, patch, Holds, Stored}
-use Rattle.lent.proofs.Numbers.{number-little, length-little}
+use Rattle.lent.specs.Bytes.{number, numAt, Holds, Stored}
+use Rattle.lent.proofs.Numbers.{number-little}
 use Rattle.lent.proofs.Stored.{stored-join, read-num}
 use Rattle.state.specs.Symbols.{symOf}
 use Rattle.state.specs.Cells.{tag, value, cell, symbol, symAt, PutAs, Put}
@@ -65,10 +63,6 @@ unfolding cell numAt
 number-value x h = number-little 8 (value x) h
 
 -- what is read of a cell
-pub cell-read : (x : Sym) → value x < 2 ^ 64 → symAt (cell x) 0 ≡ x
-unfolding symAt
-cell-read x h = rw (number-tag x, number-value x h) (symbol-parts x)
-
 pub put-read : {b b′ : List ℕ} {at : ℕ} (x : Sym) → value x < 2 ^ 64 → Stored 9 b at (cell x) b′ → symAt b′ at ≡ x
 unfolding symAt
 put-read {b} {b′} {at} x h s =

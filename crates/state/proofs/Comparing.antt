@@ -1,27 +1,26 @@
 -- The laws of comparing stored states: a cell at a time, what is left to compare decides. Assumes nothing.
-use mathlib.Core.Path.{_≡_, refl, sym, ap, ap₂, _∙_}
+use mathlib.Core.Path.{_≡_, refl, sym, _∙_}
 use mathlib.Core.Bool.{Bool, true, false, _&&_}
 use mathlib.Core.List.{List, [], _∷_, _++_}
-use Prim.Native.Nat.{ℕ, zero, suc, _+_, _-_, _*_, _≤_, _<_}
+use Prim.Native.Nat.{ℕ, _+_, _-_, _*_, _≤_, _<_}
 use native.Mathlib.Nat.{add-zero, sub-zero}
-use native.Mathlib.Numerals.{add-one}
 use native.Mathlib.Omega.{arith}
 use lib.Dec.{eqb}
 use lib.ListN.{length, take, drop}
 use lib.Seq.{take-all}
 use borrow.Author.Tests.{eq-eqb, ne-eqb}
-use Rattle.spec.specs.Stacks.{Sym, before, constant, jumpdest, other, Stack, cells, eqSym, eqSyms, eqStack}
+use Rattle.spec.specs.Stacks.{Sym, before, constant, jumpdest, other, Stack, eqSym, eqSyms, eqStack}
 use Rattle.lent.specs.Bytes.{numAt, Holds}
 use Rattle.lent.proofs.Numbers.{num-within}
-use Rattle.state.specs.Cells.{tag, value, cell, symAt, symsAt, Cells, stored, stackAt, State}
+use Rattle.state.specs.Cells.{tag, value, cell, symAt, symsAt, Cells, stackAt, State}
 use Rattle.state.specs.Compared.{TwoCells, TwoStates}
 use Rattle.state.proofs.Cells.{number-tag}
-use Rattle.state.proofs.Syms.{length-cell, cells-one, length-syms, syms-one, syms-none, syms-add, syms-drop, cells-front, cells-rest}
+use Rattle.state.proofs.Syms.{length-cell, cells-one, syms-one, syms-none, syms-add, cells-front, cells-rest}
 use Rattle.state.proofs.States.{value-at, state-lies, lies-syms, lies-cells, lies-count}
 
 -- ---- two cells
 
-eq-parts : (x y : Sym) → eqSym x y ≡ (eqb (tag x) (tag y) && eqb (value x) (value y))
+pub eq-parts : (x y : Sym) → eqSym x y ≡ (eqb (tag x) (tag y) && eqb (value x) (value y))
 eq-parts (before a) (before b) = refl
 eq-parts (before a) (constant b) = refl
 eq-parts (before a) (jumpdest b) = refl
@@ -79,16 +78,6 @@ eq-stored [] [] a b e = refl
 eq-stored [] (y ∷ ys) a b e = absurd (omega arith)
 eq-stored (x ∷ xs) [] a b e = absurd (omega arith)
 eq-stored (x ∷ xs) (y ∷ ys) a b e = rw (eq-stored xs ys a b (omega arith)) (swap-and (eqSym x y) (eqb a b) (eqSyms xs ys))
-
--- Stacks of different lengths are never equal.
-eq-lengths : (xs ys : List Sym) → (length xs ≡ length ys → ⊥) → eqSyms xs ys ≡ false
-eq-lengths [] [] h = absurd (h refl)
-eq-lengths [] (y ∷ ys) h = refl
-eq-lengths (x ∷ xs) [] h = refl
-eq-lengths (x ∷ xs) (y ∷ ys) h = rw (eq-lengths xs ys (λ e. h (ap suc e))) (and-false (eqSym x y))
-
-pub lengths-differ : (s t : Stack) → (cells s ≡ cells t → ⊥) → eqStack s t ≡ false
-lengths-differ s t h = rw (eq-lengths (s .above) (t .above) (λ e. h (ap suc e))) (and-false (eqb (s .base) (t .base)))
 
 -- ---- the loop
 

@@ -2,22 +2,21 @@
 -- Assumes nothing.
 use mathlib.Core.Path.{_≡_, refl, sym, ap, ap₂, _∙_}
 use mathlib.Core.List.{List, [], _∷_, _++_, map, map-append, append-nil}
-use Prim.Native.Nat.{ℕ, zero, suc, _+_, _-_, _*_, _^_, _≤_, _<_, max}
+use Prim.Native.Nat.{ℕ, zero, suc, _+_, _-_, _*_, _≤_, _<_}
 use native.Mathlib.Nat.{add-zero, sub-zero, zero-sub, suc-sub-suc}
-use native.Mathlib.Numerals.{add-one}
 use native.Mathlib.Omega.{arith}
 use lib.ListN.{length, take, drop, length-append, length-map, length-drop, drop-of-length-le}
 use lib.Seq.{drop-nil}
-use Rattle.spec.specs.Stacks.{Sym, before, constant, jumpdest, other, Stack, cells, reads, read, through, compose}
+use Rattle.spec.specs.Stacks.{Sym, before, Stack, cells, reads, read, through, compose}
 use Rattle.lent.specs.Bytes.{Stored}
-use Rattle.lent.proofs.Stored.{kept-part, read-all, stored-join}
+use Rattle.lent.proofs.Stored.{kept-part, read-all}
 use Rattle.state.specs.Symbols.{symOf}
-use Rattle.state.specs.Cells.{cellsOf, symAt, symsAt, Put, Wrote, Cells, stored, stackAt, State, Lies, depth, reach}
+use Rattle.state.specs.Cells.{symAt, symsAt, Put, Wrote, Cells, stored, stackAt, Lies}
 use Rattle.state.specs.Stored.{Readable}
 use Rattle.state.specs.Composed.{Resolves, Composes, ComposesKept, Mapped, Composed}
 use Rattle.state.specs.declared.sym.StackSym.{StackSym}
 use Rattle.state.specs.declared.sym.StackSym.the-variants.{Before}
-use Rattle.state.proofs.Syms.{length-syms, syms-one, syms-add, syms-drop, syms-within, cells-append, cells-rest, cells-within}
+use Rattle.state.proofs.Syms.{length-syms, syms-one, syms-add, syms-drop, syms-within, cells-rest}
 use Rattle.state.proofs.Puts.{wrote-none, wrote-more, wrote-join, wrote-cells}
 use Rattle.state.proofs.States.{length-stored, state-lies, lies-syms, lies-cells, lies-count, lies-here, lies-read, lies-apart}
 use Rattle.state.proofs.Reach.{depth-reads, reach-is}

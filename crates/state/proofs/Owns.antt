@@ -1,28 +1,26 @@
 -- A block's own run, one instruction after the other: what is left to run from here ends where the whole run ends. Assumes nothing.
-use mathlib.Core.Path.{_≡_, refl, sym, ap, ap₂, _∙_}
+use mathlib.Core.Path.{_≡_, refl, sym, ap, _∙_}
 use mathlib.Core.Bool.{Bool, true, false}
-use mathlib.Core.Option.{none, some}
+use mathlib.Core.Option.{none}
 use mathlib.Core.List.{List, [], _∷_}
 use Prim.Native.Nat.{ℕ, suc, _+_, _-_, _*_, _≤_, _<_}
 use native.Mathlib.Omega.{arith}
 use lib.Dec.{eqb}
-use lib.ListN.{length, take, drop}
+use lib.ListN.{length, drop}
 use Rattle.spec.specs.Lists.{if}
-use Rattle.spec.specs.Opcodes.{argument}
 use Rattle.spec.specs.Walk.{Ins, ins, walk, instructions, from}
-use Rattle.spec.specs.Stacks.{Sym, Stack, entry, read, Does, pushes-value, pushes-pc, dups, swaps, ands, adds, jumps, jumpis, lands, halts, plain, does, act, Ran, still, after, runs, before, trims, trim, run}
+use Rattle.spec.specs.Stacks.{Sym, Stack, entry, Does, pushes-value, pushes-pc, dups, swaps, ands, adds, jumps, jumpis, lands, halts, plain, does, act, Ran, still, after, runs, before, cells, trims, trim, run}
 use Rattle.lent.proofs.Parts.{take-less}
 use Rattle.lent.proofs.Stored.{kept-take, kept-drop}
 use Rattle.evm.specs.Step.{stepAt}
 use Rattle.evm.specs.declared.walk.Step.{Step}
 use Rattle.evm.specs.declared.walk.Step.the-variants as step
 use Rattle.evm.proofs.Steps.{Took, took, ended}
-use Rattle.state.specs.Symbols.{symOf}
 use Rattle.state.specs.Cells.{symsAt, Put, reach, Lies}
 use Rattle.state.specs.Working.{stackOf, endOf, Held}
 use Rattle.state.specs.Steps.{Next, on, ends, leaps, turn, next, goOn, nextOf, topOf, Steps, Turns}
 use Rattle.state.specs.Bounds.{Bounded}
-use Rattle.state.specs.Owns.{goesOf, roomOf, Runs, Inside, ranOf, Ended, Trims, Owned}
+use Rattle.state.specs.Owns.{roomOf, Runs, Inside, ranOf, Ended, Trims, Owned}
 use Rattle.state.specs.declared.sym.StackSym.{StackSym}
 use Rattle.state.specs.declared.top.Top.{Top}
 use Rattle.state.specs.declared.step.Turn.{Turn}
@@ -267,6 +265,7 @@ module _ {code : List ℕ} {start : ℕ} {w : List ℕ} {end : ℕ} {w₁ w₂ :
           lies = rw own-stack at l;
           goes = ap (λ (x : Ran). x .goes) (d .is);
           reach = rw x (omega (arith, reach-trim s, b));
+          place = ap (λ (x : Ran). at + 9 * cells (x .stack)) (sym (d .is)) ∙ omega (arith, length-syms w₁ at n, d .ends);
           low = omega (arith, d .bounded .few, length-syms w₁ at n, d .ends);
           high = omega (arith, few, d .ends);
           inside = record {

@@ -4,13 +4,11 @@ use mathlib.Core.List.{List, [], _∷_, _++_}
 use Prim.Native.Nat.{ℕ, _+_, _-_, _*_, _≤_, _<_}
 use native.Mathlib.Nat.{add-comm}
 use native.Mathlib.Omega.{arith}
-use lib.ListN.{length, take, drop, set}
-use lib.Seq.{set-at}
+use lib.ListN.{length}
 use Rattle.spec.specs.Stacks.{Sym}
-use Rattle.lent.specs.Bytes.{Stored}
 use Rattle.lent.proofs.Stored.{kept-part, read-all, stored-none, stored-join}
-use Rattle.state.specs.Cells.{cell, cellsOf, symAt, symsAt, Put, Wrote, Cells}
-use Rattle.state.proofs.Syms.{cells-append, cells-one, length-syms, syms-one, syms-add, syms-within, cells-within, cells-put, cells-join, cells-front, cells-rest}
+use Rattle.state.specs.Cells.{cellsOf, symsAt, Put, Wrote, Cells}
+use Rattle.state.proofs.Syms.{cells-append, cells-one, syms-one, syms-add, syms-within, cells-within, cells-put, cells-join, cells-front, cells-rest}
 
 module _ {b d : List ℕ} {at : ℕ} {x : Sym} (p : Put b at x d) where
   -- n cells that the put one does not touch

@@ -1,14 +1,14 @@
 -- How deep stacks reach: what is read of one, and one that is composed or trimmed. Assumes nothing.
-use mathlib.Core.Path.{_≡_, refl, sym, ap, ap₂, _∙_}
+use mathlib.Core.Path.{_≡_, refl, _∙_}
 use mathlib.Core.Bool.{Bool, true, false}
 use mathlib.Core.List.{List, [], _∷_, _++_, map}
-use Prim.Native.Nat.{ℕ, zero, suc, _+_, _-_, _≤_, _<_, max}
+use Prim.Native.Nat.{ℕ, zero, suc, _+_, _-_, _≤_, max}
 use native.Mathlib.Omega.{arith}
-use native.Mathlib.Nat.{le-refl, le-trans}
+use native.Mathlib.Nat.{le-refl}
 use lib.ListN.{length, drop, replicate}
 use Rattle.spec.specs.Lists.{if}
 use Rattle.spec.specs.Stacks.{Sym, before, constant, jumpdest, other, from-value, Stack, reads, read, joins, settle, trims, trim, through, compose}
-use Rattle.state.specs.Cells.{depth, deepest, stored, reach}
+use Rattle.state.specs.Cells.{depth, deepest, reach}
 
 pub deepest-append : (xs ys : List Sym) → deepest (xs ++ ys) ≡ max (deepest xs) (deepest ys)
 unfolding deepest

@@ -1,20 +1,20 @@
 -- The laws of stored states: what stands in their cells, what is read of them, and where they stay the same. Assumes nothing.
-use mathlib.Core.Path.{_≡_, refl, sym, ap, ap₂, _∙_}
+use mathlib.Core.Path.{_≡_, refl, sym, ap, _∙_}
 use mathlib.Core.Bool.{Bool, true, false}
 use mathlib.Core.List.{List, [], _∷_, _++_}
 use Prim.Native.Nat.{ℕ, zero, suc, _+_, _-_, _*_, _^_, _≤_, _<_}
-use native.Mathlib.Nat.{add-zero, sub-zero, suc-sub-suc}
+use native.Mathlib.Nat.{add-zero}
 use native.Mathlib.Omega.{arith}
 use lib.Dec.{eqb}
 use lib.ListN.{length, take, drop, length-append}
-use lib.Seq.{take-length, drop-drop, take-add, take-all}
+use lib.Seq.{drop-drop, take-add, take-all}
 use Rattle.spec.specs.Lists.{if}
 use Rattle.spec.specs.Stacks.{Sym, before, constant, jumpdest, other, Stack, cells, reads, read}
 use Rattle.lent.specs.Bytes.{numAt, Holds, Stored}
 use Rattle.lent.proofs.Parts.{length-part}
 use Rattle.lent.proofs.Numbers.{num-within}
 use Rattle.lent.proofs.Stored.{kept-part, read-all}
-use Rattle.state.specs.Cells.{tag, value, cell, cellsOf, symbol, symAt, symsAt, Cells, stored, stackAt, State, Lies, reach}
+use Rattle.state.specs.Cells.{value, cell, cellsOf, symbol, symAt, symsAt, Cells, stored, stackAt, State, Lies, reach}
 use Rattle.state.proofs.Cells.{number-tag}
 use Rattle.state.proofs.Reach.{reach-is}
 use Rattle.state.proofs.Syms.{length-cell, length-cells, cells-append, cells-one, length-syms, syms-one, syms-add, reads-inside, reads-below, syms-within, cells-within, split}

@@ -7,15 +7,13 @@ use native.Mathlib.Decide.{decLe}
 use native.Mathlib.Numerals.{add-one}
 use native.Mathlib.Omega.{arith}
 use lib.ListN.{length, take, drop, length-append, drop-of-length-le}
-use lib.Seq.{drop-append-le}
 use Rattle.spec.specs.Stacks.{Sym, before, Stack, reads, read, span, pops, pushes, swap}
 use Rattle.lent.specs.Bytes.{Stored}
-use Rattle.lent.proofs.Parts.{take-less, drop-more}
 use Rattle.lent.proofs.Stored.{kept-take, kept-drop, kept-part, read-all}
-use Rattle.state.specs.Cells.{symAt, symsAt, befores, Put, Wrote, Cells}
+use Rattle.state.specs.Cells.{symAt, symsAt, befores, Put, Wrote}
 use Rattle.state.specs.Working.{stackOf, endOf, deepen, Held, Deepens, Becomes}
 use Rattle.state.specs.declared.top.Top.{Top}
-use Rattle.state.proofs.Syms.{length-syms, syms-one, syms-add, syms-drop, syms-within, reads-inside, cells-within, cells-join}
+use Rattle.state.proofs.Syms.{length-syms, syms-add, syms-drop, syms-within, reads-inside, cells-within, cells-join}
 use Rattle.state.proofs.Puts.{put-syms, before-syms, over-syms, over-cells, wrote-none, wrote-more, wrote-cells}
 
 -- ---- what the numbering gives, spelled out

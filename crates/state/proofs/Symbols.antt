@@ -1,15 +1,14 @@
 -- The laws of symbols: what a value gives, and what is known of a symbol. Assumes nothing.
-use mathlib.Core.Path.{_≡_, refl, ap, _∙_}
-use mathlib.Core.Bool.{Bool, true, false}
+use mathlib.Core.Path.{_≡_}
+use mathlib.Core.Bool.{false}
 use mathlib.Core.List.{List}
-use mathlib.Core.Option.{none, some}
 use Prim.Native.Nat.{ℕ, _≤_}
 use native.Mathlib.Omega.{arith}
 use lib.Dec.{eqb}
 use lib.ListN.{length, getD, List·getD-eq-default}
 use borrow.Author.Tests.{eq-eqb, ne-eqb}
 use Rattle.spec.specs.Lists.{if}
-use Rattle.spec.specs.Stacks.{Sym, jumpdest, constant, known-value, from-value, is, mask}
+use Rattle.spec.specs.Stacks.{jumpdest, constant, known-value, from-value, is, mask}
 use Rattle.state.specs.Symbols.{symOf, knownOf}
 use Rattle.state.specs.declared.sym.StackSym.{StackSym}
 use Rattle.state.specs.declared.sym.Known.{Known}

@@ -1,17 +1,17 @@
 -- The laws of cells one after another: their symbols, their bytes, and where both stay the same. Assumes nothing.
-use mathlib.Core.Path.{_≡_, refl, sym, ap, ap₂, _∙_}
+use mathlib.Core.Path.{_≡_, refl, sym, ap, _∙_}
 use mathlib.Core.List.{List, [], _∷_, _++_, append-assoc, append-nil}
 use Prim.Native.Nat.{ℕ, zero, suc, _+_, _-_, _*_, _≤_, _<_}
-use native.Mathlib.Nat.{zero-add, suc-add, add-zero, mul-zero, mul-suc, sub-zero, zero-sub, suc-sub-suc, mul-one}
+use native.Mathlib.Nat.{zero-add, suc-add, add-zero, sub-zero, suc-sub-suc}
 use native.Mathlib.Omega.{arith}
-use lib.ListN.{length, take, drop, length-append, length-take, length-drop}
-use lib.Seq.{take-add, drop-drop, take-append-seam, drop-append-seam, take-at, drop-at}
+use lib.ListN.{length, take, drop, length-append}
+use lib.Seq.{take-add, drop-drop, take-append-seam, drop-append-seam, drop-at}
 use Rattle.spec.specs.Stacks.{Sym, before, reads}
-use Rattle.lent.specs.Bytes.{numAt, Stored}
+use Rattle.lent.specs.Bytes.{numAt}
 use Rattle.lent.proofs.Parts.{part-within, length-part}
 use Rattle.lent.proofs.Numbers.{length-little, num-within}
 use Rattle.lent.proofs.Stored.{read-all}
-use Rattle.state.specs.Cells.{value, cell, cellsOf, symbol, symAt, symsAt, Put, Cells}
+use Rattle.state.specs.Cells.{value, cell, cellsOf, symAt, symsAt, Put, Cells}
 
 -- ---- the bytes of symbols
 

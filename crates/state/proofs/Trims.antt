@@ -2,8 +2,7 @@
 use mathlib.Core.Path.{_≡_, refl, sym, ap, _∙_}
 use mathlib.Core.Bool.{Bool, true, false}
 use mathlib.Core.List.{List, [], _∷_, _++_}
-use Prim.Native.Nat.{ℕ, zero, suc, _+_, _-_, _*_, _≤_, _<_}
-use native.Mathlib.Nat.{add-zero, zero-add}
+use Prim.Native.Nat.{ℕ, suc, _+_, _-_, _*_, _≤_}
 use native.Mathlib.Omega.{arith}
 use lib.Dec.{eqb}
 use lib.ListN.{length}
@@ -11,7 +10,7 @@ use borrow.Author.Tests.{eq-eqb, ne-eqb, eqb-true}
 use Rattle.spec.specs.Lists.{if}
 use Rattle.spec.specs.Stacks.{Sym, before, constant, jumpdest, other, Stack, joins, settle, trims}
 use Rattle.state.specs.Symbols.{symOf}
-use Rattle.state.specs.Cells.{symAt, symsAt, Cells, stored, Lies}
+use Rattle.state.specs.Cells.{symAt, symsAt, Lies}
 use Rattle.state.specs.Owns.{Trims}
 use Rattle.state.specs.declared.sym.StackSym.{StackSym}
 use Rattle.state.specs.declared.sym.StackSym.the-variants.{Before, Constant, Jumpdest, Other}

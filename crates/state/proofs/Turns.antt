@@ -2,18 +2,18 @@
 -- Assumes nothing.
 use mathlib.Core.Path.{_≡_, refl, sym, ap, ap₂, _∙_}
 use mathlib.Core.List.{List}
-use Prim.Native.Nat.{ℕ, _+_, _-_, _*_, _^_, _≤_, _<_}
+use Prim.Native.Nat.{ℕ, _+_, _-_, _≤_, _<_}
 use native.Mathlib.Omega.{arith}
-use lib.ListN.{length, take, drop}
+use lib.ListN.{drop}
 use borrow.Author.Tests.{eq-eqb, ne-eqb}
 use Rattle.spec.specs.Lists.{if}
 use Rattle.spec.specs.Opcodes.{argument}
-use Rattle.spec.specs.Walk.{Ins, big, ins}
+use Rattle.spec.specs.Walk.{Ins, ins}
 use Rattle.spec.specs.Stacks.{Sym, from-value, Stack, read, pops, push, swap, Does, pushes-value, pushes-pc, dups, swaps, ands, adds, jumps, jumpis, lands, halts, plain, does, act}
 use Rattle.evm.proofs.Arguments.{argument-push}
 use Rattle.state.specs.Symbols.{symOf}
-use Rattle.state.specs.Working.{stackOf, endOf, after-and, after-add, after-trade, popped, Held, Ready, Near, Deepens, Moves, Becomes}
-use Rattle.state.specs.Steps.{Next, on, ends, leaps, turn, next, nextOf, topOf, spelt, Pushes, Steps, Turns}
+use Rattle.state.specs.Working.{stackOf, after-and, after-add, after-trade, popped, Held, Ready, Near, Deepens, Moves, Becomes}
+use Rattle.state.specs.Steps.{on, ends, leaps, turn, next, nextOf, topOf, spelt, Pushes, Steps, Turns}
 use Rattle.state.specs.declared.sym.StackSym.{StackSym}
 use Rattle.state.specs.declared.top.Top.{Top}
 use Rattle.state.specs.declared.step.Turn.{Turn}

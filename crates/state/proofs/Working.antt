@@ -1,14 +1,13 @@
 -- The laws of the stack in hand: what pushing and popping make of it, and what is read of it. Assumes nothing.
 use mathlib.Core.Path.{_≡_, refl, sym, ap, _∙_}
-use mathlib.Core.List.{List, [], _∷_, _++_}
+use mathlib.Core.List.{List, _∷_}
 use Prim.Native.Nat.{ℕ, _+_, _-_, _*_, _≤_, _<_, min}
 use native.Mathlib.Omega.{arith}
-use native.Mathlib.Nat.{add-zero}
 use native.Mathlib.Decide.{decLe}
-use lib.ListN.{length, take, drop, drop-of-length-le}
-use Rattle.spec.specs.Stacks.{Sym, before, Stack, reads, read, pops, push}
+use lib.ListN.{drop, drop-of-length-le}
+use Rattle.spec.specs.Stacks.{Sym, before, Stack, read, pops, push}
 use Rattle.lent.proofs.Stored.{kept-take, kept-drop}
-use Rattle.state.specs.Cells.{symAt, symsAt, Put, Cells}
+use Rattle.state.specs.Cells.{symAt, symsAt, Put}
 use Rattle.state.specs.Working.{stackOf, endOf, popped, Held, Free, Ready, Becomes}
 use Rattle.state.specs.declared.top.Top.{Top}
 use Rattle.state.proofs.Syms.{length-syms, syms-none, syms-drop, reads-inside, reads-below, cells-rest}

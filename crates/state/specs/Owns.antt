@@ -1,11 +1,11 @@
 -- A block's own run: the contracts of its functions. Assumes nothing.
 use mathlib.Core.Path.{_≡_}
-use Prim.Native.Nat.{ℕ, _+_, _-_, _*_, _≤_, _<_}
+use Prim.Native.Nat.{ℕ, _+_, _-_, _*_, _≤_}
 use mathlib.Core.Option.{Option, none, some}
 use mathlib.Core.List.{List}
 use lib.ListN.{length, take, drop}
 use Rattle.spec.specs.Walk.{walk, instructions, from}
-use Rattle.spec.specs.Stacks.{Sym, before, Stack, entry, Ran, runs, run}
+use Rattle.spec.specs.Stacks.{Sym, before, entry, cells, Ran, runs, run}
 use Rattle.state.specs.Symbols.{symOf}
 use Rattle.state.specs.Cells.{symAt, Cells, reach, Lies}
 use Rattle.state.specs.Bounds.{Bounded}
@@ -51,11 +51,13 @@ pub record Trims (w : List ℕ) (at n base : ℕ) : Type 0 where
   pub cells : Cells w at (n + 1)
   pub bottom : symAt w (at + 9 * n) ≡ before base
 
--- the state is the block's own, as document 01 has it; it reaches some 2^19 words deep at most; and it lies within the part
+-- The state is the block's own, as document 01 has it. It reaches at most 16 words deep and 17 a byte of code; its cells begin where those of the state before
+-- trimming do, which end where the part ends.
 pub record Owned (code : List ℕ) (start : ℕ) (w : List ℕ) (end : ℕ) (w′ : List ℕ) (r : Own) : Type 0 where
   pub lies : Lies w′ (r .at) (r .n) (run code (instructions code) start .stack)
   pub goes : goesOf (r .goes) ≡ run code (instructions code) start .goes
   pub reach : reach (run code (instructions code) start .stack) ≤ 17 * length code + 16
+  pub place : r .at + 9 * cells (runs code start (from start (instructions code)) entry .stack) ≡ end
   pub low : end - roomOf code ≤ r .at
   pub high : r .at + 9 * r .n ≤ end
   pub inside : Inside code w end w′

@@ -4,7 +4,6 @@ use Prim.Native.Nat.{ℕ, _+_, _-_, _*_, _^_, _≤_, _<_, min}
 use mathlib.Core.List.{List, _++_}
 use lib.ListN.{length, take, drop}
 use Rattle.spec.specs.Opcodes.{row}
-use Rattle.spec.specs.Walk.{Ins}
 use Rattle.spec.specs.Stacks.{Stack, known-value, read, push, pops, anded, summed, trade}
 use Rattle.state.specs.Cells.{symsAt, befores, Cells}
 use Rattle.state.specs.declared.top.Top.{Top}
@@ -76,7 +75,7 @@ pub record Deepens (w : List ℕ) (t : Top) (m : ℕ) : Type 0 where
   pub fits : 9 * m + 9 ≤ endOf t
   pub small : t .base + m < 2 ^ 64
 
--- t in w became t′ in w′: nothing before its cells changed, and nothing after its part; t′ is the stack s
+-- t in w became t′ in w′: nothing before its cells changed, and nothing after its part
 pub record Moves (w : List ℕ) (t : Top) (w′ : List ℕ) (t′ : Top) : Type 0 where
   pub held : Held w′ t′
   pub ends : endOf t′ ≡ endOf t

@@ -6,7 +6,7 @@ use crate::step::step;
 use crate::sym::StackSym;
 use crate::top::Top;
 use evm::walk::Step;
-use evm::walk::step_at;
+use evm::walker::step_from;
 ghost use mathlib.Core.Path.{_≡_};
 ghost use Rattle.spec.specs.Stacks.{joins, trims};
 ghost use Rattle.state.specs.Symbols.{symOf};
@@ -44,7 +44,7 @@ fn to_end(code: &[u8], start: usize, w: &mut [u8], end: usize) -> End
         base: 0,
     };
     loop {
-        match step_at(code, at) {
+        match step_from(code, at) {
             Step::End => {
                 return End {
                     top: t,

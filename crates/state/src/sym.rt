@@ -18,7 +18,7 @@ pub enum Known {
 }
 
 impl StackSym {
-    // The value that an AND may leave out: it keeps the low 32 bits.
+    // The value with which an AND leaves a symbol as it is: it keeps the low 32 bits.
     pub const MASK: usize = 0xffff_ffff;
 
     // The value that the symbol is known to have.

@@ -4,7 +4,7 @@ use crate::sym::StackSym;
 use crate::top::Top;
 ghost use mathlib.Core.Path.{_≡_};
 ghost use mathlib.Core.Option.{some};
-ghost use Rattle.spec.specs.Stacks.{known-value, anded, summed, read, push, pops};
+ghost use Rattle.spec.specs.Stacks.{known-value, anded, summed, read};
 ghost use Rattle.state.specs.Symbols.{symOf};
 ghost use Rattle.state.specs.Working.{stackOf, after-and, after-add, Ready, Becomes};
 

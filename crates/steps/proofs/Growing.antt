@@ -19,8 +19,8 @@ use Rattle.tables.specs.Records.{endOf, pathAt, Row}
 use Rattle.tables.proofs.Addrs.{addrs-length, addrs-prefix, addrs-within}
 use Rattle.tables.proofs.Lookup.{end-here}
 use Rattle.steps.specs.Cursors.{pathCursor}
-use Rattle.steps.specs.Paths.{Inside, Growing, Grown}
-use Rattle.steps.proofs.Splits.{addrs-append, inside-append}
+use Rattle.steps.specs.Paths.{Growing, Grown}
+use Rattle.steps.proofs.Splits.{addrs-append}
 
 -- ---- a parent's path
 
@@ -114,6 +114,3 @@ module _ {p r q : List ℕ} {room np at : ℕ} (g : Growing p r q room np at) wh
 module _ {p more p′ : List ℕ} {np room x : ℕ} (g : Grown p np room more p′ x) where
   pub grown-front : addrs p′ 0 np ≡ addrs p 0 np
   grown-front = addrs-prefix p′ p np 0 np (g .front) (omega arith)
-
-  pub grown-inside : {n : ℕ} → (x ≡ 0 → ⊥) → Inside n (addrs p 0 np) → Inside n more → Inside n (addrs p′ 0 x)
-  grown-inside d i j = rw (g .path d) (inside-append i j)

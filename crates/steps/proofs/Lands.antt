@@ -1,20 +1,21 @@
 -- The laws of what a path ends in: when an address counts as reached, and what a record more adds to that. Assumes nothing.
 use mathlib.Core.Path.{_≡_, refl, sym, ap, subst, _∙_}
-use mathlib.Core.Logic.{inl, inr}
+use mathlib.Core.Logic.{_⊎_, inl, inr}
 use mathlib.Core.Bool.{Bool, true, false, _&&_, _||_, or-assoc}
 use mathlib.Core.List.{List, [], _∷_, _++_, append-nil}
-use Prim.Native.Nat.{ℕ, zero, suc, _+_, _*_, _^_, _≤_, _<_}
+use Prim.Native.Nat.{ℕ, zero, suc, _+_, _-_, _*_, _^_, _≤_, _<_}
 use native.Mathlib.Decide.{ℕ-discrete}
 use native.Mathlib.Omega.{arith}
 use lib.Dec.{eqb, ltb, leb}
 use lib.ListN.{length, take, drop, length-append}
 use lib.Seq.{take-all, take-append-le}
-use borrow.Author.Tests.{lt-ltb, le-leb, lt-leb, eq-eqb, ne-eqb}
+use borrow.Author.Tests.{lt-ltb, le-ltb, le-leb, lt-leb, eq-eqb, ne-eqb}
 use Rattle.spec.specs.Lists.{if, mem, little}
-use Rattle.spec.specs.Search.{Found, nowhere, found, Rec, dest, dests}
-use Rattle.theorems.proofs.Branch.{both, if-false, and-false}
+use Rattle.spec.specs.Search.{Found, nowhere, found, Rec, dest, dests, kept}
+use Rattle.theorems.proofs.Branch.{both, if-true, if-false, and-false}
 use Rattle.theorems.proofs.Members.{gather-append}
 use Rattle.lent.specs.Bytes.{Stored}
+use Rattle.lent.proofs.Parts.{take-less}
 use Rattle.lent.proofs.Stored.{kept-take, kept-drop, kept-part, kept-num}
 use Rattle.state.specs.Cells.{stackAt}
 use Rattle.reachable.specs.Marks.{markAt}
@@ -24,24 +25,22 @@ use Rattle.reachable.proofs.Frames.{num-in}
 use Rattle.reachable.proofs.Marks.{by-mark, marked-others, marked-one}
 use Rattle.tables.specs.Addrs.{addrs}
 use Rattle.tables.specs.Tables as tables
-use Rattle.tables.specs.Tables.{recs, SameLinks}
-use Rattle.tables.specs.Recording.{Grows, Recorded}
+use Rattle.tables.specs.Tables.{recs, counted, SameLinks}
+use Rattle.tables.specs.Recording.{Recorded}
 use Rattle.tables.specs.declared.Rooms.{Rooms}
 use Rattle.tables.specs.declared.Counts.{Counts}
 use Rattle.tables.specs.declared.Entry.{Entry}
 use Rattle.tables.specs.declared.Answer.{Answer}
 use Rattle.tables.proofs.Counted.{recs-length}
 use Rattle.tables.proofs.Uses.{tables-kept}
-use Rattle.steps.specs.Lands.{Marks, Lands, Noted}
+use Rattle.tables.proofs.Noted.{recorded-more}
+use Rattle.steps.specs.Lands.{Marks, Lands, remarked, Grows, Noted}
 use Rattle.steps.specs.declared.Plan.{Plan}
 
--- ---- the mark f of an address, when the record after the first l leads there (d) or not
+-- ---- the mark of an address, with a record more
 
 abbrev counts : ℕ → ℕ → Bool
 counts f by = ltb 0 f && leb f by
-
-abbrev remarked : Bool → ℕ → ℕ → ℕ
-remarked d l f = if (d && eqb f 0) (l + 2) f
 
 -- an older mark stays
 still : (d : Bool) (l f : ℕ) → (f ≡ 0 → ⊥) → remarked d l f ≡ f
@@ -149,64 +148,91 @@ spared-mark {n} {buckets} {a} {when} {w} {w′} i m = by-mark i m (λ _ s. store
 
 -- ---- noted: recorded, and marked if it is new
 
--- recording leaves the marks
-mark-recorded : {p : List ℕ} {np n buckets start : ℕ} {k : Rooms} {m m′ : tables.Mem} {c : Counts} {x : Found} {a : Answer}
-    → Recorded p np n buckets k m c start x m′ a → (y : ℕ) → y ≤ n → markAt (m′ .w) n y ≡ markAt (m .w) n y
-mark-recorded {n = n} {m = m} {m′} h y l =
-    num-in (m′ .w) (m .w) 4 (20 * (n + 1) + 20 * y) (h .keeping .beyond .apart .marks y l) 4 (20 * (n + 1 + y)) (omega arith) (omega arith)
+module _ {p : List ℕ} {np n buckets start : ℕ} {k : Rooms} {m m′ : tables.Mem} {c : Counts} {x : Found} {a : Answer} (h : Recorded p np n buckets k m c start x m′ a) where
+  -- recording leaves the marks
+  mark-recorded : (y : ℕ) → y ≤ n → markAt (m′ .w) n y ≡ markAt (m .w) n y
+  mark-recorded y l =
+      num-in (m′ .w) (m .w) 4 (20 * (n + 1) + 20 * y) (h .beyond .apart .marks y l) 4 (20 * (n + 1 + y)) (omega arith) (omega arith)
+
+  -- and a count that a record more has as it was
+  same-count : (f : Counts → ℕ) → f (counted c np (kept x)) ≡ f c → f (a .counts) ≡ f c
+  same-count f g = go (recorded-more h)
+    where
+      go : {A B : Type 0} → (A × (a .counts ≡ c)) ⊎ (B × (a .counts ≡ counted c np (kept x))) → f (a .counts) ≡ f c
+      go (inl e) = ap f (e .1)
+      go (inr e) = ap f (e .1) ∙ g
+
+  recorded-grows : Grows k m c (record { start = start; to = x; path = addrs p 0 np }) m′ (a .counts)
+  recorded-grows = go (recorded-more h)
+    where
+      go : {A B : Type 0} → (A × (a .counts ≡ c)) ⊎ (B × (a .counts ≡ counted c np (kept x)))
+          → (A × (a .counts .records ≡ c .records)) ⊎ (B × (a .counts .records ≡ c .records + 1))
+      go (inl e) = inl (e .0, ap (λ (d : Counts). d .records) (e .1))
+      go (inr e) = inr (e .0, ap (λ (d : Counts). d .records) (e .1))
 
 module _ {p : List ℕ} {np start : ℕ} {k : Plan} {w r q s w₁ r₁ q₁ s₁ : List ℕ} {c : Counts} {x : Found} {a : Answer}
     (h : Recorded p np (k .n) (k .buckets) (k .rooms) (tables.mem w r q s) c start x (tables.mem w₁ r₁ q₁ s₁) a) where
   -- what recording leaves, with W marked or as it is
-  noted-by : {w₂ : List ℕ} → Spared (k .n) (k .buckets) w₁ w₂ → ((a .code ≡ 0 → ⊥) → w₂ ≡ w₁)
-      → (a .counts .records ≡ c .records → (y : ℕ) → y ≤ k .n → markAt w₂ (k .n) y ≡ markAt w₁ (k .n) y)
+  noted-by : {w₂ : List ℕ} → Spared (k .n) (k .buckets) w₁ w₂ → (a .counts .records ≡ c .records → w₂ ≡ w₁)
       → (a .counts .records ≡ c .records + 1 → (y : ℕ) → y ≤ k .n → markAt w₂ (k .n) y ≡ remarked (mem y (dest x)) (c .records) (markAt w₁ (k .n) y))
       → Noted p np k (tables.mem w r q s) c start x (tables.mem w₂ r₁ q₁ s₁) a
-  noted-by {w₂} o stays same more =
-      let v = h .keeping in
-      let b = v .beyond in
+  noted-by {w₂} o same more =
+      let v = h .stays in
+      let b = h .beyond in
+      let used = same-count h (λ (d : Counts). d .used) refl in
       record {
         code = h .code;
         made = h .made;
-        refused = λ d. (ap (λ (u : List ℕ). tables.mem u r₁ q₁ s₁) (stays d) ∙ h .refused d .0, h .refused d .1);
-        grows = h .grows;
+        tells = h .tells;
+        holds = h .holds;
+        counts = h .counts;
+        known = λ e.
+            let is = h .counts (h .tells ∙ if-true _ _ _ e) ∙ if-true _ _ _ e in
+            ap (λ (u : List ℕ). tables.mem u r₁ q₁ s₁) (same (ap (λ (u : Counts). u .records) is)) ∙ h .known e;
+        refused = λ d. (ap (λ (u : List ℕ). tables.mem u r₁ q₁ s₁) (same (ap (λ (u : Counts). u .records) (h .refused d .1))) ∙ h .refused d .0, h .refused d .1);
+        grows = recorded-grows h;
         tables = tables-kept (h .tables) w₂ s₁ (o .links) refl refl (a .counts .used) (a .counts .rows) (h .tables .within .fitsS);
-        marks = λ reached since l g. go l g (h .grows);
+        marked = λ y l. new-mark y l (recorded-grows h);
+        marks = λ reached since l g. go l g (recorded-grows h);
         around = record {
           front = o .front ∙ b .apart .front;
           rests = λ y l. o .rests y l ∙ b .apart .rests y l;
           work = o .work ∙ b .work;
           back = o .back ∙ b .back;
-          frontQ = v .frontQ;
-          bottom = v .bottom;
-          top = v .top;
           longW = o .links .long ∙ b .apart .long;
-          longR = v .longR;
-          longQ = v .longQ;
+          stays = v;
+          bottom = take-less s₁ s (9 * (k .rooms .s - a .counts .kept)) (v .frontS) (9 * c .used) (omega (arith, used, h .tables .within .fitsS));
           longS = v .longS;
         };
-        used = h .used;
-        rows = h .rows;
+        used = used;
+        rows = same-count h (λ (d : Counts). d .rows) refl;
       }
     where
+      new-mark : {A B : Type 0} (y : ℕ) → y ≤ k .n → (A × (a .counts .records ≡ c .records)) ⊎ (B × (a .counts .records ≡ c .records + 1))
+          → markAt w₂ (k .n) y ≡ remarked (ltb (c .records) (a .counts .records) && mem y (dest x)) (c .records) (markAt w (k .n) y)
+      new-mark y l (inl e) =
+          rw (same (e .1)) (mark-recorded h y l) ∙ sym (if-false _ _ _ (rw (le-ltb (c .records) (a .counts .records) (omega (arith, e .1)))))
+      new-mark y l (inr e) =
+          rw (lt-ltb (c .records) (a .counts .records) (omega (arith, e .1))) (more (e .1) y l ∙ ap (remarked (mem y (dest x)) (c .records)) (mark-recorded h y l))
+
       go : {reached : List ℕ} {since : ℕ} → since ≤ c .records → Marks (k .n) w reached since (recs (k .rooms) (tables.mem w r q s) c)
           → Grows (k .rooms) (tables.mem w r q s) c (record { start = start; to = x; path = addrs p 0 np }) (tables.mem w₁ r₁ q₁ s₁) (a .counts)
           → Marks (k .n) w₂ reached since (recs (k .rooms) (tables.mem w₂ r₁ q₁ s₁) (a .counts))
       go l g (inl e) =
-          subst (Marks (k .n) w₂ _ _) (sym (e .0)) (marks-kept g (λ y b. same (e .1) y b ∙ mark-recorded h y b))
+          subst (Marks (k .n) w₂ _ _) (sym (e .0)) (marks-kept g (λ y b. rw (same (e .1)) (mark-recorded h y b)))
       go l g (inr e) =
           subst (Marks (k .n) w₂ _ _) (sym (e .0)) (marks-more g w₂ _ (recs-length r q s (k .rooms .s) (c .records)) l
           (λ y b. more (e .1) y b ∙ ap (remarked (mem y (dest x)) (c .records)) (mark-recorded h y b)))
 
   -- nothing was added, so nothing is marked
   pub landed-old : a .counts .records ≡ c .records → Noted p np k (tables.mem w r q s) c start x (tables.mem w₁ r₁ q₁ s₁) a
-  landed-old e = noted-by spared-all (λ _. refl) (λ _ y l. refl) (λ g. absurd (omega arith))
+  landed-old e = noted-by spared-all (λ _. refl) (λ g. absurd (omega arith))
 
 -- no destination: nothing to mark
 pub strayed : {p : List ℕ} {np start : ℕ} {k : Plan} {w r q s w₁ r₁ q₁ s₁ : List ℕ} {c : Counts} {a : Answer}
     → Recorded p np (k .n) (k .buckets) (k .rooms) (tables.mem w r q s) c start nowhere (tables.mem w₁ r₁ q₁ s₁) a
     → Noted p np k (tables.mem w r q s) c start nowhere (tables.mem w₁ r₁ q₁ s₁) a
-strayed h = noted-by h spared-all (λ _. refl) (λ _ y l. refl) (λ _ y l. sym (if-false false _ _ refl))
+strayed h = noted-by h spared-all (λ _. refl) (λ _ y l. sym (if-false false _ _ refl))
 
 -- the number of records, of which there are few, and two more
 pub lands-few : {p : List ℕ} {np : ℕ} {k : Plan} {m : tables.Mem} {c : Counts} {e : Entry} → Lands p np k m c e → c .records + 2 < 2 ^ 32
@@ -218,7 +244,7 @@ module _ {p : List ℕ} {np : ℕ} {k : Plan} {w r q s w₁ r₁ q₁ s₁ : Lis
   pub lands-address : Address (k .n) w₁ (e .to)
   lands-address =
       record {
-        lent = record { short = y .lent .short; room = omega (arith, y .lent .room, h .keeping .beyond .apart .long) };
+        lent = record { short = y .lent .short; room = omega (arith, y .lent .room, h .beyond .apart .long) };
         inside = y .somewhere .to;
       }
 
@@ -226,7 +252,7 @@ module _ {p : List ℕ} {np : ℕ} {k : Plan} {w r q s w₁ r₁ q₁ s₁ : Lis
   pub landed-new : {w₂ : List ℕ} → (a .counts .records ≡ c .records → ⊥) → Marked (k .n) w₁ (e .to) (c .records + 2) w₂
       → Noted p np k (tables.mem w r q s) c (e .start) (found (e .to) (stackAt s (9 * e .from) (e .cells))) (tables.mem w₂ r₁ q₁ s₁) a
   landed-new {w₂} d m =
-      noted-by h (spared-mark lands-address m) (λ z. absurd (d (ap (λ (u : Counts). u .records) (h .refused z .1)))) (λ g. absurd (d g)) (λ _ z l. marked z (ℕ-discrete z (e .to)))
+      noted-by h (spared-mark lands-address m) (λ g. absurd (d g)) (λ _ z l. marked z (ℕ-discrete z (e .to)))
     where
       marked : (z : ℕ) → Dec (z ≡ e .to) → markAt w₂ (k .n) z ≡ remarked (mem z (e .to ∷ [])) (c .records) (markAt w₁ (k .n) z)
       marked z (yes i) =

@@ -105,7 +105,9 @@ module _ {code w s r : List ℕ} {k : Plan} {c : Counts} {l : Level} {at : ℕ} 
               symbol-is = rw e x;
               fits = λ z. absurd (omega (arith, z));
               lies = λ z. absurd (omega (arith, z));
+              refused = λ _. refl;
               bottom = refl;
+              after = λ _. refl;
               top = refl;
               longS = refl;
               front = o .front;
@@ -124,6 +126,8 @@ module _ {code w s r : List ℕ} {k : Plan} {c : Counts} {l : Level} {at : ℕ} 
               symbol-is = rw e x;
               fits = λ _. room;
               lies = λ _. rw e (d .lies);
+              refused = λ i. absurd (i refl);
+              after = λ _. kept-drop (d .stored) (9 * (c .used + v)) (omega arith);
               bottom = kept-take (d .stored) (9 * c .used) (omega arith);
               top = kept-drop (d .stored) (9 * (k .rooms .s - c .kept)) (omega arith);
               longS = d .stored .kept;

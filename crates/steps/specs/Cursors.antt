@@ -5,16 +5,16 @@ use Prim.Native.Nat.{ℕ, suc, _+_, _-_, _*_, _≤_, _<_}
 use mathlib.Core.Bool.{Bool, _&&_, _||_}
 use mathlib.Core.List.{List, [], _∷_, _++_, map}
 use lib.Dec.{eqb, ltb, leb}
-use lib.ListN.{length, take, drop}
+use lib.ListN.{length, drop}
 use Rattle.spec.specs.Lists.{if, mem, lastOf, keep}
 use Rattle.spec.specs.Walk.{instructions}
 use Rattle.spec.specs.Stacks.{Stack, run}
-use Rattle.spec.specs.Search.{Parent, parent, Found, found, Rec, dests, found-parents}
+use Rattle.spec.specs.Search.{Parent, found, Rec, dests, found-parents}
 use Rattle.spec.specs.Rooms.{or-else}
 use Rattle.lent.specs.Bytes.{numAt}
 use Rattle.state.specs.Cells.{stackAt}
 use Rattle.tables.specs.Records as records
-use Rattle.tables.specs.Records.{toAt, endOf, keptOf, pathAt}
+use Rattle.tables.specs.Records.{endOf, keptOf, pathAt}
 use Rattle.parents.specs.Links as links
 use Rattle.parents.specs.Links.{startOf, Parents}
 use Rattle.parents.proofs.Knows.{parentOf, Comes}

@@ -1,19 +1,22 @@
 -- When an address counts as reached, and what a path's end adds to that and to the records. Assumes nothing.
 use mathlib.Core.Path.{_≡_}
-use mathlib.Core.Bool.{_||_}
-use Prim.Native.Nat.{ℕ, _+_, _-_, _*_, _≤_}
-use mathlib.Core.List.{List, _∷_, []}
+use mathlib.Core.Logic.{_⊎_}
+use mathlib.Core.Bool.{Bool, true, _&&_, _||_}
+use Prim.Native.Nat.{ℕ, _+_, _*_, _≤_}
+use mathlib.Core.List.{List, [], _∷_, _++_}
+use lib.Dec.{eqb, ltb}
 use lib.ListN.{length, take, drop}
-use Rattle.spec.specs.Lists.{mem}
-use Rattle.spec.specs.Search.{Found, Rec, dests, St, Turn}
+use Rattle.spec.specs.Lists.{if, mem}
+use Rattle.spec.specs.Search.{Found, Rec, dest, dests, kept, St, Turn}
 use Rattle.spec.specs.Rooms.{Lent, or-else, shortage}
 use Rattle.theorems.proofs.Older.{clear}
 use Rattle.reachable.specs.Marks.{markAt, markedBy}
 use Rattle.reachable.specs.Contracts.{Room}
 use Rattle.tables.specs.Addrs.{addrs}
 use Rattle.tables.specs.Tables as tables
-use Rattle.tables.specs.Tables.{recs, Tables, Nowhere, Somewhere}
-use Rattle.tables.specs.Recording.{Lends, noted, Holding, with-recs, Grows}
+use Rattle.tables.specs.Tables.{recs, counted, Tables, Nowhere, Somewhere, Stays}
+use Rattle.tables.specs.Recording.{Lends, shortOf, entryNeeds, noted, Holding, with-recs, recorded?}
+use Rattle.tables.specs.declared.Rooms.{Rooms}
 use Rattle.tables.specs.declared.Counts.{Counts}
 use Rattle.tables.specs.declared.Entry.{Entry}
 use Rattle.tables.specs.declared.Answer.{Answer}
@@ -33,20 +36,25 @@ pub record Strays (p : List ℕ) (np : ℕ) (k : Plan) (m : tables.Mem) (c : Cou
   pub lent : Room (k .n) (m .w)
   pub nowhere : Nowhere p np (k .n) (k .buckets) (k .rooms) m c start
 
--- what stays: W's rows, the fields of each address from the twelfth byte on, the worklist and what lies past the buckets; the records' paths; the cells in
--- use at the bottom of S, and those kept at its top
-pub record Around (k : Plan) (m : tables.Mem) (c : Counts) (m′ : tables.Mem) : Type 0 where
+-- the mark f of an address, when the record after the first l leads there (d) or not
+abbrev pub remarked : Bool → ℕ → ℕ → ℕ
+remarked d l f = if (d && eqb f 0) (l + 2) f
+
+-- what stays, where the counts c became d: of R, Q and S every byte that is not a new record's but for an older one's link to the next parent, the cells
+-- in use at the bottom of S among them; of W the rows, the fields of each address from byte 12 on, the worklist and what lies past the buckets
+pub record Around (k : Plan) (m : tables.Mem) (c : Counts) (m′ : tables.Mem) (d : Counts) : Type 0 where
   pub front : take (20 * (k .n + 1)) (m′ .w) ≡ take (20 * (k .n + 1)) (m .w)
   pub rests : (a : ℕ) → a ≤ k .n → take 8 (drop (20 * (k .n + 1) + 20 * a + 12) (m′ .w)) ≡ take 8 (drop (20 * (k .n + 1) + 20 * a + 12) (m .w))
   pub work : take (2 * (k .n + 1)) (drop (40 * (k .n + 1)) (m′ .w)) ≡ take (2 * (k .n + 1)) (drop (40 * (k .n + 1)) (m .w))
   pub back : drop (42 * (k .n + 1) + 4 * k .buckets) (m′ .w) ≡ drop (42 * (k .n + 1) + 4 * k .buckets) (m .w)
-  pub frontQ : take (2 * c .addresses) (m′ .q) ≡ take (2 * c .addresses) (m .q)
-  pub bottom : take (9 * c .used) (m′ .s) ≡ take (9 * c .used) (m .s)
-  pub top : drop (9 * (k .rooms .s - c .kept)) (m′ .s) ≡ drop (9 * (k .rooms .s - c .kept)) (m .s)
   pub longW : length (m′ .w) ≡ length (m .w)
-  pub longR : length (m′ .r) ≡ length (m .r)
-  pub longQ : length (m′ .q) ≡ length (m .q)
+  pub stays : Stays (k .rooms) c d (m .r) (m .q) (m .s) (m′ .r) (m′ .q) (m′ .s)
+  pub bottom : take (9 * c .used) (m′ .s) ≡ take (9 * c .used) (m .s)
   pub longS : length (m′ .s) ≡ length (m .s)
+
+-- the records are as they were, or there is one more
+abbrev pub Grows : Rooms → tables.Mem → Counts → Rec → tables.Mem → Counts → Type 0
+Grows k m c x m′ d = ((recs k m′ d ≡ recs k m c) × (d .records ≡ c .records)) ⊎ ((recs k m′ d ≡ recs k m c ++ x ∷ []) × (d .records ≡ c .records + 1))
 
 -- The code is the first shortage of what document 01 notes; where it is 0 the buffers hold what document 01 makes, and W's marks say what is reached; else
 -- all is untouched.
@@ -54,11 +62,18 @@ pub record Noted (p : List ℕ) (np : ℕ) (k : Plan) (m : tables.Mem) (c : Coun
   pub code : (t : Turn) (st : St) → Holding (k .rooms) m c start t st → (l : Lent) → Lends l (k .rooms)
       → shortage l (noted t x (addrs p 0 np) st .needs) ≡ or-else (shortage l (st .needs)) (a .code)
   pub made : (t : Turn) (st : St) → Holding (k .rooms) m c start t st → a .code ≡ 0 → clear (noted t x (addrs p 0 np) st) ≡ with-recs (k .rooms) m′ (a .counts) st
+  pub tells : a .code ≡ if (recorded? x (addrs p 0 np) (recs (k .rooms) m c)) 0 (shortOf (k .rooms) (entryNeeds c np (kept x)))
+  pub holds : a .code ≡ 0 → recs (k .rooms) m′ (a .counts)
+      ≡ if (recorded? x (addrs p 0 np) (recs (k .rooms) m c)) (recs (k .rooms) m c) (recs (k .rooms) m c ++ record { start = start; to = x; path = addrs p 0 np } ∷ [])
+  pub counts : a .code ≡ 0 → a .counts ≡ if (recorded? x (addrs p 0 np) (recs (k .rooms) m c)) c (counted c np (kept x))
+  pub known : recorded? x (addrs p 0 np) (recs (k .rooms) m c) ≡ true → m′ ≡ m
   pub refused : (a .code ≡ 0 → ⊥) → (m′ ≡ m) × (a .counts ≡ c)
   pub grows : Grows (k .rooms) m c (record { start = start; to = x; path = addrs p 0 np }) m′ (a .counts)
   pub tables : Tables (k .n) (k .buckets) (k .rooms) m′ (a .counts)
+  pub marked : (y : ℕ) → y ≤ k .n
+      → markAt (m′ .w) (k .n) y ≡ remarked (ltb (c .records) (a .counts .records) && mem y (dest x)) (c .records) (markAt (m .w) (k .n) y)
   pub marks : (reached : List ℕ) (since : ℕ) → since ≤ c .records → Marks (k .n) (m .w) reached since (recs (k .rooms) m c)
       → Marks (k .n) (m′ .w) reached since (recs (k .rooms) m′ (a .counts))
-  pub around : Around k m c m′
+  pub around : Around k m c m′ (a .counts)
   pub used : a .counts .used ≡ c .used
   pub rows : a .counts .rows ≡ c .rows

@@ -3,8 +3,8 @@ use mathlib.Core.Path.{_≡_}
 use Prim.Native.Nat.{ℕ, _*_, _^_, _≤_}
 use mathlib.Core.List.{List}
 use lib.ListN.{length}
-use Rattle.spec.specs.Stacks.{Sym, jumpdest, Stack}
-use Rattle.spec.specs.Search.{Found, found, Rec}
+use Rattle.spec.specs.Stacks.{jumpdest, Stack}
+use Rattle.spec.specs.Search.{found, Rec}
 use Rattle.state.specs.Cells.{reach}
 use Rattle.theorems.proofs.Members.{In}
 use Rattle.steps.specs.Paths.{Inside}

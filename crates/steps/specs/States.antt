@@ -4,7 +4,7 @@ use Prim.Native.Nat.{ℕ, suc, _+_, _-_, _*_, _^_, _≤_, _<_}
 use mathlib.Core.List.{List, [], _∷_}
 use lib.ListN.{length, take, drop}
 use Rattle.spec.specs.Stacks.{Stack, cells, read, compose}
-use Rattle.spec.specs.Search.{S, Need}
+use Rattle.spec.specs.Search.{S}
 use Rattle.state.specs.Symbols.{symOf}
 use Rattle.state.specs.Cells.{stackAt, State, Lies, reach}
 use Rattle.state.specs.Owns.{roomOf}
@@ -37,14 +37,17 @@ pub record Composing (code w s r : List ℕ) (k : Plan) (c : Counts) (l : Level)
   pub deeper : reach (stackCursor code r s (k .rooms .s) at) ≤ 2 ^ 50
   pub near : l .position ≤ 2 ^ 50
 
--- The code is the shortage of S; where it is 0, the new state lies right after the cells in use. All else of S stays, and of W all but its part for runs.
+-- The code is the shortage of S; where it is 0, the new state lies right after the cells in use. All else of S stays, the kept cells at its top among it, and
+-- of W all but its part for runs.
 pub record Took (code w s : List ℕ) (k : Plan) (c : Counts) (l : Level) (parent : Stack) (w′ s′ : List ℕ) (x : Taken) : Type 0 where
   pub cells-are : x .cells ≡ cells (compose (stackAt s (9 * l .from) (l .cells)) parent)
   pub code-is : x .code ≡ shortOf (k .rooms) (record { room = S; units = c .kept + c .used + x .cells } ∷ [])
   pub symbol-is : symOf (x .symbol) ≡ read parent (l .position)
   pub fits : x .code ≡ 0 → c .kept + c .used + x .cells ≤ k .rooms .s
   pub lies : x .code ≡ 0 → Lies s′ (9 * c .used) (x .cells) (compose (stackAt s (9 * l .from) (l .cells)) parent)
+  pub refused : (x .code ≡ 0 → ⊥) → s′ ≡ s
   pub bottom : take (9 * c .used) s′ ≡ take (9 * c .used) s
+  pub after : x .code ≡ 0 → drop (9 * (c .used + x .cells)) s′ ≡ drop (9 * (c .used + x .cells)) s
   pub top : drop (9 * (k .rooms .s - c .kept)) s′ ≡ drop (9 * (k .rooms .s - c .kept)) s
   pub longS : length s′ ≡ length s
   pub front : take (k .end - roomOf code) w′ ≡ take (k .end - roomOf code) w

@@ -26,7 +26,7 @@ pub struct Taken {
     pub symbol: StackSym,
 }
 
-// Takes the own state of the block at a, which is run into W.
+// Takes the own state of a direct parent, whose block is run into W.
 fn take_direct(
     code: &[u8],
     w: &mut [u8],

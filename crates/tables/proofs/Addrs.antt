@@ -1,9 +1,9 @@
 -- The laws of paths: their addresses, their sums, and comparing two. Assumes nothing.
 use mathlib.Core.Path.{_≡_, refl, sym, ap, ap₂, _∙_}
 use mathlib.Core.Bool.{Bool, true, false, _&&_}
-use mathlib.Core.List.{List, [], _∷_, _++_}
-use Prim.Native.Nat.{ℕ, zero, suc, _+_, _*_, _-_, _%_, _^_, _≤_, _<_}
-use native.Mathlib.Nat.{add-zero, zero-add, sub-zero}
+use mathlib.Core.List.{List, [], _∷_}
+use Prim.Native.Nat.{ℕ, zero, suc, _+_, _*_, _-_, _^_, _≤_, _<_}
+use native.Mathlib.Nat.{add-zero, sub-zero}
 use native.Mathlib.Omega.{arith}
 use lib.Dec.{eqb}
 use lib.ListN.{length, take, drop}
@@ -65,21 +65,9 @@ addrs-copied p at np {q} {q′} s = addrs-within q′ p at 0 np (read-all s)
 
 -- ---- sums
 
-pub mix-is : (sum x r : ℕ) → r ≡ (sum * 31 + x) % 4294967296 → r ≡ mixed sum x
-unfolding mixed
-mix-is sum x r e = e
-
 pub mix-small : (sum x : ℕ) → mixed sum x < 2 ^ 32
 unfolding mixed
 mix-small sum x = omega arith
-
-sums-small : (acc : ℕ) (xs : List ℕ) → acc < 2 ^ 32 → sums acc xs < 2 ^ 32
-unfolding sums
-sums-small acc [] h = h
-sums-small acc (x ∷ xs) h = sums-small (mixed acc x) xs (mix-small acc x)
-
-pub path-sum-small : (xs : List ℕ) → pathSum xs < 2 ^ 32
-path-sum-small xs = sums-small 0 xs (omega arith)
 
 module _ (p : List ℕ) (np : ℕ) where
   pub sum-first : sums 0 (addrs p (0 + 0) (np - 0)) ≡ pathSum (addrs p 0 np)

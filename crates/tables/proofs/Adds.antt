@@ -2,22 +2,22 @@
 use mathlib.Core.Path.{_≡_, refl, sym, ap, _∙_}
 use mathlib.Core.Logic.{_⊎_, inl, inr}
 use mathlib.Core.List.{List, [], _∷_, _++_}
-use Prim.Native.Nat.{ℕ, suc, _+_, _-_, _*_, _^_, _≤_, _<_}
+use Prim.Native.Nat.{ℕ, _+_, _-_, _*_, _≤_, _<_}
 use native.Mathlib.Numerals.{add-one}
 use native.Mathlib.Omega.{arith}
 use lib.Dec.{eqb}
 use lib.ListN.{length, take, drop}
 use borrow.Author.Tests.{eq-eqb}
 use Rattle.spec.specs.Lists.{if}
-use Rattle.spec.specs.Search.{Found, nowhere, found}
+use Rattle.spec.specs.Search.{nowhere, found}
 use Rattle.lent.specs.Bytes.{Stored}
 use Rattle.lent.proofs.Stored.{kept-take, kept-drop}
 use Rattle.state.specs.Cells.{stackAt, State, Lies}
 use Rattle.state.proofs.States.{state-lies, lies-copied}
 use Rattle.tables.specs.Addrs.{addrs, pathSum}
-use Rattle.tables.specs.Records.{none, toAt, endOf, keptOf, pathAt, foundAt, recAt, recsOf, Row}
+use Rattle.tables.specs.Records.{none, endOf, keptOf, pathAt, foundAt, recAt, recsOf, Row}
 use Rattle.tables.specs.Links.{Links, Linked}
-use Rattle.tables.specs.Tables.{Mem, mem, Goes, leads-nowhere, leads, Within, Tables, newFound, newRec, Enters, enters-nowhere, enters, Ready, fields, Counting, Keeps, Adds, counted, Stays, Added}
+use Rattle.tables.specs.Tables.{mem, Goes, leads-nowhere, leads, Within, Tables, newFound, newRec, Enters, enters-nowhere, enters, fields, Counting, Keeps, Adds, counted, Added}
 use Rattle.tables.specs.declared.Rooms.{Rooms}
 use Rattle.tables.specs.declared.Counts.{Counts}
 use Rattle.tables.specs.declared.Entry.{Entry}
@@ -128,7 +128,7 @@ module _ {p w r q s : List ℕ} {np n buckets sum : ℕ} {k : Rooms} {c : Counts
     all-goes i (inl h) = goes-kept (l .rows) s′ (t .goes) (c .kept) (omega (arith, t .kept)) (omega (arith, t .within, ts .kept)) (omega (arith, t .within)) backS i h
     all-goes i (inr h) = rw h new-goes
 
-    within : Within k (mem w′ r′ q′ s′) (counted c np e)
+    within : Within k (mem w′ r′ q′ s′) (counted c np (e .cells))
     within =
         let i = t .within in
         record {
@@ -143,7 +143,7 @@ module _ {p w r q s : List ℕ} {np n buckets sum : ℕ} {k : Rooms} {c : Counts
           mostS = i .mostS;
         }
 
-    tables-more : Tables n buckets k (mem w′ r′ q′ s′) (counted c np e)
+    tables-more : Tables n buckets k (mem w′ r′ q′ s′) (counted c np (e .cells))
     tables-more =
         record {
           few = t .few;
@@ -165,7 +165,7 @@ module _ {p w r q s : List ℕ} {np n buckets sum : ℕ} {k : Rooms} {c : Counts
           new-rec,
         )
 
-    added-counted : Added p np n buckets k (mem w r q s) c e (mem w′ r′ q′ s′) (counted c np e)
+    added-counted : Added p np n buckets k (mem w r q s) c e (mem w′ r′ q′ s′) (counted c np (e .cells))
     added-counted =
         record {
           counts = refl;
@@ -175,7 +175,6 @@ module _ {p w r q s : List ℕ} {np n buckets sum : ℕ} {k : Rooms} {c : Counts
             rows = l .rows;
             tail = l .tail;
             longR = l .long;
-            beyond = l .beyond;
             frontQ = frontQ;
             backQ = kept-drop tq (2 * (c .addresses + np)) (omega arith);
             longQ = tq .kept;
@@ -183,10 +182,11 @@ module _ {p w r q s : List ℕ} {np n buckets sum : ℕ} {k : Rooms} {c : Counts
             backS = backS;
             longS = ts .kept;
           };
+          beyond = l .beyond;
         }
 
   pub added : {w′ r′ q′ s′ : List ℕ} {f : Fields} {d : Counts} → f ≡ fields c np e sum → Linked n buckets w r (c .records) f w′ r′
       → Stored (2 * np) q (2 * c .addresses) (take (2 * np) (drop 0 p)) q′
-      → Stored (9 * e .cells) s (9 * (k .s - f .kept)) (take (9 * e .cells) (drop (9 * e .from) s)) s′ → d ≡ counted c np e
+      → Stored (9 * e .cells) s (9 * (k .s - f .kept)) (take (9 * e .cells) (drop (9 * e .from) s)) s′ → d ≡ counted c np (e .cells)
       → Added p np n buckets k (mem w r q s) c e (mem w′ r′ q′ s′) d
   added says l tq ts counts = rw counts (added-counted (rw says at l) tq (rw says at ts))

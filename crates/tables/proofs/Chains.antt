@@ -1,9 +1,8 @@
 -- The laws of chains. Assumes nothing.
-use mathlib.Core.Path.{_≡_, refl, sym, ap, ap₂, _∙_}
+use mathlib.Core.Path.{_≡_, refl, sym, ap, _∙_}
 use mathlib.Core.Bool.{Bool, true, false, _&&_, _||_}
 use mathlib.Core.Logic.{_⊎_, inl, inr}
-use Prim.Native.Nat.{ℕ, zero, suc, _+_, _-_, _≤_, _<_}
-use native.Mathlib.Numerals.{add-one}
+use Prim.Native.Nat.{ℕ, zero, suc, _≤_, _<_}
 use native.Mathlib.Decide.{decLt}
 use native.Mathlib.Omega.{arith}
 use lib.Dec.{eqb, leb}
@@ -182,22 +181,6 @@ module _ (key : ℕ → ℕ) (h : ℕ) where
         go : (x : ℕ) → following key h i m ≡ x → following key h i m ≡ 0
         go zero z = z
         go (suc j) z = let f = following-is m j z in absurd (e .none j (f .from) (f .below) (f .has))
-
-    -- from m on, at a shorter table
-    pub following-cut : (m k j : ℕ) → k ≤ m → following key h i m ≡ suc j → j < k → following key h i k ≡ suc j
-    following-cut m k j l e b = go (following key h i k) refl (following-is m j e)
-      where
-        go : (x : ℕ) → following key h i k ≡ x → Follows m j → following key h i k ≡ suc j
-        go zero z f = absurd (following-end k z .none j (f .from) b (f .has))
-        go (suc x) z f = let g = following-is k x z in z ∙ ap suc (same g (keyed x j))
-          where
-            same : Follows k x → (x ≡ j) ⊎ (x ≡ j → ⊥) → x ≡ j
-            same g (inl q) = q
-            same g (inr q) = absurd (apart (decLt x j))
-              where
-                apart : Dec (x < j) → ⊥
-                apart (yes d) = f .first x (g .from) d (g .has)
-                apart (no d) = g .first j (f .from) (omega arith) (f .has)
 
 -- ---- two tables with the same keys
 

@@ -1,23 +1,20 @@
 -- What the stored records come to, as document 01 counts them, and finding one among them. Assumes nothing.
-use mathlib.Core.Path.{_≡_, refl, sym, ap, ap₂, _∙_}
+use mathlib.Core.Path.{_≡_, refl, sym, _∙_}
 use mathlib.Core.Bool.{Bool, true, false, _&&_, _||_}
 use mathlib.Core.List.{List, [], _∷_, _++_}
 use Prim.Native.Nat.{ℕ, zero, suc, _+_, _-_, _*_, _≤_, _<_}
-use native.Mathlib.Nat.{add-zero, add-assoc}
 use native.Mathlib.Omega.{arith}
 use lib.Dec.{eqb}
 use lib.ListN.{length, length-append}
 use borrow.Author.Tests.{eq-eqb, ne-eqb, eqb-true, eqb-false}
 use Rattle.spec.specs.Lists.{if, same, some?, total}
-use Rattle.spec.specs.Stacks.{cells}
-use Rattle.spec.specs.Search.{Found, nowhere, found, Rec, is-at, is-nowhere, kept}
-use Rattle.state.specs.Cells.{stackAt, State}
+use Rattle.spec.specs.Search.{nowhere, found, Rec, is-at, is-nowhere, kept}
+use Rattle.state.specs.Cells.{stackAt}
 use Rattle.state.proofs.States.{state-lies, lies-count}
 use Rattle.tables.specs.Chains.{any}
 use Rattle.tables.specs.Records.{none, toAt, endOf, keptOf, pathAt, foundAt, recAt, recsOf, isRec, hasRec, Row}
 use Rattle.tables.specs.Tables.{Goes, leads-nowhere, leads}
 use Rattle.tables.proofs.Addrs.{addrs-length}
-use Rattle.tables.proofs.Frames.{kept-rises}
 
 -- ---- a test, and a sum, over a list with one more at its end
 

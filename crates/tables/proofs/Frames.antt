@@ -1,21 +1,19 @@
 -- What the records depend on: the fields of R but for the links, the used addresses of Q, and the kept cells of S. Assumes nothing.
-use mathlib.Core.Path.{_≡_, refl, sym, ap, ap₂, _∙_}
-use mathlib.Core.Bool.{Bool, true, false}
-use mathlib.Core.List.{List, [], _∷_, _++_}
-use Prim.Native.Nat.{ℕ, zero, suc, _+_, _-_, _*_, _≤_, _<_}
+use mathlib.Core.Path.{_≡_, refl, sym, ap, _∙_}
+use mathlib.Core.List.{List}
+use Prim.Native.Nat.{ℕ, zero, suc, _-_, _*_, _≤_, _<_}
 use native.Mathlib.Decide.{decLt}
 use native.Mathlib.Omega.{arith}
 use lib.Dec.{eqb}
-use lib.ListN.{length, take, drop, length-append}
-use borrow.Author.Tests.{eq-eqb, ne-eqb}
+use lib.ListN.{length, take, drop}
+use borrow.Author.Tests.{eq-eqb}
 use Rattle.spec.specs.Lists.{if}
-use Rattle.spec.specs.Stacks.{Stack}
-use Rattle.spec.specs.Search.{Found, nowhere, found, Rec}
+use Rattle.spec.specs.Search.{nowhere, found}
 use Rattle.lent.proofs.Parts.{part-suffix}
 use Rattle.state.specs.Cells.{stackAt, State, Lies}
 use Rattle.state.proofs.States.{state-lies, lies-within}
-use Rattle.tables.specs.Addrs.{addrs, pathSum}
-use Rattle.tables.specs.Records.{none, startAt, toAt, sumAt, endOf, keptOf, pathAt, foundAt, recAt, recsOf, Row}
+use Rattle.tables.specs.Addrs.{pathSum}
+use Rattle.tables.specs.Records.{none, toAt, endOf, keptOf, pathAt, foundAt, recAt, recsOf, Row}
 use Rattle.tables.specs.Links.{SameRow}
 use Rattle.tables.specs.Tables.{Goes, leads-nowhere, leads}
 use Rattle.tables.proofs.Addrs.{addrs-prefix}

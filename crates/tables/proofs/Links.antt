@@ -1,19 +1,18 @@
 -- The laws of a new record's row and its links. Assumes nothing.
 use mathlib.Core.Path.{_≡_, refl, sym, ap, _∙_}
 use mathlib.Core.Logic.{_⊎_, inl, inr}
-use mathlib.Core.List.{List, _++_}
+use mathlib.Core.List.{List}
 use Prim.Native.Nat.{ℕ, suc, _+_, _-_, _*_, _%_, _^_, _≤_, _<_}
 use native.Mathlib.Nat.{add-zero}
 use native.Mathlib.Numerals.{add-one}
 use native.Mathlib.Omega.{arith}
-use lib.ListN.{length, take, drop}
+use lib.ListN.{length, drop}
 use Rattle.spec.specs.Lists.{little}
-use Rattle.lent.specs.Bytes.{number, numAt, Holds, Stored}
+use Rattle.lent.specs.Bytes.{numAt, Holds, Stored}
 use Rattle.lent.proofs.Parts.{part-suffix, drop-more}
 use Rattle.lent.proofs.Numbers.{number-little, num-suffix}
 use Rattle.lent.proofs.Stored.{kept-take, kept-drop, kept-part, kept-num, read-num, read-back, stored-join}
-use Rattle.tables.specs.Chains.{Chained, Ordered}
-use Rattle.tables.specs.Records.{none, startAt, toAt, nextAt, linkAt, sumAt, endOf, keptOf, bucketAt, firstAt, lastAt, headAt, Chains}
+use Rattle.tables.specs.Records.{none, toAt, nextAt, linkAt, sumAt, endOf, keptOf, bucketAt, firstAt, lastAt, headAt, Chains}
 use Rattle.tables.specs.Links.{saysBytes, linkBytes, rowBytes, SameRow, Says, Parents, Apart, Beyond, Joins, Joined, Sayable, Links, Linked}
 use Rattle.tables.specs.declared.link.Fields.{Fields}
 use Rattle.tables.proofs.Chains.{newest-le}

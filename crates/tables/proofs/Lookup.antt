@@ -1,20 +1,19 @@
 -- The laws of looking a record up. Assumes nothing.
 use mathlib.Core.Path.{_≡_, refl, sym, ap, _∙_}
-use mathlib.Core.Bool.{Bool, true, false, _&&_, _||_}
+use mathlib.Core.Bool.{Bool, true, false}
 use mathlib.Core.List.{List}
-use Prim.Native.Nat.{ℕ, zero, suc, _+_, _-_, _*_, _%_, _≤_, _<_}
-use native.Mathlib.Numerals.{add-one}
+use Prim.Native.Nat.{ℕ, suc, _+_, _-_, _*_, _%_, _≤_, _<_}
 use native.Mathlib.Omega.{arith}
 use lib.Dec.{eqb}
 use lib.ListN.{length}
 use borrow.Author.Tests.{eq-eqb, ne-eqb}
 use Rattle.spec.specs.Lists.{same}
-use Rattle.lent.specs.Bytes.{numAt, Holds}
+use Rattle.lent.specs.Bytes.{Holds}
 use Rattle.theorems.proofs.Branch.{and-false}
 use Rattle.theorems.proofs.Members.{and-both}
-use Rattle.tables.specs.Addrs.{addrs, pathSum, Path, Summed, Beside}
+use Rattle.tables.specs.Addrs.{addrs, pathSum, Beside}
 use Rattle.tables.specs.Chains.{Left}
-use Rattle.tables.specs.Records.{toAt, sumAt, endOf, bucketAt, pathAt, isRec, hasRec, Row, Chains, Seek, Compare}
+use Rattle.tables.specs.Records.{toAt, endOf, bucketAt, pathAt, isRec, hasRec, Seek, Compare}
 use Rattle.tables.proofs.Addrs.{addrs-length, same-true, same-false}
 use Rattle.tables.proofs.Orders.{left-first, left-none, left-below, left-hit, left-less, left-more}
 

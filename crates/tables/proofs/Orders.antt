@@ -6,7 +6,7 @@ use Prim.Native.Nat.{ℕ, zero, suc, _-_, _≤_, _<_}
 use native.Mathlib.Decide.{decLt}
 use native.Mathlib.Omega.{arith}
 use Rattle.tables.specs.Chains.{newest, following, any, Chained, Ordered, Left}
-use Rattle.tables.proofs.Chains.{keyed, newest-le, newest-again, newest-key, any-newest, newest-here, newest-other, newest-is, newest-last, newest-same, following-new, following-other, following-stays, following-same, following-is, following-end, ends-following}
+use Rattle.tables.proofs.Chains.{keyed, newest-le, newest-again, newest-key, any-newest, newest-here, newest-other, newest-is, newest-last, newest-same, following-new, following-other, following-stays, following-same, following-end, ends-following}
 
 -- below m + 1 is below m, or m
 pub below : (m i : ℕ) → i < suc m → (i < m) ⊎ (i ≡ m)

@@ -2,26 +2,25 @@
 use mathlib.Core.Path.{_≡_, refl, sym, ap, ap₂, _∙_}
 use mathlib.Core.Bool.{Bool, true, false, not, _&&_}
 use mathlib.Core.List.{List}
-use Prim.Native.Nat.{ℕ, suc, _+_, _-_, _*_, _%_, _^_, _≤_, _<_}
-use native.Mathlib.Omega.{arith}
+use Prim.Native.Nat.{ℕ, _+_, _-_, _*_, _%_, _<_}
 use lib.Dec.{eqb}
-use lib.ListN.{length}
-use borrow.Author.Tests.{eq-eqb, ne-eqb, eqb-true, not-true, not-false}
-use Rattle.spec.specs.Stacks.{Sym, Stack, cells, eqSym, eqSyms, eqStack}
+use borrow.Author.Tests.{eq-eqb, eqb-true, not-true, not-false}
+use Rattle.spec.specs.Stacks.{cells, eqSym, eqStack}
 use Rattle.spec.specs.Search.{Met}
 use Rattle.theorems.proofs.Branch.{and-false}
 use Rattle.theorems.proofs.Members.{and-both}
-use Rattle.lent.specs.Bytes.{numAt, Holds}
+use Rattle.lent.specs.Bytes.{Holds}
 use Rattle.state.specs.Symbols.{symOf}
-use Rattle.state.specs.Cells.{symAt, symsAt, stackAt, stored, State}
+use Rattle.state.specs.Cells.{symAt, symsAt, stackAt, stored}
+use Rattle.state.specs.Compared.{TwoStates}
 use Rattle.state.specs.declared.sym.StackSym.{StackSym}
 use Rattle.state.proofs.States.{state-lies, state-syms, lies-count}
 use Rattle.tables.specs.Addrs.{mixed}
 use Rattle.tables.specs.Chains.{any, Left}
-use Rattle.tables.specs.Rows.{blockAt, placeAt, cellsAt, stampAt, shelfAt, weight, symSums, stamp, metAt, seenMet, sameMet, isMet, MetRow, Shelves, Stamped, Compares, Finds, SymSummed, Twice}
+use Rattle.tables.specs.Rows.{blockAt, placeAt, cellsAt, stampAt, shelfAt, weight, symSums, stamp, metAt, seenMet, sameMet, isMet, Stamped, Compares, Finds, SymSummed}
 use Rattle.tables.specs.declared.row.Seen.{Seen}
 use Rattle.tables.proofs.Orders.{left-first, left-none, left-below, left-hit, left-less, left-more}
-use Rattle.tables.proofs.Stamps.{eq-sym-true, eq-stack-true, eq-stored}
+use Rattle.tables.proofs.Stamps.{eq-sym-true, eq-stack-true}
 
 pub stamped : (s : List ℕ) (x : Seen) {a v b r : ℕ} → a ≡ mixed 0 (x .last) → v ≡ weight (symOf (x .symbol)) → b ≡ mixed a v
     → SymSummed b (symsAt s (9 * x .from) (x .cells)) r → Stamped s x r
@@ -77,19 +76,15 @@ module _ {t s : List ℕ} {i : ℕ} {x : Seen} {sum : ℕ} (c : Compares t s i x
       (λ e. d (h .is ∙ lies-count (state-lies s (9 * placeAt t i) (cellsAt t i) (c .row .state)) ∙ ap cells (sym (same-row e .stack)) ∙ sym (lies-count (state-lies s (9 * x .from) (x .cells) (c .state)))))
 
   module _ {y z : ℕ} (h : Holds 4 t (32 * i + 16) y) (same : y ≡ x .cells) (g : Holds 4 t (32 * i + 12) z) where
-    pub row-twice : Twice s (x .from) z (x .cells)
-    row-twice = record { one = omega (arith, c .state .fits); two = omega (arith, c .row .state .fits, h .is, g .is) }
+    pub row-states : TwoStates s (9 * x .from) (9 * z) (x .cells)
+    row-states = record { first = c .state; second = rw (g .is, sym same ∙ h .is) (c .row .state) }
 
     pub row-same : (v : StackSym) {k : ℕ} {b d : Bool} → Holds 2 t (32 * i) k → k ≡ x .last → symOf v ≡ symAt t (32 * i + 2) → b ≡ eqSym (symOf (x .symbol)) (symOf v) → not b ≡ false
-        → d ≡ eqSyms (symsAt s (9 * x .from) (x .cells)) (symsAt s (9 * z) (x .cells)) → d ≡ isMet t s (seenMet s x) i
+        → d ≡ eqStack (stackAt s (9 * x .from) (x .cells)) (stackAt s (9 * z) (x .cells)) → d ≡ isMet t s (seenMet s x) i
     unfolding metAt
     row-same v {k} {b} {d} hk ek ev eb tb ed =
-        let mine : symsAt s (9 * x .from) (x .cells) ≡ stored (stackAt s (9 * x .from) (x .cells)) = state-syms s (9 * x .from) (x .cells) (c .state) in
-        let its : symsAt s (9 * z) (x .cells) ≡ stored (stackAt s (9 * placeAt t i) (cellsAt t i)) =
-        ap₂ (λ (u v : ℕ). symsAt s (9 * u) v) (g .is) (sym same ∙ h .is) ∙ state-syms s (9 * placeAt t i) (cellsAt t i) (c .row .state) in
-        let stacks : d ≡ eqStack (stackAt s (9 * x .from) (x .cells)) (stackAt s (9 * placeAt t i) (cellsAt t i)) =
-        ed ∙ ap₂ eqSyms mine its ∙ eq-stored (stackAt s (9 * x .from) (x .cells)) (stackAt s (9 * placeAt t i) (cellsAt t i)) in
-        rw (← hk .is, ek, eq-eqb (x .last) (x .last) refl, ← ev, ← eb, not-false b tb) stacks
+        let its : stackAt s (9 * z) (x .cells) ≡ stackAt s (9 * placeAt t i) (cellsAt t i) = ap₂ (λ (u v : ℕ). stackAt s (9 * u) v) (g .is) (sym same ∙ h .is) in
+        rw (← hk .is, ek, eq-eqb (x .last) (x .last) refl, ← ev, ← eb, not-false b tb) (ed ∙ ap (eqStack (stackAt s (9 * x .from) (x .cells))) its)
 
 -- ---- along the chain
 

@@ -1,21 +1,21 @@
 -- The laws of a remembered row more, on its shelf. Assumes nothing.
-use mathlib.Core.Path.{_≡_, refl, sym, ap, ap₂, _∙_}
-use mathlib.Core.List.{List, _++_}
-use Prim.Native.Nat.{ℕ, suc, _+_, _-_, _*_, _%_, _^_, _≤_, _<_}
+use mathlib.Core.Path.{_≡_, sym, ap, _∙_}
+use mathlib.Core.List.{List}
+use Prim.Native.Nat.{ℕ, _+_, _*_, _%_, _^_, _≤_, _<_}
 use native.Mathlib.Nat.{add-zero}
 use native.Mathlib.Numerals.{add-one}
 use native.Mathlib.Decide.{decLt}
 use native.Mathlib.Omega.{arith}
-use lib.ListN.{length, take, drop}
+use lib.ListN.{take, drop}
 use Rattle.spec.specs.Lists.{little}
 use Rattle.spec.specs.Stacks.{Sym}
-use Rattle.lent.specs.Bytes.{number, numAt, Holds, Stored}
+use Rattle.lent.specs.Bytes.{numAt, Holds, Stored}
 use Rattle.lent.proofs.Parts.{part-prefix, part-suffix}
 use Rattle.lent.proofs.Numbers.{number-little, num-prefix, num-suffix}
-use Rattle.lent.proofs.Stored.{kept-take, kept-drop, kept-part, kept-num, read-num, read-back, stored-join}
+use Rattle.lent.proofs.Stored.{kept-take, kept-drop, kept-part, kept-num, read-num, read-all, read-back, stored-join}
 use Rattle.state.specs.Symbols.{symOf}
-use Rattle.state.specs.Cells.{cell, symAt, Put}
-use Rattle.tables.specs.Rows.{blockAt, placeAt, cellsAt, stampAt, chainAt, topAt, shelfAt, Shelves, Tells, SameTold, SeenPut, placeBytes, Tellable, RowPut, Pushes, Pushed}
+use Rattle.state.specs.Cells.{symAt, Put}
+use Rattle.tables.specs.Rows.{blockAt, chainAt, topAt, shelfAt, Tells, SameTold, SeenPut, placeBytes, Tellable, RowPut, Pushes, Pushed}
 use Rattle.tables.specs.declared.row.Seen.{Seen}
 use Rattle.tables.proofs.Orders.{chained-more}
 
@@ -60,6 +60,7 @@ module _ (i : ℕ) (x : Seen) (sum link : ℕ) {t t₁ t₂ : List ℕ} (h : Tel
   row-put =
       record {
         tells = told;
+        seen = kept-part b 11 (32 * i) (λ g. omega arith) ∙ read-all (a .stored);
         front = kept-take b (32 * i) (omega arith) ∙ kept-take (a .stored) (32 * i) (omega arith);
         gap = kept-part b 1 (32 * i + 11) (λ g. omega arith) ∙ kept-part (a .stored) 1 (32 * i + 11) (λ g. omega arith);
         back = kept-drop b (32 * i + 28) (omega arith) ∙ kept-drop (a .stored) (32 * i + 28) (omega arith);
@@ -109,9 +110,6 @@ shelf-same buckets s = ap (λ (v : ℕ). v % buckets) (s .stamped)
 -- ---- on its shelf
 
 module _ {buckets : ℕ} {t : List ℕ} {m : ℕ} {x : Seen} {sum : ℕ} (p : Pushes buckets t m x sum) {h y : ℕ} (e : h ≡ sum % buckets) (b : h < buckets) (g : Holds 4 t (32 * h + 28) y) where
-  pub pushes-tellable : Tellable x sum y
-  pushes-tellable = record { last = p .last; from = p .from; cells = p .cells; stamped = p .stamped; chain = g .small }
-
   module _ {t₁ t₂ : List ℕ} (r : RowPut t m x sum y t₁) (s : Stored 4 t₁ (32 * h + 28) (little 4 (m + 1)) t₂) where
     row-before : (i : ℕ) → i < m → SameTold t t₁ i
     row-before i l =
@@ -146,14 +144,6 @@ module _ {buckets : ℕ} {t : List ℕ} {m : ℕ} {x : Seen} {sum : ℕ} (p : Pu
         go (yes l) = num-prefix t₁ t (32 * m) (r .front) 4 (32 * k + 28) (omega arith)
         go (no l) = num-suffix t₁ t (32 * m + 28) (r .back) 4 (32 * k + 28) (omega arith)
 
-    gap-before : (i : ℕ) → take 1 (drop (32 * i + 11) t₁) ≡ take 1 (drop (32 * i + 11) t)
-    gap-before i = go (decLt i m) (decLt m i)
-      where
-        go : Dec (i < m) → Dec (m < i) → take 1 (drop (32 * i + 11) t₁) ≡ take 1 (drop (32 * i + 11) t)
-        go (yes l) d = part-prefix t₁ t (32 * m) (r .front) 1 (32 * i + 11) (omega arith)
-        go (no l) (yes d) = part-suffix t₁ t (32 * m + 28) (r .back) 1 (32 * i + 11) (omega arith)
-        go (no l) (no d) = let z : i ≡ m = omega arith in rw z (r .gap)
-
     shelf : shelfAt buckets t₂ m ≡ h
     unfolding shelfAt
     shelf = ap (λ (v : ℕ). v % buckets) (now-tells .stamped) ∙ sym e
@@ -178,11 +168,10 @@ module _ {buckets : ℕ} {t : List ℕ} {m : ℕ} {x : Seen} {sum : ℕ} (p : Pu
           link = y;
           tells = now-tells;
           rows = rows-told;
-          gaps = λ i. head-part h (m + 1) s 1 i 11 (omega arith) ∙ gap-before i;
-          later = λ i l. later-same i l;
+          seen = kept-part s 11 (32 * m) (λ q. omega arith) ∙ r .seen;
+          gap = kept-part s 1 (32 * m + 11) (λ q. omega arith) ∙ r .gap;
+          older = λ i l. kept-part s 28 (32 * i) (λ q. omega arith) ∙ part-prefix t₁ t (32 * m) (r .front) 28 (32 * i) (omega arith);
+          later = λ i l. kept-part s 28 (32 * i) (λ q. omega arith) ∙ part-suffix t₁ t (32 * m + 28) (r .back) 28 (32 * i) (omega arith);
           tops = λ k l. head-other h (m + 1) s k (λ z. omega arith) ∙ top-before k;
           long = s .kept ∙ r .long;
         }
-      where
-        later-same : (i : ℕ) → m < i → take 28 (drop (32 * i) t₂) ≡ take 28 (drop (32 * i) t)
-        later-same i l = kept-part s 28 (32 * i) (λ q. omega arith) ∙ part-suffix t₁ t (32 * m + 28) (r .back) 28 (32 * i) (omega arith)

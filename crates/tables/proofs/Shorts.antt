@@ -1,15 +1,15 @@
 -- The laws of the first shortage, with the rooms by value. Assumes nothing.
-use mathlib.Core.Path.{_≡_, refl, sym, ap, _∙_}
+use mathlib.Core.Path.{_≡_, refl, ap, _∙_}
 use Prim.Native.Nat.{ℕ, zero, suc, _+_, _≤_, _<_}
 use mathlib.Core.List.{List, [], _∷_, _++_}
 use native.Mathlib.Decide.{decLt}
 use native.Mathlib.Omega.{arith}
 use borrow.Author.Tests.{le-leb, lt-leb}
 use Rattle.spec.specs.Lists.{if}
-use Rattle.spec.specs.Search.{S, R, Q, Need}
+use Rattle.spec.specs.Search.{R, Q, Need}
 use Rattle.spec.specs.Rooms.{Lent, or-else, shortage}
 use Rattle.theorems.proofs.Shortage.{shortage-append}
-use Rattle.tables.specs.Recording.{roomOf, Lends, shortOf, entryNeeds}
+use Rattle.tables.specs.Recording.{Lends, shortOf, entryNeeds}
 use Rattle.tables.specs.declared.Rooms.{Rooms}
 use Rattle.tables.specs.declared.Counts.{Counts}
 

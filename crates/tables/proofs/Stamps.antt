@@ -1,18 +1,18 @@
 -- The laws of symbols in cells: their sums, and comparing them. Assumes nothing.
 use mathlib.Core.Path.{_≡_, refl, sym, ap, ap₂, _∙_}
-use mathlib.Core.Bool.{Bool, true, false, not, _&&_}
-use mathlib.Core.List.{List, [], _∷_, _++_}
+use mathlib.Core.Bool.{true, false}
+use mathlib.Core.List.{List, [], _∷_}
 use Prim.Native.Nat.{ℕ, zero, suc, _+_, _*_, _-_, _^_, _≤_, _<_}
 use native.Mathlib.Nat.{add-zero, sub-zero}
 use native.Mathlib.Omega.{arith}
 use lib.Dec.{eqb}
-use borrow.Author.Tests.{eq-eqb, ne-eqb, eqb-true, not-true, not-false}
+use borrow.Author.Tests.{eq-eqb, ne-eqb, eqb-true}
 use Rattle.spec.specs.Stacks.{Sym, before, constant, jumpdest, other, Stack, eqSym, eqSyms, eqStack}
-use Rattle.theorems.proofs.Branch.{and-false}
 use Rattle.theorems.proofs.Members.{and-both}
 use Rattle.state.specs.Symbols.{symOf}
-use Rattle.state.specs.Cells.{tag, value, symAt, symsAt, stored}
+use Rattle.state.specs.Cells.{tag, value, symAt, symsAt}
 use Rattle.state.specs.declared.sym.StackSym.{StackSym}
+use Rattle.state.proofs.Comparing.{eq-parts}
 use Rattle.tables.specs.Addrs.{mixed}
 use Rattle.tables.specs.Rows.{weight, symSums, SymSummed}
 
@@ -62,24 +62,6 @@ module _ (s : List ℕ) (from n sum : ℕ) where
 
 -- ---- comparing two symbols
 
-eq-parts : (x y : Sym) → eqSym x y ≡ eqb (tag x) (tag y) && eqb (value x) (value y)
-eq-parts (before a) (before b) = refl
-eq-parts (before a) (constant b) = refl
-eq-parts (before a) (jumpdest b) = refl
-eq-parts (before a) (other b) = refl
-eq-parts (constant a) (before b) = refl
-eq-parts (constant a) (constant b) = refl
-eq-parts (constant a) (jumpdest b) = refl
-eq-parts (constant a) (other b) = refl
-eq-parts (jumpdest a) (before b) = refl
-eq-parts (jumpdest a) (constant b) = refl
-eq-parts (jumpdest a) (jumpdest b) = refl
-eq-parts (jumpdest a) (other b) = refl
-eq-parts (other a) (before b) = refl
-eq-parts (other a) (constant b) = refl
-eq-parts (other a) (jumpdest b) = refl
-eq-parts (other a) (other b) = refl
-
 module _ (x y : Sym) {a b : ℕ} (p : a ≡ tag x) (q : b ≡ tag y) where
   pub tags-differ : (a ≡ b → ⊥) → false ≡ eqSym x y
   tags-differ d = rw (eq-parts x y, ← p, ← q, ne-eqb a b d)
@@ -121,47 +103,3 @@ eq-stack-true a b e =
     let base = eqb-true (a .base) (b .base) (both .0) in
     let above = eq-syms-true (a .above) (b .above) (both .1) in
     λ i. record { above = above i; base = base i }
-
--- stacks are the same where they are stored the same
-and-swap : (a b c : Bool) → a && (b && c) ≡ b && (a && c)
-and-swap true true c = refl
-and-swap true false c = refl
-and-swap false true c = refl
-and-swap false false c = refl
-
-longer : (x : Sym) (xs : List Sym) → eqSyms [] (xs ++ x ∷ []) ≡ false
-longer x [] = refl
-longer x (y ∷ xs) = refl
-
-shorter : (x : Sym) (xs : List Sym) → eqSyms (xs ++ x ∷ []) [] ≡ false
-shorter x [] = refl
-shorter x (y ∷ xs) = refl
-
-stored-lists : (xs ys : List Sym) (a b : ℕ) → eqSyms (xs ++ before a ∷ []) (ys ++ before b ∷ []) ≡ eqb a b && eqSyms xs ys
-stored-lists [] [] a b = refl
-stored-lists [] (y ∷ ys) a b = and-false (eqSym (before a) y) (longer (before b) ys) ∙ sym (and-false (eqb a b) refl)
-stored-lists (x ∷ xs) [] a b = and-false (eqSym x (before b)) (shorter (before a) xs) ∙ sym (and-false (eqb a b) refl)
-stored-lists (x ∷ xs) (y ∷ ys) a b = rw (stored-lists xs ys a b) (and-swap (eqSym x y) (eqb a b) (eqSyms xs ys))
-
-pub eq-stored : (a b : Stack) → eqSyms (stored a) (stored b) ≡ eqStack a b
-eq-stored a b = stored-lists (a .above) (b .above) (a .base) (b .base)
-
--- ---- along two runs of cells
-
-module _ (s : List ℕ) (a b n : ℕ) where
-  pub runs-first : eqSyms (symsAt s (9 * (a + 0)) (n - 0)) (symsAt s (9 * (b + 0)) (n - 0)) ≡ eqSyms (symsAt s (9 * a) n) (symsAt s (9 * b) n)
-  runs-first = rw (left-all s a n, left-all s b n)
-
-  module _ (i : ℕ) (e : eqSyms (symsAt s (9 * (a + i)) (n - i)) (symsAt s (9 * (b + i)) (n - i)) ≡ eqSyms (symsAt s (9 * a) n) (symsAt s (9 * b) n)) where
-    pub runs-same : n ≤ i → true ≡ eqSyms (symsAt s (9 * a) n) (symsAt s (9 * b) n)
-    runs-same h = rw (left-none s a n i h, left-none s b n i h) at e
-
-    module _ (x y : StackSym) {t : Bool} (h : i < n) (f : symOf x ≡ symAt s (9 * (a + i))) (g : symOf y ≡ symAt s (9 * (b + i))) (d : t ≡ eqSym (symOf x) (symOf y)) where
-      step : t && eqSyms (symsAt s (9 * (a + (i + 1))) (n - (i + 1))) (symsAt s (9 * (b + (i + 1))) (n - (i + 1))) ≡ eqSyms (symsAt s (9 * a) n) (symsAt s (9 * b) n)
-      step = rw (left-step s a n i h, left-step s b n i h, ← f, ← g, ← d) at e
-
-      pub runs-differ : not t ≡ true → false ≡ eqSyms (symsAt s (9 * a) n) (symsAt s (9 * b) n)
-      runs-differ z = rw (not-true t z) at step
-
-      pub runs-again : not t ≡ false → eqSyms (symsAt s (9 * (a + (i + 1))) (n - (i + 1))) (symsAt s (9 * (b + (i + 1))) (n - (i + 1))) ≡ eqSyms (symsAt s (9 * a) n) (symsAt s (9 * b) n)
-      runs-again z = rw (not-false t z) at step

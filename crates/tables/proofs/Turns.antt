@@ -1,9 +1,9 @@
 -- The laws of remembering in a turn, one for each way out. Assumes nothing.
-use mathlib.Core.Path.{_≡_, refl, sym, ap, ap₂, _∙_}
-use mathlib.Core.Bool.{Bool, true, false, _||_}
+use mathlib.Core.Path.{_≡_, refl, sym, ap, ap₂, subst, _∙_}
+use mathlib.Core.Bool.{Bool, _||_}
 use mathlib.Core.Logic.{_⊎_, inl, inr}
-use mathlib.Core.List.{List, [], _∷_}
-use Prim.Native.Nat.{ℕ, zero, suc, _+_, _-_, _*_, _%_, _^_, _≤_, _<_}
+use mathlib.Core.List.{List, _∷_}
+use Prim.Native.Nat.{ℕ, zero, suc, _+_, _*_, _%_, _≤_, _<_}
 use native.Mathlib.Numerals.{add-one}
 use native.Mathlib.Omega.{arith}
 use lib.ListN.{length, take, drop}
@@ -11,23 +11,22 @@ use borrow.Author.Tests.{le-leb, lt-leb}
 use Rattle.spec.specs.Lists.{if, little, some?, total}
 use Rattle.spec.specs.Stacks.{cells}
 use Rattle.spec.specs.Search.{Met}
-use Rattle.lent.specs.Bytes.{numAt, Holds, Stored}
+use Rattle.lent.specs.Bytes.{Holds, Stored}
 use Rattle.lent.proofs.Parts.{part-prefix}
 use Rattle.lent.proofs.Stored.{read-back}
-use Rattle.state.specs.Symbols.{symOf}
-use Rattle.state.specs.Cells.{symAt, symsAt, stackAt, State, Lies}
+use Rattle.state.specs.Cells.{symAt, stackAt, Lies}
 use Rattle.state.proofs.Syms.{syms-within}
 use Rattle.state.proofs.States.{state-lies, lies-within, lies-count}
 use Rattle.tables.specs.Chains.{newest, any}
 use Rattle.tables.specs.Recording.{shortOf}
-use Rattle.tables.specs.Rows.{blockAt, placeAt, cellsAt, stampAt, topAt, shelfAt, stamp, metAt, metOf, seenMet, sameMet, isMet, usedOf, MetRow, Shelves, Stamped, Tells, SameTold, Finds, Pushes, Pushed}
-use Rattle.tables.specs.Mets.{Remembers, Packs, Fresh, Memorizes, rowNeeds, remembering, Memorized, Heads, Begins, Emptied, Wiped, Forgetting}
+use Rattle.tables.specs.Rows.{blockAt, placeAt, cellsAt, topAt, shelfAt, stamp, metAt, metOf, seenMet, sameMet, isMet, usedOf, MetRow, Shelves, Stamped, Finds, Pushes, Pushed}
+use Rattle.tables.specs.Mets.{Remembers, Packs, Fresh, Memorizes, remembering, Memorized, Heads, Begins, Emptied, Wiped, Forgetting}
 use Rattle.tables.specs.declared.Rooms.{Rooms}
 use Rattle.tables.specs.declared.Counts.{Counts}
 use Rattle.tables.specs.declared.row.Seen.{Seen}
 use Rattle.tables.proofs.Chains.{keyed, newest-here, newest-other}
 use Rattle.tables.proofs.Orders.{below}
-use Rattle.tables.proofs.Shelves.{told-then, head-told, head-part, head-other, shelf-same}
+use Rattle.tables.proofs.Shelves.{told-then, head-told, head-part, head-other}
 
 -- ---- found, or not
 
@@ -51,6 +50,7 @@ module _ {buckets : ℕ} {k : Rooms} {t s : List ℕ} {c : Counts} {x : Seen} wh
       record {
         code = rw (lt-leb (c .rows + 1) (k .t) l);
         made = λ e. absurd (omega arith);
+        pushed = λ e. absurd (omega arith);
         counts = λ e. absurd (omega arith);
         refused = λ e. (refl, refl);
         remembers = h;
@@ -150,6 +150,7 @@ module _ {buckets : ℕ} {k : Rooms} {t s : List ℕ} {c : Counts} {x : Seen} wh
             record {
               code = rw (le-leb (c .rows + 1) (k .t) l);
               made = λ e. mets-more;
+              pushed = λ e. subst (λ (v : ℕ). Pushed buckets t (c .rows) x v t′) (h .stamped .is) p;
               counts = λ e. refl;
               refused = λ e. absurd (e refl);
               remembers = remembers-more;

@@ -1,14 +1,14 @@
 -- What the tables come to as document 01 counts it, and what keeps them while other bytes change. Assumes nothing.
 use mathlib.Core.Path.{_≡_, refl, sym, ap, _∙_}
-use mathlib.Core.List.{List, []}
-use Prim.Native.Nat.{ℕ, suc, _+_, _-_, _*_, _^_, _≤_, _<_}
+use mathlib.Core.List.{List}
+use Prim.Native.Nat.{ℕ, _+_, _-_, _*_, _≤_, _<_}
 use native.Mathlib.Omega.{arith}
-use lib.ListN.{length, take, drop}
+use lib.ListN.{length, drop}
 use Rattle.spec.specs.Lists.{total}
 use Rattle.spec.specs.Stacks.{cells}
 use Rattle.spec.specs.Search.{Rec, Met, kept, St, Turn, in-use}
 use Rattle.tables.specs.Chains.{newest, following}
-use Rattle.tables.specs.Records.{none, toAt, linkAt, endOf, keptOf, bucketAt, firstAt, lastAt, headAt, recsOf}
+use Rattle.tables.specs.Records.{none, toAt, linkAt, endOf, keptOf, bucketAt, headAt, recsOf}
 use Rattle.tables.specs.Rows.{metOf}
 use Rattle.tables.specs.Mets.{Remembers, Packs}
 use Rattle.tables.specs.Tables.{Mem, mem, recs, Within, Tables, SameLinks, NoLinks, in-turn}

@@ -1,7 +1,7 @@
 -- Chains of rows that share a key, in a table whose rows are only added: a link holds one more than an index, and 0 ends the chain. Assumes nothing.
 use mathlib.Core.Path.{_≡_}
 use Prim.Native.Nat.{ℕ, zero, suc, _≤_, _<_}
-use mathlib.Core.Bool.{Bool, true, false, _&&_, _||_}
+use mathlib.Core.Bool.{Bool, false, _&&_, _||_}
 use lib.Dec.{eqb, leb}
 use Rattle.spec.specs.Lists.{if}
 use Rattle.spec.specs.Rooms.{or-else}
@@ -26,7 +26,7 @@ pub record Chained (key link head : ℕ → ℕ) (b m : ℕ) : Type 0 where
   pub links : (i : ℕ) → i < m → link i ≡ newest key (key i) i
   pub heads : (h : ℕ) → h < b → head h ≡ newest key h m
 
--- m rows with a key of at most n, or above: those with the same key of at most n lie on one chain in the order of the table, with its first and its last at hand
+-- m rows: those that share a key of at most n lie on one chain in the order of the table, with its first and its last at hand; those with a higher key on none
 pub record Ordered (key next first last : ℕ → ℕ) (n m : ℕ) : Type 0 where
   pub nexts : (i : ℕ) → i < m → key i ≤ n → next i ≡ following key (key i) (suc i) m
   pub stops : (i : ℕ) → i < m → n < key i → next i ≡ 0

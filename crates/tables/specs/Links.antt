@@ -9,7 +9,7 @@ use Rattle.tables.specs.Chains.{Ordered}
 use Rattle.tables.specs.Records.{none, startAt, toAt, nextAt, linkAt, sumAt, freeAt, endOf, keptOf, firstAt, lastAt, Chains}
 use Rattle.tables.specs.declared.link.Fields.{Fields}
 
--- the bytes of a row, of which a record with no next parent has 24
+-- the first 24 bytes of a row, of a record with no next parent; the other 8 are free
 unfoldable pub saysBytes : Fields → List ℕ
 saysBytes f = ((little 2 (f .start) ++ little 2 (f .to)) ++ little 4 (f .ends)) ++ little 4 (f .kept)
 

@@ -1,13 +1,13 @@
 -- Remembering, against document 01's: what is answered, and what it leaves. Assumes nothing.
 use mathlib.Core.Path.{_≡_}
-use Prim.Native.Nat.{ℕ, zero, suc, _+_, _*_, _^_, _≤_, _<_}
+use Prim.Native.Nat.{ℕ, _+_, _*_, _^_, _≤_, _<_}
 use mathlib.Core.List.{List, [], _∷_}
 use lib.ListN.{length, take, drop}
 use Rattle.spec.specs.Search.{T, Need}
 use Rattle.state.specs.Cells.{State}
 use Rattle.tables.specs.Chains.{newest}
 use Rattle.tables.specs.Recording.{shortOf}
-use Rattle.tables.specs.Rows.{placeAt, cellsAt, topAt, shelfAt, metOf, seenMet, usedOf, MetRow, Shelves, Stamped, SameTold}
+use Rattle.tables.specs.Rows.{placeAt, cellsAt, topAt, shelfAt, metOf, seenMet, stampOf, usedOf, MetRow, Shelves, Stamped, SameTold, Pushed}
 use Rattle.tables.specs.declared.Rooms.{Rooms}
 use Rattle.tables.specs.declared.Counts.{Counts}
 use Rattle.tables.specs.declared.Answer.{Answer}
@@ -47,10 +47,11 @@ rowNeeds c = record { room = T; units = c .rows + 1 } ∷ []
 abbrev pub remembering : Counts → Seen → Counts
 remembering c x = record { records = c .records; addresses = c .addresses; kept = c .kept; used = c .used + x .cells; rows = c .rows + 1 }
 
--- The code is the shortage of T; where it is 0 a row more is remembered, and else T is untouched.
+-- The code is the shortage of T; where it is 0 a row more is remembered, on its shelf, and else T is untouched.
 pub record Memorized (buckets : ℕ) (k : Rooms) (t s : List ℕ) (c : Counts) (x : Seen) (t′ : List ℕ) (a : Answer) : Type 0 where
   pub code : a .code ≡ shortOf k (rowNeeds c)
   pub made : a .code ≡ 0 → metOf t′ s (a .counts .rows) ≡ seenMet s x ∷ metOf t s (c .rows)
+  pub pushed : a .code ≡ 0 → Pushed buckets t (c .rows) x (stampOf s x) t′
   pub counts : a .code ≡ 0 → a .counts ≡ remembering c x
   pub refused : (a .code ≡ 0 → ⊥) → (t′ ≡ t) × (a .counts ≡ c)
   pub remembers : Remembers buckets k t′ s (a .counts)

@@ -1,18 +1,16 @@
 -- Recording, against document 01's: what it answers, and what it leaves. Assumes nothing.
 use mathlib.Core.Path.{_≡_}
-use mathlib.Core.Logic.{_⊎_}
-use Prim.Native.Nat.{ℕ, suc, _+_, _-_, _*_, _^_, _≤_, _<_}
+use mathlib.Core.Bool.{Bool, true, _&&_}
+use Prim.Native.Nat.{ℕ, _+_, _^_, _<_}
 use mathlib.Core.List.{List, [], _∷_, _++_}
 use lib.Dec.{leb}
-use lib.ListN.{length, take, drop}
-use Rattle.spec.specs.Lists.{if}
-use Rattle.spec.specs.Stacks.{Stack}
-use Rattle.spec.specs.Search.{Found, nowhere, found, Rec, Room, P, S, T, R, Q, Need, St, Turn, in-use, record-nowhere, record-found}
+use Rattle.spec.specs.Lists.{if, same, some?}
+use Rattle.spec.specs.Search.{Found, nowhere, found, Rec, is-at, is-nowhere, kept, Room, P, S, T, R, Q, Need, St, Turn, in-use, record-nowhere, record-found}
 use Rattle.spec.specs.Rooms.{Lent, room, refusal, or-else, shortage}
 use Rattle.theorems.proofs.Older.{clear}
 use Rattle.tables.specs.Addrs.{addrs}
-use Rattle.tables.specs.Links.{SameRow, Beyond}
-use Rattle.tables.specs.Tables.{Mem, recs, Tables}
+use Rattle.tables.specs.Links.{Beyond}
+use Rattle.tables.specs.Tables.{Mem, recs, counted, Tables, Stays}
 use Rattle.tables.specs.declared.Rooms.{Rooms}
 use Rattle.tables.specs.declared.Counts.{Counts}
 use Rattle.tables.specs.declared.Answer.{Answer}
@@ -65,29 +63,24 @@ pub record Holding (k : Rooms) (m : Mem) (c : Counts) (start : ℕ) (t : Turn) (
 abbrev pub with-recs : Rooms → Mem → Counts → St → St
 with-recs k m c st = record { recs = recs k m c; energy = st .energy; met = st .met; needs = [] }
 
--- what stays of the buffers, whatever is answered: the older records, and every byte that is neither a link nor free for a record more
-pub record Keeping (n buckets : ℕ) (k : Rooms) (m : Mem) (c : Counts) (m′ : Mem) : Type 0 where
-  pub rows : (i : ℕ) → i < c .records → SameRow (m .r) (m′ .r) i
-  pub beyond : Beyond n buckets (m .w) (m′ .w)
-  pub frontQ : take (2 * c .addresses) (m′ .q) ≡ take (2 * c .addresses) (m .q)
-  pub bottom : take (9 * c .used) (m′ .s) ≡ take (9 * c .used) (m .s)
-  pub top : drop (9 * (k .s - c .kept)) (m′ .s) ≡ drop (9 * (k .s - c .kept)) (m .s)
-  pub longR : length (m′ .r) ≡ length (m .r)
-  pub longQ : length (m′ .q) ≡ length (m .q)
-  pub longS : length (m′ .s) ≡ length (m .s)
+-- ---- the same without a state of document 01
 
--- the records are as they were, or there is one more
-abbrev pub Grows : Rooms → Mem → Counts → Rec → Mem → Counts → Type 0
-Grows k m c x m′ d = ((recs k m′ d ≡ recs k m c) × (d .records ≡ c .records)) ⊎ ((recs k m′ d ≡ recs k m c ++ x ∷ []) × (d .records ≡ c .records + 1))
+-- the path is so recorded already
+abbrev pub recorded? : Found → List ℕ → List Rec → Bool
+recorded? nowhere path = some? (λ (r : Rec). is-nowhere (r .to) && same path (r .path))
+recorded? (found u s) path = some? (λ (r : Rec). is-at u (r .to) && same path (r .path))
 
 -- The code is the first shortage of what document 01 notes; where it is 0 the buffers hold what document 01 makes, and else they are untouched.
 pub record Recorded (p : List ℕ) (np n buckets : ℕ) (k : Rooms) (m : Mem) (c : Counts) (start : ℕ) (x : Found) (m′ : Mem) (a : Answer) : Type 0 where
   pub code : (t : Turn) (st : St) → Holding k m c start t st → (l : Lent) → Lends l k
       → shortage l (noted t x (addrs p 0 np) st .needs) ≡ or-else (shortage l (st .needs)) (a .code)
   pub made : (t : Turn) (st : St) → Holding k m c start t st → a .code ≡ 0 → clear (noted t x (addrs p 0 np) st) ≡ with-recs k m′ (a .counts) st
+  pub tells : a .code ≡ if (recorded? x (addrs p 0 np) (recs k m c)) 0 (shortOf k (entryNeeds c np (kept x)))
+  pub holds : a .code ≡ 0 → recs k m′ (a .counts)
+      ≡ if (recorded? x (addrs p 0 np) (recs k m c)) (recs k m c) (recs k m c ++ record { start = start; to = x; path = addrs p 0 np } ∷ [])
+  pub counts : a .code ≡ 0 → a .counts ≡ if (recorded? x (addrs p 0 np) (recs k m c)) c (counted c np (kept x))
+  pub known : recorded? x (addrs p 0 np) (recs k m c) ≡ true → m′ ≡ m
   pub refused : (a .code ≡ 0 → ⊥) → (m′ ≡ m) × (a .counts ≡ c)
-  pub grows : Grows k m c (record { start = start; to = x; path = addrs p 0 np }) m′ (a .counts)
   pub tables : Tables n buckets k m′ (a .counts)
-  pub keeping : Keeping n buckets k m c m′
-  pub used : a .counts .used ≡ c .used
-  pub rows : a .counts .rows ≡ c .rows
+  pub stays : Stays k c (a .counts) (m .r) (m .q) (m .s) (m′ .r) (m′ .q) (m′ .s)
+  pub beyond : Beyond n buckets (m .w) (m′ .w)

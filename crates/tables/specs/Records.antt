@@ -8,7 +8,7 @@ use lib.ListN.{length}
 use Rattle.spec.specs.Lists.{if, same}
 use Rattle.spec.specs.Search.{Found, nowhere, found, Rec}
 use Rattle.lent.specs.Bytes.{numAt}
-use Rattle.state.specs.Cells.{stackAt, State}
+use Rattle.state.specs.Cells.{stackAt}
 use Rattle.tables.specs.Addrs.{addrs, pathSum, Path, Summed}
 use Rattle.tables.specs.Chains.{any, Chained}
 

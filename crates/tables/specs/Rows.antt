@@ -12,9 +12,7 @@ use Rattle.lent.specs.Bytes.{numAt, Stored}
 use Rattle.state.specs.Symbols.{symOf}
 use Rattle.state.specs.Cells.{tag, value, cell, symAt, symsAt, stackAt, State}
 use Rattle.tables.specs.Addrs.{mixed}
-use Rattle.tables.specs.Chains.{any, Chained}
-use Rattle.tables.specs.declared.Counts.{Counts}
-use Rattle.tables.specs.declared.Rooms.{Rooms}
+use Rattle.tables.specs.Chains.{Chained}
 use Rattle.tables.specs.declared.row.Seen.{Seen}
 
 -- ---- the fields of row i in T
@@ -63,9 +61,12 @@ unfoldable pub metOf : List ℕ → List ℕ → ℕ → List Met
 metOf t s zero = []
 metOf t s (suc m) = metAt t s m ∷ metOf t s m
 
--- what is looked up
+-- what is looked up, and its sum
 abbrev pub seenMet : List ℕ → Seen → Met
 seenMet s x = record { last = x .last; stack = stackAt s (9 * x .from) (x .cells); symbol = symOf (x .symbol) }
+
+abbrev pub stampOf : List ℕ → Seen → ℕ
+stampOf s x = stamp (x .last) (symOf (x .symbol)) (symsAt s (9 * x .from) (x .cells))
 
 abbrev pub sameMet : Met → Met → Bool
 sameMet m n = eqb (m .last) (n .last) && eqSym (m .symbol) (n .symbol) && eqStack (m .stack) (n .stack)
@@ -95,7 +96,7 @@ pub record Shelves (buckets : ℕ) (t : List ℕ) (m : ℕ) : Type 0 where
 
 -- what is looked up stands in S, and has the sum
 pub record Stamped (s : List ℕ) (x : Seen) (sum : ℕ) : Type 0 where
-  pub is : sum ≡ stamp (x .last) (symOf (x .symbol)) (symsAt s (9 * x .from) (x .cells))
+  pub is : sum ≡ stampOf s x
   pub small : sum < 2 ^ 32
 
 pub record Compares (t s : List ℕ) (i : ℕ) (x : Seen) (sum : ℕ) : Type 0 where
@@ -114,11 +115,6 @@ pub record Finds (t s : List ℕ) (buckets m : ℕ) (x : Seen) (sum : ℕ) : Typ
 pub record SymSummed (sum : ℕ) (xs : List Sym) (r : ℕ) : Type 0 where
   pub is : r ≡ symSums sum xs
   pub small : r < 2 ^ 32
-
--- n cells from a on, and from b on, lie within S
-pub record Twice (s : List ℕ) (a b n : ℕ) : Type 0 where
-  pub one : 9 * (a + n) ≤ length s
-  pub two : 9 * (b + n) ≤ length s
 
 -- ---- a row more
 
@@ -159,6 +155,7 @@ pub record Tellable (x : Seen) (sum link : ℕ) : Type 0 where
 
 pub record RowPut (t : List ℕ) (i : ℕ) (x : Seen) (sum link : ℕ) (t′ : List ℕ) : Type 0 where
   pub tells : Tells t′ i x sum link
+  pub seen : take 11 (drop (32 * i) t′) ≡ little 2 (x .last) ++ cell (symOf (x .symbol))
   pub front : take (32 * i) t′ ≡ take (32 * i) t
   pub gap : take 1 (drop (32 * i + 11) t′) ≡ take 1 (drop (32 * i + 11) t)
   pub back : drop (32 * i + 28) t′ ≡ drop (32 * i + 28) t
@@ -180,8 +177,10 @@ pub record Pushed (buckets : ℕ) (t : List ℕ) (m : ℕ) (x : Seen) (sum : ℕ
   pub shelves : Shelves buckets t′ (suc m)
   pub link : ℕ
   pub tells : Tells t′ m x sum link
+  pub seen : take 11 (drop (32 * m) t′) ≡ little 2 (x .last) ++ cell (symOf (x .symbol))
+  pub gap : take 1 (drop (32 * m + 11) t′) ≡ take 1 (drop (32 * m + 11) t)
   pub rows : (i : ℕ) → i < m → SameTold t t′ i
-  pub gaps : (i : ℕ) → take 1 (drop (32 * i + 11) t′) ≡ take 1 (drop (32 * i + 11) t)
+  pub older : (i : ℕ) → i < m → take 28 (drop (32 * i) t′) ≡ take 28 (drop (32 * i) t)
   pub later : (i : ℕ) → m < i → take 28 (drop (32 * i) t′) ≡ take 28 (drop (32 * i) t)
   pub tops : (h : ℕ) → buckets ≤ h → topAt t′ h ≡ topAt t h
   pub long : length t′ ≡ length t

@@ -128,8 +128,8 @@ pub record Adds (p : List ℕ) (np n buckets : ℕ) (k : Rooms) (m : Mem) (c : C
 abbrev pub fields : Counts → ℕ → Entry → ℕ → Fields
 fields c np e sum = record { start = e .start; to = e .to; ends = c .addresses + np; kept = c .kept + e .cells; sum = sum }
 
-abbrev pub counted : Counts → ℕ → Entry → Counts
-counted c np e = record { records = c .records + 1; addresses = c .addresses + np; kept = c .kept + e .cells; used = c .used; rows = c .rows }
+abbrev pub counted : Counts → ℕ → ℕ → Counts
+counted c np cells = record { records = c .records + 1; addresses = c .addresses + np; kept = c .kept + cells; used = c .used; rows = c .rows }
 
 -- they fit 64 bits
 pub record Counting (c : Counts) (np : ℕ) (e : Entry) : Type 0 where
@@ -144,21 +144,21 @@ pub record Keeps (s : List ℕ) (room kept from cells : ℕ) : Type 0 where
   pub most : kept ≤ room
   pub lent : 9 * room ≤ length s
 
--- what stays: the older records but for a link to the next parent, and every byte that is not the new record's
-pub record Stays (np n buckets : ℕ) (k : Rooms) (m : Mem) (c : Counts) (e : Entry) (m′ : Mem) : Type 0 where
-  pub rows : (i : ℕ) → i < c .records → SameRow (m .r) (m′ .r) i
-  pub tail : drop (32 * c .records + 24) (m′ .r) ≡ drop (32 * c .records + 24) (m .r)
-  pub longR : length (m′ .r) ≡ length (m .r)
-  pub beyond : Beyond n buckets (m .w) (m′ .w)
-  pub frontQ : take (2 * c .addresses) (m′ .q) ≡ take (2 * c .addresses) (m .q)
-  pub backQ : drop (2 * (c .addresses + np)) (m′ .q) ≡ drop (2 * (c .addresses + np)) (m .q)
-  pub longQ : length (m′ .q) ≡ length (m .q)
-  pub frontS : take (9 * (k .s - (c .kept + e .cells))) (m′ .s) ≡ take (9 * (k .s - (c .kept + e .cells))) (m .s)
-  pub backS : drop (9 * (k .s - c .kept)) (m′ .s) ≡ drop (9 * (k .s - c .kept)) (m .s)
-  pub longS : length (m′ .s) ≡ length (m .s)
+-- what stays of R, Q and S, where the counts c became d: the older records but for a link to the next parent, and every byte that is not the new record's
+pub record Stays (k : Rooms) (c d : Counts) (r q s r′ q′ s′ : List ℕ) : Type 0 where
+  pub rows : (i : ℕ) → i < c .records → SameRow r r′ i
+  pub tail : drop (32 * c .records + 24) r′ ≡ drop (32 * c .records + 24) r
+  pub longR : length r′ ≡ length r
+  pub frontQ : take (2 * c .addresses) q′ ≡ take (2 * c .addresses) q
+  pub backQ : drop (2 * d .addresses) q′ ≡ drop (2 * d .addresses) q
+  pub longQ : length q′ ≡ length q
+  pub frontS : take (9 * (k .s - d .kept)) s′ ≡ take (9 * (k .s - d .kept)) s
+  pub backS : drop (9 * (k .s - c .kept)) s′ ≡ drop (9 * (k .s - c .kept)) s
+  pub longS : length s′ ≡ length s
 
 pub record Added (p : List ℕ) (np n buckets : ℕ) (k : Rooms) (m : Mem) (c : Counts) (e : Entry) (m′ : Mem) (d : Counts) : Type 0 where
-  pub counts : d ≡ counted c np e
+  pub counts : d ≡ counted c np (e .cells)
   pub tables : Tables n buckets k m′ d
   pub records : recs k m′ d ≡ recs k m c ++ newRec (m .s) e (addrs p 0 np) ∷ []
-  pub stays : Stays np n buckets k m c e m′
+  pub stays : Stays k c d (m .r) (m .q) (m .s) (m′ .r) (m′ .q) (m′ .s)
+  pub beyond : Beyond n buckets (m .w) (m′ .w)

@@ -7,7 +7,7 @@ use crate::link::link_record;
 use lent::copy;
 use lent::copy_within;
 ghost use mathlib.Core.Path.{_≡_};
-ghost use Prim.Native.Nat.{_+_, _-_, _*_, _≤_, _<_, _^_};
+ghost use Prim.Native.Nat.{_+_, _-_, _*_, _≤_};
 ghost use lib.ListN.{length, take, drop};
 ghost use Rattle.lent.specs.Bytes.{Stored};
 ghost use Rattle.tables.specs.Addrs.{Path};
@@ -30,7 +30,7 @@ fn fields_of(c: Counts, np: usize, e: Entry, sum: usize) -> Fields
 // The counts with a record more.
 fn counted_with(c: Counts, np: usize, e: Entry) -> Counts
     requires { ⌜ Counting c np e ⌝ }
-    ensures { λ d. ⌜ d ≡ counted c np e ⌝ }
+    ensures { λ d. ⌜ d ≡ counted c np (e .cells) ⌝ }
 {
     Counts {
         records: c.records + 1,

@@ -1,12 +1,17 @@
 // The tables of the search in lent bytes: the path in hand, recorded paths, records and remembered rows.
-pub mod add;
-pub mod link;
+mod add;
+mod link;
 pub mod met;
-pub mod path;
-pub mod record;
-pub mod recording;
+mod path;
+mod record;
+mod recording;
 pub mod row;
-pub mod shelf;
+mod shelf;
+
+pub use link::NONE;
+pub use record::end_before;
+pub use recording::record_found;
+pub use recording::record_nowhere;
 
 // How many units of each buffer count as lent.
 pub struct Rooms {

@@ -1,28 +1,16 @@
-// What was met in a turn: remembering it, finding it again, and forgetting all of it when the turn ends.
+// What was met in a turn: remembering it, and forgetting all of it when the turn ends.
 use crate::Answer;
 use crate::Counts;
 use crate::Rooms;
 use crate::record::bucket_of;
 use crate::row::Seen;
-use crate::row::find_row;
-use crate::row::stamp_of;
 use crate::shelf::push_row;
 use lent::get32;
 use lent::put32;
 ghost use mathlib.Core.Path.{_≡_};
-ghost use Prim.Native.Nat.{_+_, _≤_, _<_, _^_};
-ghost use Rattle.spec.specs.Lists.{some?};
-ghost use Rattle.tables.specs.Rows.{metOf, seenMet, sameMet, Shelves};
-ghost use Rattle.tables.specs.Mets.{Remembers, Fresh, Memorizes, Memorized, Begins, Emptied, remembering};
-
-// Whether the last block, the state and the symbol were met in this turn.
-pub fn remembered(t: &[u8], s: &[u8], k: Rooms, c: Counts, buckets: usize, x: Seen) -> bool
-    requires { ⌜ (Remembers buckets k (now t) (now s) c) × (Fresh (now s) c x) × (1 ≤ buckets) ⌝ }
-    ensures { λ r. ⌜ r ≡ some? (sameMet (seenMet (now (s .entry)) x)) (metOf (now (t .entry)) (now (s .entry)) (c .rows)) ⌝ }
-{
-    let sum = stamp_of(s, x);
-    find_row(t, s, buckets, c.rows, x, sum)
-}
+ghost use Prim.Native.Nat.{_+_, _<_, _^_};
+ghost use Rattle.tables.specs.Rows.{Shelves};
+ghost use Rattle.tables.specs.Mets.{Memorizes, Memorized, Begins, Emptied, remembering};
 
 // The counts with a row more.
 fn counted_row(c: Counts, x: Seen) -> Counts

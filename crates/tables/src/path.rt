@@ -3,7 +3,7 @@ use lent::get16;
 ghost use mathlib.Core.Path.{_≡_};
 ghost use Prim.Native.Nat.{_<_, _^_};
 ghost use Rattle.spec.specs.Lists.{same};
-ghost use Rattle.tables.specs.Addrs.{addrs, mixed, pathSum, Path, Summed, Beside};
+ghost use Rattle.tables.specs.Addrs.{addrs, mixed, Path, Summed, Beside};
 
 // A sum with one number more, kept to 32 bits.
 pub fn mix(sum: usize, x: usize) -> usize

@@ -4,15 +4,16 @@ use crate::record::bucket_of;
 use lent::get16;
 use lent::get32;
 use state::cell::get_cell;
+use state::same::same_state;
 use state::sym::StackSym;
 ghost use mathlib.Core.Path.{_≡_};
 ghost use Prim.Native.Nat.{_+_, _*_, _≤_, _<_, _^_};
 ghost use lib.ListN.{length};
-ghost use Rattle.spec.specs.Stacks.{eqSym, eqSyms};
+ghost use Rattle.spec.specs.Stacks.{eqSym};
 ghost use Rattle.state.specs.Symbols.{symOf};
 ghost use Rattle.state.specs.Cells.{tag, value, symsAt, State};
 ghost use Rattle.tables.specs.Chains.{any};
-ghost use Rattle.tables.specs.Rows.{weight, symSums, seenMet, isMet, SymSummed, Stamped, Twice, Compares, Finds};
+ghost use Rattle.tables.specs.Rows.{weight, seenMet, isMet, SymSummed, Stamped, Compares, Finds};
 
 // What is remembered: the path's last block, the symbol read there, and the place and the length of the state in S, in cells.
 pub struct Seen {
@@ -87,23 +88,6 @@ pub fn stamp_of(s: &[u8], x: Seen) -> usize
     sum_cells(s, x.from, x.cells, sum)
 }
 
-// Whether the n cells of S from the cell a on hold the symbols of those from the cell b on.
-fn same_cells(s: &[u8], a: usize, b: usize, n: usize) -> bool
-    requires { ⌜ Twice (now s) a b n ⌝ }
-    ensures { λ r. ⌜ r ≡ eqSyms (symsAt (now (s .entry)) (9 * a) n) (symsAt (now (s .entry)) (9 * b) n) ⌝ }
-{
-    let mut i = 0;
-    while i < n {
-        let x = get_cell(s, 9 * (a + i));
-        let y = get_cell(s, 9 * (b + i));
-        i += 1;
-        if !same_symbol(x, y) {
-            return false;
-        }
-    }
-    true
-}
-
 // Whether row i remembers x, whose sum is given.
 fn is_row(t: &[u8], s: &[u8], i: usize, x: Seen, sum: usize) -> bool
     requires { ⌜ Compares (now t) (now s) i x sum ⌝ }
@@ -122,7 +106,7 @@ fn is_row(t: &[u8], s: &[u8], i: usize, x: Seen, sum: usize) -> bool
     if get32(t, 32 * i + 16) != x.cells {
         return false;
     }
-    same_cells(s, x.from, get32(t, 32 * i + 12), x.cells)
+    same_state(s, 9 * x.from, 9 * get32(t, 32 * i + 12), x.cells)
 }
 
 // Whether one of the m rows remembers x, whose sum is given.

@@ -4,6 +4,7 @@ use native.Mathlib.Omega.{arith}
 use mathlib.Core.Path.{_≡_, refl, sym, ap, ap₂, subst, _∙_}
 use mathlib.Core.Bool.{Bool, false, not}
 use mathlib.Core.List.{List, [], _∷_, map}
+use lib.ListN.{length, length-append}
 use borrow.Author.Tests.{not-true}
 use Rattle.spec.specs.Lists.{keep}
 use Rattle.spec.specs.Walk.{Ins, instructions}
@@ -12,7 +13,7 @@ use Rattle.spec.specs.Stacks.{Ran, run}
 use Rattle.spec.specs.Search.{Node, node, nodes, Rec, is-nowhere, dests}
 use Rattle.spec.specs.Ending.{Final, all-are, merged, ended, entries-of, finals}
 use Rattle.spec.specs.Rooms.{Lent}
-use Rattle.spec.specs.Entries.{Map}
+use Rattle.spec.specs.Entries.{Map, entries, bytes}
 use Rattle.spec.specs.Answer.{answered, prepared, searched, mapped, answer}
 use Rattle.theorems.proofs.Branch.{both}
 use Rattle.theorems.proofs.Lists.{Rising, one-more, rising-from}
@@ -148,3 +149,8 @@ module _ (l : Lent) (limit : ℕ) (code : List ℕ) (a : Map) (e : answer l limi
       let recs = searched limit code .recs in
       let all = subst (Rising 0) (sym (final-starts code (instructions code) (blocks code (instructions code)) recs)) (starts-rise code) in
       subst (λ (m : Map). Rising 0 (finals-at (m .blocks))) (sym the-map) (rising-keep _ (finals (prepared code) recs) all)
+
+-- the head alone has 18 bytes, so that what the exported entry counts is no refusal's number
+pub answered-long : (m : Map) → 18 ≤ length (bytes m)
+unfolding bytes entries
+answered-long m = simp length-append (omega arith)

@@ -1,3 +1,4 @@
+-- `arrive`: the symbol says whether a level opens or the path ends. Assumes nothing.
 use Rattle.resolver.proofs.Arrives.{arrived-before, arrived-jumpdest, arrived-constant, arrived-other, arriving-lands}
 use borrow.Author.Needs.{needs}
 use Rattle.resolver.proofs.enter.arrive.Statement.{statement}
@@ -23,7 +24,7 @@ arrive-spec =
     tie.close
     (tie.spec
     (λ c. search needs)
-    (λ c. search needs)
+    (λ c κs. search needs)
     (λ c. search needs)
     end-at-requires
     (λ c. search needs)

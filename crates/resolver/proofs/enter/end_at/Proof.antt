@@ -1,3 +1,4 @@
+-- `end_at`: what `land` notes ends the path. Assumes nothing.
 use Rattle.resolver.proofs.Arrives.{ended-with}
 use borrow.Author.Needs.{needs}
 use Rattle.resolver.proofs.enter.end_at.Statement.{statement}

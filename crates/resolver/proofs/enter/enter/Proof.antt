@@ -1,3 +1,4 @@
+-- `enter`: skipped, short of P, past the weight, or followed. Assumes nothing.
 use Rattle.resolver.proofs.Entered.{enter-skips, entered-skip, enter-grows, entered-short, enter-strays, entered-stops, enter-following, entered-follows}
 use borrow.Author.Needs.{needs}
 use Rattle.resolver.proofs.enter.enter.Statement.{statement}

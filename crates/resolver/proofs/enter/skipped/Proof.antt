@@ -1,3 +1,4 @@
+-- `skipped`: one block on the path, and no path that was found. Assumes nothing.
 use Rattle.resolver.proofs.Arrives.{skip-found, skip-direct, skip-asks}
 use borrow.Author.Needs.{needs}
 use Rattle.resolver.proofs.enter.skipped.Statement.{statement}

@@ -1,6 +1,6 @@
 -- `is_row`: a sum, a last block, a symbol, a length or a cell tells them apart. Assumes nothing.
 use borrow.Author.Needs.{needs}
-use Rattle.tables.proofs.Seeks.{row-sum, row-last, row-symbol, row-cells, row-twice, row-same}
+use Rattle.tables.proofs.Seeks.{row-sum, row-last, row-symbol, row-cells, row-states, row-same}
 use Rattle.tables.proofs.row.is_row.Statement.{statement}
 use Rattle.tables.proofs.row.is_row.Tie as tie
 
@@ -16,8 +16,8 @@ returns-3 c = search row-symbol
 returns-4 : tie.Need-returns-4
 returns-4 c = search row-cells
 
-same-cells-requires : tie.Need-same-cells-requires
-same-cells-requires c κs = search row-twice
+same-state-requires : tie.Need-same-state-requires
+same-state-requires c κs = search row-states
 
 returns-5 : tie.Need-returns-5
 returns-5 c = search row-same
@@ -44,6 +44,8 @@ is-row-spec =
     returns-4
     (λ c. search needs)
     (λ c. search needs)
+    (λ c. search needs)
     (λ c κs. search needs)
-    same-cells-requires
+    (λ c. search needs)
+    same-state-requires
     returns-5)

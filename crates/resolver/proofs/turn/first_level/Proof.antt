@@ -1,0 +1,34 @@
+-- `first_level`: what is stored, counted and read is what `Placed` says. Assumes nothing.
+use borrow.Author.Needs.{needs}
+use Rattle.resolver.proofs.Begins.{place-copies, place-puts, place-counts, place-reads, place-done}
+use Rattle.resolver.proofs.turn.first_level.Statement.{statement}
+use Rattle.resolver.proofs.turn.first_level.Tie as tie
+
+copy-requires : tie.Need-copy-requires
+copy-requires c κs = search place-copies
+
+put16-requires : tie.Need-put16-requires
+put16-requires c κs = search place-puts
+
+count-requires : tie.Need-count-requires
+count-requires c κs = search place-counts
+
+position-at-requires : tie.Need-position-at-requires
+position-at-requires c κs = place-reads (c .before .before .before .before .before .before .before .before .before .before .before .before .before .before .before .before .before .before .before .pre) (c .before .before .before .count .ensures)
+
+returns : tie.Need-returns
+returns c = search place-done
+
+pub first-level-spec : {M : Type 1} → statement M
+first-level-spec =
+    tie.close
+    (tie.spec
+    (λ c. search needs)
+    copy-requires
+    put16-requires
+    count-requires
+    position-at-requires
+    (λ c. search needs)
+    (λ c. search needs)
+    (λ c. search needs)
+    returns)
