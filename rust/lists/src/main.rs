@@ -1,11 +1,11 @@
 //! `lists [--check]`: writes `tests/answers.list`, `tests/rust.list`, `tests/rooms.list` and the cases
-//! of `crates/trials`, the same bytes each time; with `--check` it writes nothing and fails if a file
-//! holds anything else.
+//! of `crates/sessions`, the same bytes each time; with `--check` it writes nothing and fails if a
+//! file holds anything else.
 
 mod answers;
 mod maps;
+mod sessions;
 mod summary;
-mod trials;
 
 use std::fs;
 use std::path::{Path, PathBuf};
@@ -39,29 +39,29 @@ fn run(check: bool) -> Result<(), String> {
     let texts: Vec<String> = maps.iter().map(|code| maps::text(code)).collect();
     settle(check, "tests/rust.list", &texts)?;
     println!("{}", summary::of_maps(&maps));
-    let trials = trials::lines();
-    let texts: Vec<String> = trials.iter().map(trials::case).collect();
-    settle(check, "crates/trials/stdin", &texts)?;
-    let texts: Vec<String> = trials.iter().map(trials::told).collect();
-    settle(check, "crates/trials/stdout", &texts)?;
-    println!("{}", summary::of_trials(&trials));
-    let rooms = rooms(&answers, &trials);
+    let sessions = sessions::lines();
+    let texts: Vec<String> = sessions.iter().map(sessions::case).collect();
+    settle(check, "crates/sessions/stdin", &texts)?;
+    let texts: Vec<String> = sessions.iter().map(sessions::told).collect();
+    settle(check, "crates/sessions/stdout", &texts)?;
+    println!("{}", summary::of_sessions(&sessions));
+    let rooms = rooms(&answers, &sessions);
     let texts: Vec<String> = rooms.iter().map(|line| line.text()).collect();
     settle(check, "tests/rooms.list", &texts)?;
     println!("rooms: {} calls", rooms.len());
     Ok(())
 }
 
-/// Calls of the trials on short codes that `tests/answers.list` does not have: with it more than
+/// Calls of `sessions` on short codes that `tests/answers.list` does not have: with it more than
 /// a thousand whose numbers the definitions give.
-fn rooms<'a>(answers: &[answers::Line], trials: &'a [answers::Line]) -> Vec<&'a answers::Line> {
+fn rooms<'a>(answers: &[answers::Line], sessions: &'a [answers::Line]) -> Vec<&'a answers::Line> {
     let known: std::collections::HashSet<String> = answers.iter().map(|line| line.text()).collect();
-    let short = trials
+    let short = sessions
         .iter()
-        .filter(|line| line.code.len() <= 20 && answers::energy(&line.code) <= 12);
+        .filter(|line| line.code.len() <= 40 && answers::energy(&line.code) <= 600);
     let new: Vec<_> = short.filter(|line| !known.contains(&line.text())).collect();
-    let step = (new.len() / 280).max(1);
-    new.into_iter().step_by(step).take(280).collect()
+    let step = (new.len() / 400).max(1);
+    new.into_iter().step_by(step).take(400).collect()
 }
 
 /// The repository that this program was built in.

@@ -23,12 +23,12 @@ pub fn of_answers(lines: &[Line]) -> String {
 }
 
 /// Cases of the program by refusal.
-pub fn of_trials(lines: &[Line]) -> String {
+pub fn of_sessions(lines: &[Line]) -> String {
     let mut numbers: BTreeMap<u8, usize> = BTreeMap::new();
     for line in lines {
         *numbers.entry(line.answer().number()).or_default() += 1;
     }
-    format!("trials: {} cases; by number {numbers:?}", lines.len())
+    format!("sessions: {} cases; by number {numbers:?}", lines.len())
 }
 
 /// Codes by what is in their map.

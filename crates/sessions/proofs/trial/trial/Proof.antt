@@ -1,0 +1,45 @@
+-- `trial`: the numbers, the code and the call. Assumes nothing.
+use Rattle.sessions.proofs.Cases.{case-within, tried}
+use borrow.Author.Needs.{needs}
+use Rattle.sessions.proofs.trial.trial.Statement.{statement}
+use Rattle.sessions.proofs.trial.trial.Tie as tie
+
+abbrev entered : tie.After-numbers → tie.Start
+entered c = c .before .before .before .before .before .before .before .before .before .before
+
+repeated-requires : tie.Need-repeated-requires
+repeated-requires c κs =
+    let d : tie.After-numbers = c .before in
+    case-within (entered d .args .input .now) (entered d .pre) (d .numbers .ensures)
+
+-- where the call is told, and before it
+abbrev lent : tie.After-slice-known16 → tie.After-lend
+lent c = c .before .before .before .before .before .before .before .before .before .before .before .before .before .before
+
+abbrev coded : tie.After-slice-known16 → tie.After-repeated
+coded c = lent c .before .before .before .before .before .before .before .before .before .before .before
+
+abbrev numbered : tie.After-slice-known16 → tie.After-numbers
+numbered c = coded c .before .before
+
+returns : tie.Need-returns
+returns c =
+    let d : tie.After-numbers = numbered c in
+    tried (entered d .args .input .now) (entered d .pre) (d .numbers .ensures) (coded c .repeated .ensures) (lent c .lend .ensures)
+
+pub trial-spec : {M : Type 1} → statement M
+trial-spec =
+    tie.close
+    (tie.spec
+    (λ c κs. search needs)
+    repeated-requires
+    (λ c κs. search needs)
+    (λ c. search needs)
+    (λ c. search needs)
+    (λ c. search needs)
+    (λ c. search needs)
+    (λ c. search needs)
+    (λ c. search needs)
+    (λ c. search needs)
+    (λ c. search needs)
+    returns)

@@ -1,0 +1,80 @@
+// Runs the entry on the cases of standard input, and writes a line for each: what it answered, and what stands in the lent bytes.
+mod input;
+mod room;
+mod trial;
+
+use libc::STDIN_FILENO;
+use trial::trial;
+
+// Tries the cases from the first to the last.
+fn trials(
+    input: &[u8],
+    code: &mut [u8],
+    w: &mut [u8],
+    p: &mut [u8],
+    s: &mut [u8],
+    t: &mut [u8],
+    r: &mut [u8],
+    q: &mut [u8],
+    out: &mut [u8],
+) {
+    let mut at = 0;
+    while at < input.len() {
+        at = trial(input, at, code, w, p, s, t, r, q, out);
+    }
+}
+
+// Reads the cases and tries them.
+fn run(
+    input: &mut [u8],
+    code: &mut [u8],
+    w: &mut [u8],
+    p: &mut [u8],
+    s: &mut [u8],
+    t: &mut [u8],
+    r: &mut [u8],
+    q: &mut [u8],
+    out: &mut [u8],
+) {
+    let n = io::read_full(STDIN_FILENO, input);
+    trials(&input[..n], code, w, p, s, t, r, q, out);
+}
+
+// The arrays as slices. Lent by `main` itself, the prover would count to the length of each.
+fn run_in(
+    input: &mut [u8; 1048576],
+    code: &mut [u8; 24577],
+    w: &mut [u8; 1573120],
+    p: &mut [u8; 65536],
+    s: &mut [u8; 524288],
+    t: &mut [u8; 262144],
+    r: &mut [u8; 262144],
+    q: &mut [u8; 262144],
+    out: &mut [u8; 524288],
+) {
+    run(input, code, w, p, s, t, r, q, out);
+}
+
+// The buffers: the cases, a code one byte too long, W for the longest code, and what the cases need of the others.
+fn main() {
+    let mut input = [0u8; 1048576];
+    let mut code = [0u8; 24577];
+    let mut w = [0u8; 1573120];
+    let mut p = [0u8; 65536];
+    let mut s = [0u8; 524288];
+    let mut t = [0u8; 262144];
+    let mut r = [0u8; 262144];
+    let mut q = [0u8; 262144];
+    let mut out = [0u8; 524288];
+    run_in(
+        &mut input,
+        &mut code,
+        &mut w,
+        &mut p,
+        &mut s,
+        &mut t,
+        &mut r,
+        &mut q,
+        &mut out,
+    );
+}

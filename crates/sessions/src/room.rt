@@ -1,0 +1,99 @@
+// Lent buffers before and after a call.
+use std::num::wrapping_add_u64;
+ghost use mathlib.Core.Path.{_≡_};
+ghost use Prim.Native.Nat.{_*_, _%_, _^_};
+ghost use lib.ListN.{length, take};
+ghost use Rattle.sessions.specs.Room.{mark, marks, wiped, untouched, letterFrom, fnv};
+
+// The byte that stands at i before a call: never 0, and not the same everywhere.
+fn mark(i: usize) -> u8
+    ensures { λ r. ⌜ r ≡ mark i ⌝ }
+{
+    (i % 128 + 1) as u8
+}
+
+// Puts its mark at every byte.
+pub fn fill(room: &mut [u8])
+    ensures { λ _. ⌜ now (room .exit) ≡ marks (length (now (room .entry))) ⌝ }
+{
+    let mut i = 0;
+    while i < room.len() {
+        room[i] = mark(i);
+        i += 1;
+    }
+}
+
+// Are the bytes from `from` on all 0?
+fn all_zero(room: &[u8], from: usize) -> bool
+    ensures { λ r. ⌜ r ≡ wiped (now (room .entry)) from ⌝ }
+{
+    let mut i = from;
+    while i < room.len() {
+        if room[i] != 0 {
+            return false;
+        }
+        i += 1;
+    }
+    true
+}
+
+// Are they all their marks?
+fn all_marked(room: &[u8], from: usize) -> bool
+    ensures { λ r. ⌜ r ≡ untouched (now (room .entry)) from ⌝ }
+{
+    let mut i = from;
+    while i < room.len() {
+        if room[i] != mark(i) {
+            return false;
+        }
+        i += 1;
+    }
+    true
+}
+
+// What the bytes from `from` on are: `0` all zero, `x` all their marks, `-` none there, `?` anything else.
+pub fn letter(room: &[u8], from: usize) -> u8
+    ensures { λ r. ⌜ r ≡ letterFrom (now (room .entry)) from ⌝ }
+{
+    let wiped = all_zero(room, from);
+    let kept = all_marked(room, from);
+    if wiped {
+        if kept {
+            return b'-';
+        }
+        return b'0';
+    }
+    if kept {
+        return b'x';
+    }
+    b'?'
+}
+
+// FNV-1a of 64 bits, over the first n bytes.
+pub fn checksum(bytes: &[u8], n: usize) -> u64
+    ensures { λ r. ⌜ r ≡ fnv 0xCBF2_9CE4_8422_2325 (take n (now (bytes .entry))) ⌝ }
+{
+    let mut sum = 0xcbf2_9ce4_8422_2325;
+    let mut i = 0;
+    while i < n && i < bytes.len() {
+        sum = times(sum ^ wide(bytes[i]));
+        i += 1;
+    }
+    sum
+}
+
+fn wide(b: u8) -> u64
+    ensures { λ r. ⌜ r ≡ b ⌝ }
+{
+    b as u64
+}
+
+// FNV's prime times h, by its bits 40, 8, 7, 5, 4, 1 and 0: a product that wraps is no operation of the language.
+fn times(h: u64) -> u64
+    ensures { λ r. ⌜ r ≡ h * 0x0100_0000_01B3 % 2 ^ 64 ⌝ }
+{
+    let high = wrapping_add_u64(h << 40, h << 8);
+    let middle = wrapping_add_u64(wrapping_add_u64(h << 7, h << 5), h << 4);
+    let low = wrapping_add_u64(h << 1, h);
+    wrapping_add_u64(wrapping_add_u64(high, middle), low)
+}

@@ -1,0 +1,208 @@
+// One case: read, called and told.
+use crate::input::number;
+use crate::input::repeated;
+use crate::room::checksum;
+use crate::room::fill;
+use crate::room::letter;
+use aznifrem::aznifrem_map;
+use libc::STDOUT_FILENO;
+ghost use mathlib.Core.Path.{_≡_};
+ghost use Prim.Native.Nat.{_≤_, _<_, min};
+ghost use lib.ListN.{length};
+ghost use Rattle.spec.specs.Answer.{answer};
+ghost use Rattle.io.specs.Counts.{Counts};
+ghost use Rattle.steps.specs.Runs.{buffers};
+ghost use Rattle.answer.specs.Contracts.{lentOf};
+ghost use Rattle.sessions.specs.Trial.{caseAt, Marked, Told, reply, Lending, Tried};
+
+// What the numbers of a case say, and the place after them.
+struct Case {
+    limit: usize,
+    w: usize,
+    p: usize,
+    s: usize,
+    t: usize,
+    r: usize,
+    q: usize,
+    out: usize,
+    length: usize,
+    next: usize,
+}
+
+// A case is a line: the limit, the bytes lent of W, P, S, T, R, Q and the output, the code's length, and a piece in
+// hexadecimal digits, which the code repeats.
+pub fn trial(
+    input: &[u8],
+    at: usize,
+    code: &mut [u8],
+    w: &mut [u8],
+    p: &mut [u8],
+    s: &mut [u8],
+    t: &mut [u8],
+    r: &mut [u8],
+    q: &mut [u8],
+    out: &mut [u8],
+) -> usize
+    requires { ⌜ at < length (now input) ⌝ }
+    ensures { λ next. ⌜ Tried (now (input .entry)) at (now (code .entry))
+        (buffers (now (w .entry)) (now (p .entry)) (now (s .entry)) (now (t .entry)) (now (r .entry)) (now (q .entry))) (now (out .entry))
+        (now (code .exit)) (buffers (now (w .exit)) (now (p .exit)) (now (s .exit)) (now (t .exit)) (now (r .exit)) (now (q .exit)))
+        (now (out .exit)) next ⌝ }
+{
+    let case = numbers(input, at);
+    let piece = repeated(input, case.next, case.length, code);
+    lend(case, code, w, p, s, t, r, q, out);
+    piece.next
+}
+
+// The numbers, one after the other.
+fn numbers(input: &[u8], at: usize) -> Case
+    ensures { λ c. ⌜ c ≡ caseAt (now (input .entry)) at ⌝ }
+{
+    let limit = number(input, at);
+    let w = number(input, limit.next);
+    let p = number(input, w.next);
+    let s = number(input, p.next);
+    let t = number(input, s.next);
+    let r = number(input, t.next);
+    let q = number(input, r.next);
+    let out = number(input, q.next);
+    let length = number(input, out.next);
+    Case {
+        limit: limit.value,
+        w: w.value,
+        p: p.value,
+        s: s.value,
+        t: t.value,
+        r: r.value,
+        q: q.value,
+        out: out.value,
+        length: length.value,
+        next: length.next,
+    }
+}
+
+// Lends as much of each buffer as the case says.
+fn lend(
+    case: Case,
+    code: &[u8],
+    w: &mut [u8],
+    p: &mut [u8],
+    s: &mut [u8],
+    t: &mut [u8],
+    r: &mut [u8],
+    q: &mut [u8],
+    out: &mut [u8],
+)
+    ensures { λ _. ⌜ Lending case
+        (reply case (now (code .entry))
+        (buffers (now (w .entry)) (now (p .entry)) (now (s .entry)) (now (t .entry)) (now (r .entry)) (now (q .entry))) (now (out .entry)))
+        (buffers (now (w .entry)) (now (p .entry)) (now (s .entry)) (now (t .entry)) (now (r .entry)) (now (q .entry))) (now (out .entry))
+        (buffers (now (w .exit)) (now (p .exit)) (now (s .exit)) (now (t .exit)) (now (r .exit)) (now (q .exit))) (now (out .exit)) ⌝ }
+{
+    let n = part(case.length, code);
+    let w_end = part(case.w, w);
+    let p_end = part(case.p, p);
+    let s_end = part(case.s, s);
+    let t_end = part(case.t, t);
+    let r_end = part(case.r, r);
+    let q_end = part(case.q, q);
+    let out_end = part(case.out, out);
+    tell(
+        case.limit,
+        &code[..n],
+        &mut w[..w_end],
+        &mut p[..p_end],
+        &mut s[..s_end],
+        &mut t[..t_end],
+        &mut r[..r_end],
+        &mut q[..q_end],
+        &mut out[..out_end],
+    );
+}
+
+// So many of the room's bytes, or all that it has.
+fn part(wanted: usize, room: &[u8]) -> usize
+    ensures { λ r. ⌜ Counts r (now (room .entry)) ⌝ }
+    ensures { λ r. ⌜ r ≡ min wanted (length (now (room .entry))) ⌝ }
+{
+    let all = room.len();
+    if wanted < all { wanted } else { all }
+}
+
+// Calls the entry with every lent byte marked, and tells what came of it.
+fn tell(
+    limit: usize,
+    code: &[u8],
+    w: &mut [u8],
+    p: &mut [u8],
+    s: &mut [u8],
+    t: &mut [u8],
+    r: &mut [u8],
+    q: &mut [u8],
+    out: &mut [u8],
+)
+    ensures { λ _. ⌜ Told
+        (answer
+        (lentOf (buffers (now (w .entry)) (now (p .entry)) (now (s .entry)) (now (t .entry)) (now (r .entry)) (now (q .entry))) (now (out .entry)))
+        limit (now (code .entry)))
+        (buffers (now (w .entry)) (now (p .entry)) (now (s .entry)) (now (t .entry)) (now (r .entry)) (now (q .entry))) (now (out .entry))
+        (buffers (now (w .exit)) (now (p .exit)) (now (s .exit)) (now (t .exit)) (now (r .exit)) (now (q .exit))) (now (out .exit)) ⌝ }
+{
+    fill_all(w, p, s, t, r, q, out);
+    let answer = aznifrem_map(limit as u64, code, w, p, s, t, r, q, out);
+    report(answer, w, p, s, t, r, q, out);
+}
+
+// Puts its mark at every byte of each.
+fn fill_all(
+    w: &mut [u8],
+    p: &mut [u8],
+    s: &mut [u8],
+    t: &mut [u8],
+    r: &mut [u8],
+    q: &mut [u8],
+    out: &mut [u8],
+)
+    ensures { λ _. ⌜ Marked (buffers (now (w .entry)) (now (p .entry)) (now (s .entry)) (now (t .entry)) (now (r .entry)) (now (q .entry))) (now (out .entry))
+        (buffers (now (w .exit)) (now (p .exit)) (now (s .exit)) (now (t .exit)) (now (r .exit)) (now (q .exit))) (now (out .exit)) ⌝ }
+{
+    fill(w);
+    fill(p);
+    fill(s);
+    fill(t);
+    fill(r);
+    fill(q);
+    fill(out);
+}
+
+// The number of a refusal, or 0: a map has 18 bytes at least.
+fn refusal(answer: u64) -> u64
+    ensures { λ r. ⌜ r ≤ answer ⌝ }
+{
+    if answer < 18 { answer } else { 0 }
+}
+
+// Writes the number, the count of bytes written, their checksum, and a letter for each lent buffer;
+// the output's is for what lies behind the bytes written.
+fn report(answer: u64, w: &[u8], p: &[u8], s: &[u8], t: &[u8], r: &[u8], q: &[u8], out: &[u8]) {
+    let number = refusal(answer);
+    let written = (answer - number) as usize;
+    io::print_decimal(STDOUT_FILENO, number);
+    io::write_all(STDOUT_FILENO, &[b' ']);
+    io::print_decimal(STDOUT_FILENO, answer - number);
+    io::write_all(STDOUT_FILENO, &[b' ']);
+    io::print_hex(STDOUT_FILENO, checksum(out, written), 16);
+    let letters = [
+        b' ',
+        letter(w, 0),
+        letter(p, 0),
+        letter(s, 0),
+        letter(t, 0),
+        letter(r, 0),
+        letter(q, 0),
+        letter(out, written),
+        b'\n',
+    ];
+    io::write_all(STDOUT_FILENO, &letters);
+}

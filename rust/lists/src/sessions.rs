@@ -1,0 +1,259 @@
+//! `crates/sessions/stdin` and `crates/sessions/stdout`: calls of the entry, answered by the model,
+//! and what the program `sessions` must write of each.
+
+use crate::answers::{self, Line, chosen};
+use crate::maps;
+use agree::families;
+use agree::{Verdict, compare};
+use codes::Random;
+use codes::contract::{Style, sized};
+use codes::corners::{CORNERS, recorded_both_ways};
+use model::{HIGHEST_LIMIT, LONGEST_CODE, Lent};
+use std::collections::HashSet;
+
+/// The lengths of the program's own buffers: no case lends more.
+const BUFFERS: Lent = Lent {
+    w: 1_573_120,
+    p: 65_536,
+    s: 524_288,
+    t: 262_144,
+    r: 262_144,
+    q: 262_144,
+    out: 524_288,
+};
+/// The bytes of a unit of W, P, S, T, R, Q and the output.
+const UNITS: [u64; 7] = [64, 2, 9, 32, 32, 2, 1];
+/// The bytes of cases that the program reads.
+const INPUT: usize = 1 << 20;
+
+/// `limit w p s t r q out length piece`: the code repeats the piece up to its length.
+pub fn case(line: &Line) -> String {
+    let lent: String = line.lent.map(|bytes| format!(" {bytes}")).concat();
+    let piece = codes::to_hex(piece(&line.code));
+    format!("{}{lent} {} {piece}", line.limit, line.code.len())
+}
+
+/// The first bytes of a long code, if it repeats a few of them; else the whole.
+fn piece(code: &[u8]) -> &[u8] {
+    let repeats = |length: &usize| code[*length..].iter().eq(&code[..code.len() - length]);
+    let short = (1..=16).filter(|length| 1000 * length <= code.len());
+    let length = short.into_iter().find(repeats).unwrap_or(code.len());
+    &code[..length]
+}
+
+/// `number written checksum letters`: a room is `0` wiped or `x` untouched, the output `x` behind
+/// what was written; `-` has no bytes.
+pub fn told(line: &Line) -> String {
+    let answer = line.answer();
+    let (number, written) = (answer.number(), answer.written());
+    let wiped = !(1..=3).contains(&number);
+    let letter = |bytes: &u64| match (bytes, wiped) {
+        (0, _) => '-',
+        (_, true) => '0',
+        (_, false) => 'x',
+    };
+    let rooms: String = line.lent[..6].iter().map(letter).collect();
+    let (count, sum) = (written.len(), checksum(written));
+    let rest = if line.lent[6] > count as u64 {
+        'x'
+    } else {
+        '-'
+    };
+    format!("{number} {count} {sum:016x} {rooms}{rest}")
+}
+
+/// FNV-1a of 64 bits.
+fn checksum(bytes: &[u8]) -> u64 {
+    bytes.iter().fold(0xcbf2_9ce4_8422_2325, |sum, byte| {
+        (sum ^ u64::from(*byte)).wrapping_mul(0x0100_0000_01b3)
+    })
+}
+
+/// All cases, each once; a list that the program could not read, or that says too little, is a
+/// fault of this program.
+pub fn lines() -> Vec<Line> {
+    let rust = rust_codes();
+    assert!(rust.len() >= 500, "codes of the Rust's answers");
+    let around = around_the_needs();
+    assert!(around.len() >= 1000, "cases around the needs");
+    let mut lines = longest();
+    lines.extend(corners());
+    lines.extend(orders());
+    lines.extend(rust.iter().map(|code| roomy(code)));
+    lines.extend(answers::lines());
+    lines.extend(around);
+    lines.iter_mut().for_each(fit);
+    let mut seen = HashSet::new();
+    lines.retain(|line| seen.insert(line.clone()));
+    let length: usize = lines.iter().map(|line| case(line).len() + 1).sum();
+    assert!(length <= INPUT, "the program reads {INPUT} bytes of cases");
+    lines
+}
+
+fn in_buffers(limit: u64, code: &[u8]) -> Line {
+    Line::new(limit, &BUFFERS, code)
+}
+
+/// The call in the rooms of document 01's program, or in all that this one has where it needs more:
+/// a small code in large buffers spends its time on marks.
+fn roomy(code: &[u8]) -> Line {
+    let line = Line::new(HIGHEST_LIMIT, &Lent::PROGRAM, code);
+    if line.answer().number() == 0 {
+        line
+    } else {
+        in_buffers(HIGHEST_LIMIT, code)
+    }
+}
+
+/// Lends at most what the program has.
+fn fit(line: &mut Line) {
+    let most = in_buffers(0, &[]).lent;
+    for (bytes, most) in line.lent.iter_mut().zip(most) {
+        *bytes = most.min(*bytes);
+    }
+}
+
+/// "24,576 bytes taken, 24,577 refused 1. Limit 500,001 refused 2", with codes of one piece.
+fn longest() -> Vec<Line> {
+    let mut lines = Vec::new();
+    for text in [
+        "00",
+        "5b",
+        "60",
+        "56",
+        "0c",
+        "5b00",
+        "60056007565b005b56",
+        "6000575b",
+    ] {
+        let piece = answers::hex(text);
+        let mut code: Vec<u8> = piece.iter().copied().cycle().take(LONGEST_CODE).collect();
+        lines.push(in_buffers(HIGHEST_LIMIT, &code));
+        lines.push(in_buffers(HIGHEST_LIMIT + 1, &code));
+        lines.push(in_buffers(0, &code));
+        lines.push(lending(&in_buffers(HIGHEST_LIMIT, &code), 0, BUFFERS.w - 1));
+        code.push(piece[LONGEST_CODE % piece.len()]);
+        lines.push(in_buffers(HIGHEST_LIMIT, &code));
+        lines.push(in_buffers(HIGHEST_LIMIT + 1, &code));
+    }
+    lines
+}
+
+/// Every corner: in all that the program has, at the highest limit and at low ones, and in exactly
+/// the rooms that it needs.
+fn corners() -> Vec<Line> {
+    let extra = ["1e00", "1e", "5b305b0c305b00", "6005565b0c5b30"];
+    let texts = CORNERS.iter().chain(&extra);
+    let mut codes: Vec<Vec<u8>> = texts.map(|text| answers::hex(text)).collect();
+    codes.push(recorded_both_ways());
+    let mut lines = Vec::new();
+    for code in codes {
+        lines.push(in_buffers(HIGHEST_LIMIT, &code));
+        for limit in [HIGHEST_LIMIT, 0, 1, 2, 3, HIGHEST_LIMIT + 1] {
+            lines.push(Line::new(limit, &Lent::PROGRAM, &code));
+        }
+        lines.extend(exact(HIGHEST_LIMIT, &code));
+    }
+    lines
+}
+
+/// The call in exactly the rooms that it needs at this limit.
+fn exact(limit: u64, code: &[u8]) -> Option<Line> {
+    let map = model::map(&BUFFERS, limit, code).ok()?;
+    Some(Line::new(limit, &map.needs.lent(code.len()), code))
+}
+
+/// Two sessions in every choice of a few units of each room: which shortage is met first.
+fn orders() -> Vec<Line> {
+    let mut lines = Vec::new();
+    for text in ["60056007565b005b56", "6005600d565b600b600d565b005b56"] {
+        let just = exact(HIGHEST_LIMIT, &answers::hex(text)).expect("a session has a map");
+        let mut made = vec![just.clone()];
+        for (at, unit) in UNITS.into_iter().enumerate().take(6).skip(1) {
+            let counts = some_of(just.lent[at] / unit);
+            let lines = made.iter();
+            let lines = lines.flat_map(|line| counts.iter().map(|n| lending(line, at, n * unit)));
+            made = lines.collect();
+        }
+        lines.extend(made);
+    }
+    lines
+}
+
+/// The call with so many bytes of one buffer.
+fn lending(line: &Line, at: usize, bytes: u64) -> Line {
+    let mut line = line.clone();
+    line.lent[at] = bytes;
+    line
+}
+
+/// None, one, one less than all, and all.
+fn some_of(all: u64) -> Vec<u64> {
+    let mut counts = vec![0, 1.min(all), all.saturating_sub(1), all];
+    counts.sort_unstable();
+    counts.dedup();
+    counts
+}
+
+/// Longer codes than those of `tests/rust.list`, which the program answers too.
+const LONGER: [(&str, usize); 3] = [("woven-long", 20), ("calls-middle", 30), ("calls-large", 8)];
+
+/// Bytes of whole contracts, up to the longest that is taken.
+const CONTRACTS: [usize; 4] = [1000, 6000, 12_000, LONGEST_CODE];
+
+/// Codes whose map at the highest limit is the unchanged Rust's, block by block.
+fn rust_codes() -> Vec<Vec<u8>> {
+    let taken = answers::lines().into_iter().map(|line| line.code);
+    let mut codes = maps::lines(taken.collect());
+    let answered = |code: &Vec<u8>| in_buffers(HIGHEST_LIMIT, code).answer().number() == 0;
+    let test = |code: &Vec<u8>| !agree::has_other_row(code) && answered(code);
+    let mut random = Random::new(31);
+    for (name, count) in LONGER {
+        codes.extend(chosen(families::named(name), &mut random, count, test));
+    }
+    for bytes in CONTRACTS {
+        for style in [Style::Plain, Style::Calls] {
+            codes.push(sized(&mut random, bytes, style));
+        }
+    }
+    for code in &codes {
+        let verdict = compare(code);
+        assert!(verdict == Verdict::Same && answered(code), "{verdict:?}");
+    }
+    codes
+}
+
+/// Codes that need each room, tried with it at its need and short of it, and at limits around the
+/// energy that they use.
+fn around_the_needs() -> Vec<Line> {
+    let mut random = Random::new(32);
+    let mut lines = Vec::new();
+    let rich = |code: &Vec<u8>| {
+        let map = answers::whole(code);
+        code.len() <= 64 && map.is_some_and(|map| map.records.len() >= 2 && map.energy >= 4)
+    };
+    for (name, count) in [("calls-small", 14), ("woven", 14), ("mutants", 8)] {
+        for code in chosen(families::named(name), &mut random, count, rich) {
+            let used = answers::energy(&code);
+            for limit in [HIGHEST_LIMIT, used / 2] {
+                lines.extend(exact(limit, &code).iter().flat_map(around));
+            }
+            for limit in [0, 1, 2, 3, 4, used - 1, used, used + 1, HIGHEST_LIMIT + 1] {
+                lines.push(Line::new(limit, &Lent::PROGRAM, &code));
+            }
+        }
+    }
+    lines
+}
+
+/// Exactly enough; for each room more bytes that make no unit, a byte short, a unit short, nothing.
+fn around(just: &Line) -> Vec<Line> {
+    let mut lines = vec![just.clone()];
+    for (at, unit) in UNITS.into_iter().enumerate() {
+        let need = just.lent[at];
+        let (byte, whole) = (need.saturating_sub(1), need.saturating_sub(unit));
+        let others = [need + unit - 1, byte, whole, 0];
+        lines.extend(others.map(|bytes| lending(just, at, bytes)));
+    }
+    lines
+}
