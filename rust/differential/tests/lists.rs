@@ -12,7 +12,7 @@ use model::Lent;
 const ENDLESS: u64 = 1 << 20;
 
 fn list(name: &str) -> Vec<Vec<String>> {
-    let file = Path::new(env!("CARGO_MANIFEST_DIR")).join("../../../tests");
+    let file = Path::new(env!("CARGO_MANIFEST_DIR")).join("../../tests");
     let text = fs::read_to_string(file.join(name)).expect("the list is readable");
     let fields = |line: &str| line.split(' ').map(String::from).collect();
     text.lines().map(fields).collect()

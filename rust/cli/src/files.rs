@@ -31,10 +31,12 @@ fn collect(
         if entry.file_name().as_encoded_bytes().starts_with(b".") {
             continue;
         }
-        // A link to a folder is not followed: it may lead back to where it stands.
+        // A link to a folder is not followed: it may lead back to where it stands. One that leads
+        // nowhere is kept, so that reading it is told.
+        let other = fs::metadata(&path).is_ok_and(|of| !of.is_file());
         if entry.file_type().map_err(unreadable)?.is_dir() {
             collect(&path, &name, test, found)?;
-        } else if path.is_file() && test(&name) {
+        } else if !other && test(&name) {
             found.push(Named { path, name });
         }
     }

@@ -1,8 +1,8 @@
 //! The library on a small part of the codes, and faults that must be found.
 
-use aznifrem::{Lent, call};
+use aznifrem::{HIGHEST_LIMIT, Lent, call};
 use codes::{Random, exhaustive};
-use differential::{Checker, FAMILIES, Tally};
+use differential::{Checker, FAMILIES, Tally, fenced_call};
 
 const PORT: Checker = Checker { port: call };
 
@@ -48,6 +48,21 @@ fn the_library_on_some_codes_of_each_family() {
         }
         same(&tally);
     }
+}
+
+/// The code is too heavy for the families: it needs more than `agree::ENOUGH`.
+#[test]
+fn the_library_where_the_rusts_energy_ends() {
+    let code = codes::worst::diamonds(17);
+    let map = model::map(&model::Lent::ALL, HIGHEST_LIMIT, &code).expect("it is answered");
+    assert!(map.energy >= HIGHEST_LIMIT);
+    assert!(map.records.len() < 1 << 17, "some ways are left");
+    assert_eq!(map.blocks, agree::rust_blocks(&code));
+    let lent = map.needs.lent(code.len());
+    let given = fenced_call(call, &code, HIGHEST_LIMIT, &lent, &mut Random::new(1));
+    let given = given.expect("every byte is as it must be");
+    let expected = model::answer(&lent, HIGHEST_LIMIT, &code);
+    assert!(given.written == expected.written(), "the model's bytes");
 }
 
 /// The model behind the library's entry.

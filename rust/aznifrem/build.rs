@@ -56,7 +56,7 @@ fn folder() -> Result<PathBuf, String> {
 
 fn repository() -> Result<PathBuf, String> {
     let here = env::var("CARGO_MANIFEST_DIR").map_err(|_| "run this by cargo".to_string())?;
-    let above = Path::new(&here).join("../../..");
+    let above = Path::new(&here).join("../..");
     above
         .canonicalize()
         .map_err(|e| format!("cannot find the repository around {here}: {e}"))

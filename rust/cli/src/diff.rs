@@ -19,8 +19,8 @@ pub fn run(old: &Path, new: &Path, out: &mut impl Write) -> io::Result<Outcome> 
             return Ok(Outcome::Wrong);
         }
     };
-    let mut outcome = Outcome::Fine;
     let mut count = 0;
+    let mut unreadable = 0;
     for pair in &pairs {
         match pair.lines() {
             Ok(lines) => {
@@ -34,17 +34,20 @@ pub fn run(old: &Path, new: &Path, out: &mut impl Write) -> io::Result<Outcome> 
                 sentences
                     .iter()
                     .for_each(|sentence| eprintln!("{sentence}"));
-                outcome = Outcome::Wrong;
+                unreadable += 1;
             }
         }
     }
-    writeln!(out, "maps: {}, differences: {count}", pairs.len())?;
-    let moved = if count == 0 {
-        Outcome::Fine
-    } else {
-        Outcome::Found
-    };
-    Ok(outcome.max(moved))
+    write!(out, "maps: {}, differences: {count}", pairs.len())?;
+    if unreadable > 0 {
+        write!(out, ", not compared: {unreadable}")?;
+    }
+    writeln!(out)?;
+    Ok(match (unreadable, count) {
+        (0, 0) => Outcome::Fine,
+        (0, _) => Outcome::Found,
+        _ => Outcome::Wrong,
+    })
 }
 
 /// Two maps of one name; either may be missing.
@@ -70,12 +73,19 @@ impl Pair {
     }
 }
 
+fn unreadable(path: &Path, error: io::Error) -> String {
+    format!("{}: cannot be read: {error}", path.display())
+}
+
 fn read(path: &Path) -> Result<Map, String> {
-    let bytes = fs::read(path).map_err(|e| format!("{}: cannot be read: {e}", path.display()))?;
+    let bytes = fs::read(path).map_err(|error| unreadable(path, error))?;
     Map::from_bytes(&bytes).map_err(|e| format!("{}: is no stored map: {e}", path.display()))
 }
 
 fn pairs(old: &Path, new: &Path) -> Result<Vec<Pair>, String> {
+    for side in [old, new] {
+        fs::metadata(side).map_err(|error| unreadable(side, error))?;
+    }
     match (old.is_dir(), new.is_dir()) {
         (false, false) => Ok(vec![Pair {
             title: String::new(),

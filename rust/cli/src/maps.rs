@@ -18,6 +18,10 @@ const HEADER: usize = 6;
 const DIGITS: &[u8; 16] = b"0123456789abcdef";
 
 pub fn run(options: &Options, out: &mut impl Write) -> io::Result<Outcome> {
+    if let Some(file) = options.to.as_deref().filter(|to| to.is_file()) {
+        eprintln!("{}: is a file, and --to takes a folder", file.display());
+        return Ok(Outcome::Wrong);
+    }
     let mut outcome = Outcome::Fine;
     let mut contracts = Vec::new();
     for input in &options.inputs {

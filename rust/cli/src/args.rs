@@ -15,8 +15,8 @@ which its dynamic jumps were resolved.
 
 A contract is a file of deployed code (at most 24,576 bytes), as hexadecimal digits, with or without
 0x and line breaks, or as the bytes themselves. Which of the two it is shows by its content; say
---hex or --binary where it does not. In folders, files that begin with a dot or end in .map are
-passed over.
+--hex or --binary where it does not. In folders, files that begin with a dot or end in .map and
+links to folders are passed over.
 
 What comes out (the first is the default):
   --lines           each entry of the map as hexadecimal digits on a line

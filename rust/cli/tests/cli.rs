@@ -170,6 +170,49 @@ fn an_unreadable_map_is_not_the_same_as_nothing_moved() {
     assert_eq!(exit, 2);
     assert!(said.starts_with("old.map: is no stored map: the entry at byte 0 is cut short"));
     assert_eq!(all(&run(&here, &["diff", "old.map", "."])).0, 2);
+    put(&here, "new/a.map", "no map");
+    put(&here, "new/b.map", "no map");
+    let (_, out, _) = all(&run(&here, &["diff", "new", "new"]));
+    assert_eq!(out, "maps: 2, differences: 0, not compared: 2\n");
+}
+
+#[test]
+fn a_side_that_is_missing_is_named() {
+    let here = folder("missing-side");
+    put(&here, "maps/a.map", "no map");
+    let (exit, out, said) = all(&run(&here, &["diff", "maps", "yesterday"]));
+    assert_eq!((exit, out.as_str()), (2, ""));
+    assert!(said.starts_with("yesterday: cannot be read"), "{said}");
+}
+
+#[cfg(unix)]
+#[test]
+fn a_link_that_leads_nowhere_is_told() {
+    let here = folder("links");
+    put(&here, "code/a.hex", RETURN);
+    std::os::unix::fs::symlink("nowhere", here.join("code/b.hex")).expect("a link can be made");
+    std::os::unix::fs::symlink("../code", here.join("code/back")).expect("a link can be made");
+    let (exit, out, said) = all(&run(&here, &["code"]));
+    assert_eq!(
+        (exit, out),
+        (1, format!("== code/a.hex\n{LINES}")),
+        "{said}"
+    );
+    assert!(said.starts_with("code/b.hex: cannot be read"), "{said}");
+    assert_eq!(said.lines().count(), 1);
+}
+
+#[test]
+fn a_stored_map_is_no_contract_and_a_file_no_folder() {
+    let here = folder("confused");
+    put(&here, "code/a.hex", RETURN);
+    assert_eq!(all(&run(&here, &["--to", "maps", "code"])).0, 0);
+    let (exit, out, said) = all(&run(&here, &["maps/a.hex.map"]));
+    assert_eq!((exit, out.as_str()), (1, ""));
+    assert!(said.starts_with("maps/a.hex.map: is a stored map"));
+    let (exit, _, said) = all(&run(&here, &["--to", "code/a.hex", "code"]));
+    assert_eq!(exit, 2);
+    assert_eq!(said, "code/a.hex: is a file, and --to takes a folder\n");
 }
 
 #[test]

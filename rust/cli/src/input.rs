@@ -4,6 +4,8 @@ use std::fs;
 use std::io::{self, Read};
 use std::path::Path;
 
+use aznifrem::Map;
+
 use crate::args::Form;
 
 /// The code that a file holds, or a sentence that says why it holds none.
@@ -26,6 +28,10 @@ pub fn decoded(bytes: Vec<u8>, form: Form) -> Result<Vec<u8>, String> {
         Form::ToldApart if looks_hex(&bytes) => hex(&bytes),
         Form::ToldApart if is_text(&bytes) => Err(
             "is text, but not hexadecimal digits: link its libraries if it names some, or say --binary"
+                .into(),
+        ),
+        Form::ToldApart if Map::from_bytes(&bytes).is_ok() => Err(
+            "is a stored map, not a contract: diff compares it, and --binary maps it all the same"
                 .into(),
         ),
         Form::ToldApart => Ok(bytes),
@@ -97,5 +103,10 @@ mod tests {
         assert!(said.contains("link its libraries"));
         let said = told_apart(b"600").expect_err("it is cut");
         assert!(said.contains("3 hexadecimal digits"));
+        let stored = aznifrem::map(&[0x00], 0)
+            .expect("STOP has a map")
+            .to_bytes();
+        let said = told_apart(&stored.expect("it fits")).expect_err("it is a map");
+        assert!(said.contains("is a stored map"));
     }
 }

@@ -1,0 +1,25 @@
+//! What libFuzzer calls with each input; it has the `main`.
+#![no_main]
+
+use std::process::abort;
+use std::slice::from_raw_parts;
+
+/// Ends the run on a mismatch: libFuzzer keeps the input then.
+#[allow(unsafe_code)] // libFuzzer lends `length` bytes for the call.
+#[unsafe(no_mangle)]
+extern "C" fn LLVMFuzzerTestOneInput(bytes: *const u8, length: usize) -> i32 {
+    let input = match length {
+        0 => &[],
+        _ => unsafe { from_raw_parts(bytes, length) },
+    };
+    let port = if cfg!(feature = "fault") {
+        fuzz::faulty
+    } else {
+        aznifrem::call
+    };
+    if let Some(text) = fuzz::mismatch(port, input) {
+        eprintln!("{text}");
+        abort();
+    }
+    0
+}
