@@ -9,7 +9,7 @@ use codes::contract::{Style, sized};
 
 use crate::heap::peak;
 use crate::port::Rooms;
-use crate::stats::{highest, kibibytes, median, milliseconds};
+use crate::stats::{highest, kibibytes, median, milliseconds, ratio_cell};
 
 /// A class of contracts.
 pub struct Class {
@@ -42,7 +42,7 @@ pub const CLASSES: [Class; 4] = [
 ];
 
 /// "At or below 0.3 on the contracts."
-pub const GOAL: f64 = 0.3;
+const GOAL: f64 = 0.3;
 
 const CEILING: usize = 1 << 30;
 const FEWEST_TURNS: usize = 3;
@@ -65,17 +65,16 @@ pub struct Measured {
 }
 
 impl Class {
-    pub fn measure(&self, count: usize, seed: u64) -> Measured {
+    /// An error says which contract the library does not answer.
+    pub fn measure(&self, count: usize, seed: u64) -> Result<Measured, String> {
         let mut random = Random::new(seed.wrapping_add(self.bytes as u64));
         let draw = |_| sized(&mut random, self.bytes, self.style);
         let codes: Vec<Vec<u8>> = (0..count).map(draw).collect();
         let mut rooms = Rooms::new();
         let mut mapper = Mapper::new();
-        for code in &codes {
-            let grown = rooms.grow_for(code, CEILING);
-            assert_eq!(grown, Ok(()), "a contract needs more than {CEILING} bytes");
-            let map = mapper.map(code, HIGHEST_LIMIT).expect("it is answered");
-            assert_eq!(map.blocks.len(), oracle::blocks(code).len());
+        for (at, code) in codes.iter().enumerate() {
+            answered(code, &mut rooms, &mut mapper, CEILING)
+                .map_err(|sentence| format!("contract {at} of seed {seed}: {sentence}"))?;
         }
         let lent = codes.iter().map(|code| rooms.lent(code.len()));
         let lent = lent.max().unwrap_or(0);
@@ -85,13 +84,30 @@ impl Class {
             .iter()
             .map(|code| timed(code, &mut rooms, &mut mapper))
             .collect();
-        Measured {
+        Ok(Measured {
             times,
             longest: codes.iter().map(Vec::len).max().unwrap_or(0),
             lent,
             peaks,
-        }
+        })
     }
+}
+
+/// Grows the rooms for a code; an error if the library does not answer it.
+fn answered(
+    code: &[u8],
+    rooms: &mut Rooms,
+    mapper: &mut Mapper,
+    ceiling: usize,
+) -> Result<(), String> {
+    rooms
+        .grow_for(code, ceiling)
+        .map_err(|number| format!("the call is refused {number} within {ceiling} bytes"))?;
+    let map = mapper.map(code, HIGHEST_LIMIT);
+    let map = map.map_err(|error| error.to_string())?;
+    // Times of another map would say nothing.
+    assert_eq!(map.blocks.len(), oracle::blocks(code).len());
+    Ok(())
 }
 
 /// The three in turn, over and over: what disturbs one disturbs the others as well.
@@ -118,9 +134,15 @@ fn time<T>(run: impl FnOnce() -> T) -> f64 {
 }
 
 impl Measured {
-    /// The median over the codes of call / Rust.
-    pub fn ratio(&self) -> f64 {
-        median(&self.ratios(|times| times.call))
+    /// The median over the codes of call / Rust, if there is a code.
+    fn ratio(&self) -> Option<f64> {
+        let ratios = self.ratios(|times| times.call);
+        (!ratios.is_empty()).then(|| median(&ratios))
+    }
+
+    /// The goal is missed by a ratio over it, and by none: on the contracts both must answer.
+    pub fn misses(&self) -> bool {
+        self.ratio().is_none_or(|ratio| ratio > GOAL)
     }
 
     fn ratios(&self, ours: fn(&Times) -> f64) -> Vec<f64> {
@@ -136,16 +158,60 @@ impl Measured {
     /// A line of the table.
     pub fn row(&self, name: &str) -> String {
         format!(
-            "| {name} | {} | {} | {:.3} | {:.3} | {:.2} | {:.2} | {:.2} | {} | {} |",
+            "| {name} | {} | {} | {:.3} | {:.3} | {} | {:.2} | {:.2} | {} | {} |",
             self.times.len(),
             self.longest,
             self.middle(|times| times.call),
             self.middle(|times| times.rust),
-            self.ratio(),
+            ratio_cell(self.ratio()),
             highest(&self.ratios(|times| times.call)),
             median(&self.ratios(|times| times.map)),
             kibibytes(self.lent),
             kibibytes(highest(&self.peaks) as usize)
         )
+    }
+}
+
+#[cfg(test)]
+mod tests {
+    use super::{Mapper, Measured, Rooms, Times, answered};
+
+    fn of(times: &[(f64, f64)]) -> Measured {
+        let one = |(call, rust): &(f64, f64)| Times {
+            call: *call,
+            map: *call,
+            rust: *rust,
+        };
+        Measured {
+            times: times.iter().map(one).collect(),
+            longest: 0,
+            lent: 0,
+            peaks: Vec::new(),
+        }
+    }
+
+    #[test]
+    fn a_median_over_the_goal_misses_it() {
+        assert!(!of(&[(3.0, 10.0), (9.0, 10.0), (1.0, 10.0)]).misses());
+        assert!(of(&[(3.1, 10.0), (9.0, 10.0), (1.0, 10.0)]).misses());
+    }
+
+    #[test]
+    fn no_contract_at_all_misses_the_goal() {
+        assert!(of(&[]).misses());
+        let row = of(&[]).row("x");
+        assert!(
+            row.starts_with("| x | 0 | 0 | 0.000 | 0.000 | - |"),
+            "{row}"
+        );
+    }
+
+    #[test]
+    fn a_contract_that_is_refused_is_said_to_be() {
+        let code = codes::worst::diamonds(9);
+        let within = |ceiling| answered(&code, &mut Rooms::new(), &mut Mapper::new(), ceiling);
+        assert_eq!(within(1 << 30), Ok(()));
+        let sentence = within(1 << 10).expect_err("a kibibyte is too little");
+        assert!(sentence.starts_with("the call is refused "), "{sentence}");
     }
 }

@@ -1,20 +1,24 @@
-//! Counts the bytes on the heap while it is asked to.
+//! Counts a thread's bytes on the heap while it is asked to.
 
 use std::alloc::{GlobalAlloc, Layout, System};
-use std::sync::atomic::{AtomicBool, AtomicI64, Ordering::Relaxed};
+use std::cell::Cell;
+use std::sync::atomic::{AtomicI64, Ordering::Relaxed};
 
 struct Counted;
 
 #[global_allocator]
 static HEAP: Counted = Counted;
 
-static COUNTING: AtomicBool = AtomicBool::new(false);
+thread_local! {
+    // Constant and with nothing to drop: the allocator may look at it at any time.
+    static COUNTING: Cell<bool> = const { Cell::new(false) };
+}
 static HELD: AtomicI64 = AtomicI64::new(0);
 static PEAK: AtomicI64 = AtomicI64::new(0);
 
 fn add(bytes: i64) {
     // While times are taken this test is all that the counting costs.
-    if COUNTING.load(Relaxed) {
+    if COUNTING.get() {
         let held = HELD.fetch_add(bytes, Relaxed) + bytes;
         PEAK.fetch_max(held, Relaxed);
     }
@@ -48,9 +52,9 @@ unsafe impl GlobalAlloc for Counted {
 pub fn peak<T>(run: impl FnOnce() -> T) -> usize {
     HELD.store(0, Relaxed);
     PEAK.store(0, Relaxed);
-    COUNTING.store(true, Relaxed);
+    COUNTING.set(true);
     let result = run();
-    COUNTING.store(false, Relaxed);
+    COUNTING.set(false);
     drop(result);
     PEAK.load(Relaxed).max(0) as usize
 }
@@ -63,7 +67,6 @@ mod tests {
             drop(vec![1_u8; 5_000_000]);
             vec![1_u8; 3_000_000]
         });
-        // The test's own threads may hold a little at the same time.
-        assert!((5_000_000..5_100_000).contains(&peak), "{peak}");
+        assert_eq!(peak, 5_000_000);
     }
 }

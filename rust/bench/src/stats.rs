@@ -18,6 +18,11 @@ pub fn milliseconds(time: Duration) -> f64 {
     time.as_secs_f64() * 1e3
 }
 
+/// A ratio in the table; a dash if there is none.
+pub fn ratio_cell(ratio: Option<f64>) -> String {
+    ratio.map_or("-".into(), |ratio| format!("{ratio:.2}"))
+}
+
 pub fn kibibytes(bytes: usize) -> String {
     bytes.div_ceil(1024).to_string()
 }

@@ -11,10 +11,10 @@ use codes::worst;
 
 use crate::heap::peak;
 use crate::port::Rooms;
-use crate::stats::{kibibytes, median, milliseconds};
+use crate::stats::{kibibytes, median, milliseconds, ratio_cell};
 
 /// "At or below 1 on the worst cases where both answer."
-pub const GOAL: f64 = 1.0;
+const GOAL: f64 = 1.0;
 
 const TURNS: usize = 5;
 
@@ -88,7 +88,7 @@ pub fn measure(case: usize, bounds: Bounds) -> io::Result<Measured> {
         ..Measured::default()
     };
     listen(&mut measured, spawn(case, "both", bounds)?, bounds.time);
-    if measured.call.times.is_empty() {
+    if !measured.call.answered() {
         listen(&mut measured, spawn(case, "rust", bounds)?, bounds.time);
     }
     Ok(measured)
@@ -189,21 +189,27 @@ fn say(line: &str) {
 
 impl Measured {
     /// Call / Rust where both answer.
-    pub fn ratio(&self) -> Option<f64> {
-        let both = !self.call.times.is_empty() && !self.rust.times.is_empty();
+    fn ratio(&self) -> Option<f64> {
+        let both = self.call.answered() && self.rust.answered();
         both.then(|| median(&self.call.times) / median(&self.rust.times))
+    }
+
+    /// The goal is missed by a ratio over it, and where the Rust alone answers.
+    pub fn misses(&self) -> bool {
+        match self.ratio() {
+            Some(ratio) => ratio > GOAL,
+            None => self.rust.answered(),
+        }
     }
 
     /// A line of the table.
     pub fn row(&self, name: &str) -> String {
-        let ratio = self
-            .ratio()
-            .map_or("-".into(), |ratio| format!("{ratio:.2}"));
         format!(
-            "| {name} | 1 | {} | {} | {} | {ratio} | - | - | {} | {} |",
+            "| {name} | 1 | {} | {} | {} | {} | - | - | {} | {} |",
             self.bytes,
             self.call.time(),
             self.rust.time(),
+            ratio_cell(self.ratio()),
             self.call.memory(),
             self.rust.memory()
         )
@@ -211,11 +217,15 @@ impl Measured {
 }
 
 impl Side {
+    fn answered(&self) -> bool {
+        !self.times.is_empty()
+    }
+
     fn time(&self) -> String {
-        match (&self.refused, self.times.is_empty()) {
+        match (&self.refused, self.answered()) {
             (Some(refused), _) => refused.clone(),
-            (None, true) => "no answer".into(),
-            (None, false) => format!("{:.3}", median(&self.times)),
+            (None, false) => "no answer".into(),
+            (None, true) => format!("{:.3}", median(&self.times)),
         }
     }
 
@@ -232,18 +242,21 @@ impl Side {
 mod tests {
     use super::{Measured, note};
 
+    fn of(lines: &[&str]) -> Measured {
+        let mut measured = Measured::default();
+        lines.iter().for_each(|line| note(&mut measured, line));
+        measured
+    }
+
     #[test]
     fn the_lines_of_a_child_make_a_row() {
-        let mut measured = Measured::default();
-        for line in [
+        let measured = of(&[
             "call bytes 2048",
             "call ms 1",
             "rust ms 4",
             "call ms 3",
             "call ms 2",
-        ] {
-            note(&mut measured, line);
-        }
+        ]);
         assert_eq!(measured.ratio(), Some(0.5));
         assert_eq!(
             measured.row("x"),
@@ -253,13 +266,26 @@ mod tests {
 
     #[test]
     fn a_side_without_an_answer_has_no_ratio() {
-        let mut measured = Measured::default();
-        note(&mut measured, "call refused 5");
-        note(&mut measured, "what is this");
+        let measured = of(&["call refused 5", "what is this"]);
         assert_eq!(measured.ratio(), None);
         assert_eq!(
             measured.row("x"),
             "| x | 1 | 0 | refused 5 | no answer | - | - | - | - | - |"
         );
+    }
+
+    #[test]
+    fn a_ratio_over_the_goal_misses_it() {
+        assert!(!of(&["call ms 4", "rust ms 4"]).misses());
+        assert!(of(&["call ms 5", "rust ms 4"]).misses());
+    }
+
+    #[test]
+    fn the_goal_is_missed_where_the_rust_alone_answers() {
+        assert!(of(&["call refused 5", "rust ms 4"]).misses());
+        assert!(of(&["rust ms 4"]).misses(), "too slow, or crashed");
+        assert!(of(&["call bytes 2048", "rust ms 4"]).misses());
+        assert!(!of(&["call ms 4"]).misses(), "the library alone answers");
+        assert!(!of(&["call refused 5"]).misses(), "neither answers");
     }
 }
