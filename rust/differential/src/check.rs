@@ -1,14 +1,13 @@
 //! Everything that is held against each other on one code.
 
-use std::panic::{AssertUnwindSafe, catch_unwind};
-
 use agree::{ENOUGH, has_other_row};
 use aznifrem::{Block, BlockType, DynamicJump, Lent as Rooms, Map};
 use codes::Random;
-use model::{Answer, HIGHEST_LIMIT, Lent, rooms};
+use model::{Answer, HIGHEST_LIMIT, LONGEST_CODE, Lent, Refusal, rooms};
 use oracle::control_flow_graph as rust;
 
 use crate::lend::{self, Given};
+use crate::panics::caught;
 
 /// The library's entry, or what stands in for it in a test.
 pub type Port = fn(&[u8], u64, &mut Rooms) -> u64;
@@ -21,6 +20,8 @@ pub enum Verdict {
     OutsideTheDomain,
     /// It needs more than `agree::ENOUGH`: its refusal was held against the model's.
     TooHeavy,
+    /// It has more than 24,576 bytes: its refusals were held against the model's, and are 1.
+    TooLong,
 }
 
 /// What differs, in a sentence; two of one kind have the same cause, more likely than not.
@@ -43,7 +44,14 @@ pub struct Checker {
 impl Checker {
     /// All calls on one code; the seed chooses rooms and limits beyond the plain call.
     pub fn check(&self, code: &[u8], seed: u64) -> Result<Verdict, Mismatch> {
-        let random = &mut Random::new(seed);
+        // The model, the library and the binding may panic: that is told with the code as well.
+        caught("panic", || self.calls(code, &mut Random::new(seed)))?
+    }
+
+    fn calls(&self, code: &[u8], random: &mut Random) -> Result<Verdict, Mismatch> {
+        if code.len() > LONGEST_CODE {
+            return self.too_long(code, random);
+        }
         let Ok(map) = model::map(&ENOUGH, HIGHEST_LIMIT, code) else {
             let most = Lent {
                 w: rooms::work(code.len()),
@@ -67,6 +75,25 @@ impl Checker {
             self.call(code, HIGHEST_LIMIT + 1 + random.word() % 9, &exact, random)?;
         }
         Ok(verdict)
+    }
+
+    /// Refusal 1 comes before 2 and 3: at any limit, with W enough, short or not there.
+    fn too_long(&self, code: &[u8], random: &mut Random) -> Result<Verdict, Mismatch> {
+        let enough = rooms::work(code.len());
+        let over = HIGHEST_LIMIT + 1 + random.word() % 9;
+        let under = random.below(HIGHEST_LIMIT as usize) as u64;
+        for limit in [HIGHEST_LIMIT, under, over, u64::MAX] {
+            let lent = Lent {
+                w: random.pick(&[0, 256, enough - 1, enough]),
+                ..Lent::each(random.below(200) as u64)
+            };
+            let number = self.call(code, limit, &lent, random)?.number;
+            if number != u64::from(Refusal::CodeTooLong.number()) {
+                let sentence = format!("{} bytes are answered {number}, not 1", code.len());
+                return Err(mismatch("number", sentence));
+            }
+        }
+        Ok(Verdict::TooLong)
     }
 
     /// One call: number, bytes, and every lent byte, against the model's answer.
@@ -154,10 +181,7 @@ fn longer(exact: &Lent, random: &mut Random) -> Lent {
 fn same_blocks(code: &[u8], written: &[u8]) -> Result<(), Mismatch> {
     let map = Map::from_bytes(written)
         .map_err(|fault| mismatch("unreadable", format!("the answer is no map: {fault}")))?;
-    let theirs = catch_unwind(AssertUnwindSafe(|| oracle::blocks(code)));
-    let Ok(theirs) = theirs else {
-        return Err(mismatch("panic", "the Rust panics".into()));
-    };
+    let theirs = caught("panic of the Rust", || oracle::blocks(code))?;
     let ours: Vec<&Block> = map.blocks.values().collect();
     let theirs: Vec<Block> = theirs.values().map(translated).collect();
     for at in 0..ours.len().max(theirs.len()) {

@@ -1,8 +1,9 @@
-//! The families of codes, by name: those of `agree`, and contracts, damaged ones and worst cases.
+//! The families of codes, by name: those of `agree`, and contracts, damaged ones, worst cases
+//! and codes that are too long.
 
 use codes::Random;
 use codes::contract::{Style, sized};
-use codes::random::mutant;
+use codes::random::{jumpy, mutant};
 use codes::worst;
 
 /// A family of codes that a seed spells out.
@@ -14,10 +15,10 @@ pub struct Family {
     pub next: fn(&mut Random) -> Vec<u8>,
 }
 
-const LONGEST: usize = 24_576;
+const LONGEST: usize = model::LONGEST_CODE;
 
 /// Those of `agree`, in their order; then these.
-const MORE: [Family; 6] = [
+const MORE: [Family; 7] = [
     Family {
         name: "damaged",
         share: 100,
@@ -57,6 +58,11 @@ const MORE: [Family; 6] = [
         name: "worst",
         share: 10,
         next: worst_case,
+    },
+    Family {
+        name: "too-long",
+        share: 3,
+        next: too_long,
     },
 ];
 
@@ -111,4 +117,14 @@ fn worst_case(random: &mut Random) -> Vec<u8> {
     } else {
         code
     }
+}
+
+/// A byte too long, some hundred, or about as long as two bytes can say; the Rust maps such codes.
+fn too_long(random: &mut Random) -> Vec<u8> {
+    let length = match random.below(4) {
+        0 => LONGEST + 1,
+        1 => random.between(65_535, 65_537),
+        _ => random.between(LONGEST + 2, 25_000),
+    };
+    jumpy(random, length)
 }

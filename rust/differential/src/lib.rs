@@ -6,6 +6,7 @@
 mod check;
 mod families;
 mod lend;
+mod panics;
 mod shrink;
 mod tally;
 

@@ -40,8 +40,6 @@ fn main() -> ExitCode {
             return ExitCode::from(2);
         }
     };
-    // The Rust's panics are mismatches: their text would only stand between the lines.
-    std::panic::set_hook(Box::new(|_| {}));
     let begun = Instant::now();
     let all = run(&options, begun);
     report("in all", &all, begun);
@@ -143,12 +141,13 @@ fn of_family(checker: &Checker, family: &Family, count: u64, first: u64) -> Tall
 
 fn report(title: &str, tally: &Tally, begun: Instant) {
     println!(
-        "{title}: {} codes, {} the same, {} different, {} with 1E, {} too heavy, {:.1} s",
+        "{title}: {} codes, {} the same, {} different, {} with 1E, {} too heavy, {} too long, {:.1} s",
         tally.codes(),
         tally.same,
         tally.different,
         tally.outside,
         tally.heavy,
+        tally.long,
         begun.elapsed().as_secs_f64()
     );
     if title != "in all" {

@@ -1,15 +1,24 @@
 //! A smaller code that shows the same mismatch.
 
+use std::time::{Duration, Instant};
+
 /// How often a smaller code is tried before what there is has to do.
 const MOST_TRIALS: usize = 3_000;
+/// And for how long: the check of a long code takes hundredths of a second.
+const MOST_TIME: Duration = Duration::from_secs(20);
 
 /// Takes parts out, halves first and single bytes last, and then turns bytes into STOP or
 /// JUMPDEST, as long as the mismatch is still there.
 pub fn smaller(code: &[u8], shows: impl Fn(&[u8]) -> bool) -> Vec<u8> {
+    smaller_within(MOST_TIME, code, shows)
+}
+
+fn smaller_within(time: Duration, code: &[u8], shows: impl Fn(&[u8]) -> bool) -> Vec<u8> {
+    let begun = Instant::now();
     let mut trials = 0;
     let mut shows = |code: &[u8]| {
         trials += 1;
-        trials <= MOST_TRIALS && shows(code)
+        trials <= MOST_TRIALS && begun.elapsed() < time && shows(code)
     };
     let mut best = code.to_vec();
     loop {
@@ -57,7 +66,8 @@ fn plainer(best: &mut [u8], shows: &mut impl FnMut(&[u8]) -> bool) {
 
 #[cfg(test)]
 mod tests {
-    use super::smaller;
+    use super::{smaller, smaller_within};
+    use std::time::Duration;
 
     #[test]
     fn what_does_not_matter_is_taken_out() {
@@ -76,6 +86,12 @@ mod tests {
             smaller(&code, |code| code.len() > 2 && !code.contains(&0)),
             [0x5b; 3]
         );
+    }
+
+    #[test]
+    fn no_code_is_tried_when_the_time_is_over() {
+        assert_eq!(smaller_within(Duration::ZERO, &[1, 2], |_| true), [1, 2]);
+        assert_eq!(smaller_within(Duration::MAX, &[1, 2], |_| true), []);
     }
 
     #[test]

@@ -14,6 +14,7 @@ pub struct Tally {
     pub same: u64,
     pub outside: u64,
     pub heavy: u64,
+    pub long: u64,
     pub different: u64,
     /// The first mismatches, each with its origin and a smaller code.
     pub written_out: Vec<String>,
@@ -26,6 +27,7 @@ impl Tally {
             Ok(Verdict::Same) => self.same += 1,
             Ok(Verdict::OutsideTheDomain) => self.outside += 1,
             Ok(Verdict::TooHeavy) => self.heavy += 1,
+            Ok(Verdict::TooLong) => self.long += 1,
             Err(mismatch) => {
                 self.different += 1;
                 if self.written_out.len() < WRITTEN_OUT {
@@ -38,13 +40,14 @@ impl Tally {
 
     /// All codes that were checked.
     pub fn codes(&self) -> u64 {
-        self.same + self.outside + self.heavy + self.different
+        self.same + self.outside + self.heavy + self.long + self.different
     }
 
     pub fn join(&mut self, other: Tally) {
         self.same += other.same;
         self.outside += other.outside;
         self.heavy += other.heavy;
+        self.long += other.long;
         self.different += other.different;
         self.written_out.extend(other.written_out);
     }

@@ -1,14 +1,17 @@
 //! The library on a small part of the codes, and faults that must be found.
 
+use std::collections::BTreeSet;
+
 use aznifrem::{HIGHEST_LIMIT, Lent, call};
 use codes::{Random, exhaustive};
-use differential::{Checker, FAMILIES, Tally, fenced_call};
+use differential::{Checker, FAMILIES, Port, Tally, Verdict, fenced_call};
 
 const PORT: Checker = Checker { port: call };
 
 fn same(tally: &Tally) {
     assert_eq!(tally.written_out, Vec::<String>::new());
-    assert!(tally.same * 10 > tally.codes() * 9, "{tally:?}");
+    let telling = tally.same + tally.long;
+    assert!(telling * 10 > tally.codes() * 9, "{tally:?}");
 }
 
 #[test]
@@ -48,6 +51,30 @@ fn the_library_on_some_codes_of_each_family() {
         }
         same(&tally);
     }
+}
+
+/// Codes of the family that is refused with 1, each with its seed.
+fn too_long_codes(count: u64) -> impl Iterator<Item = (u64, Vec<u8>)> {
+    let family = FAMILIES.iter().find(|family| family.name == "too-long");
+    let next = family.expect("there is such a family").next;
+    (0..count).map(move |seed| (seed, next(&mut Random::new(seed))))
+}
+
+#[test]
+fn the_library_on_codes_that_are_too_long() {
+    for (seed, code) in too_long_codes(40) {
+        // The Rust, which maps such codes, is not asked.
+        assert_eq!(PORT.check(&code, seed), Ok(Verdict::TooLong));
+    }
+}
+
+#[test]
+fn the_codes_that_are_too_long_have_every_telling_length() {
+    let lengths: BTreeSet<usize> = too_long_codes(200).map(|(_, code)| code.len()).collect();
+    let (little, much): (Vec<usize>, Vec<usize>) =
+        lengths.into_iter().partition(|length| *length <= 25_000);
+    assert!(little[0] == 24_577 && little.len() > 50, "{little:?}");
+    assert_eq!(much, [65_535, 65_536, 65_537]);
 }
 
 /// The code is too heavy for the families: it needs more than `agree::ENOUGH`.
@@ -112,7 +139,7 @@ fn entries(bytes: &[u8], kind: u8) -> Vec<usize> {
 }
 
 /// The first mismatch among some thousand codes, written out.
-fn found(port: differential::Port) -> String {
+fn found(port: Port) -> String {
     let checker = Checker { port };
     let mut tally = Tally::default();
     let mut seeds = Random::new(77);
@@ -137,7 +164,7 @@ fn length_of_smaller(text: &str) -> usize {
     hex.expect("a smaller code is there").len() / 2
 }
 
-fn finds(port: differential::Port, kind: &str, at_most: usize) {
+fn finds(port: Port, kind: &str, at_most: usize) {
     let text = found(port);
     let first = text.lines().next().unwrap_or_default();
     assert!(first.ends_with(kind), "expected '{kind}' in: {text}");
@@ -231,6 +258,52 @@ fn another_refusal_is_found() {
     finds(port, "number", 12);
 }
 
+/// A fault that codes of up to 24,576 bytes do not show.
+fn finds_in_too_long(port: Port, kind: &str) {
+    let checker = Checker { port };
+    let found = too_long_codes(40).find_map(|(seed, code)| checker.check(&code, seed).err());
+    assert_eq!(found.map(|found| found.kind), Some(kind));
+}
+
+#[test]
+fn a_limit_that_is_looked_at_before_the_length_is_found() {
+    let port = |code: &[u8], limit, rooms: &mut Lent| {
+        let number = honest(code, limit, rooms);
+        if limit > HIGHEST_LIMIT { 2 } else { number }
+    };
+    finds_in_too_long(port, "number");
+}
+
+#[test]
+fn a_room_that_is_looked_at_before_the_length_is_found() {
+    let port = |code: &[u8], limit, rooms: &mut Lent| match honest(code, limit, rooms) {
+        1 if rooms.w.len() < 64 * code.len() + 256 => 3,
+        number => number,
+    };
+    finds_in_too_long(port, "number");
+}
+
+#[test]
+fn a_length_of_two_bytes_is_found() {
+    let port = |code: &[u8], limit, rooms: &mut Lent| {
+        let length = code.len() % 65_536;
+        honest(&code[..length], limit, rooms)
+    };
+    finds_in_too_long(port, "number");
+}
+
+#[test]
+fn a_room_that_is_touched_because_the_code_is_too_long_is_found() {
+    let port = |code: &[u8], limit, rooms: &mut Lent| {
+        let number = honest(code, limit, rooms);
+        if number == 1 {
+            rooms.q.fill(0);
+        }
+        number
+    };
+    finds_in_too_long(port, "lent bytes");
+}
+
 #[test]
 fn a_code_with_1e_is_held_against_the_model_alone() {
     let checker = Checker { port: honest };
@@ -238,5 +311,5 @@ fn a_code_with_1e_is_held_against_the_model_alone() {
     let verdict = checker
         .check(&clz, 1)
         .expect("it is held against the model");
-    assert_eq!(verdict, differential::Verdict::OutsideTheDomain);
+    assert_eq!(verdict, Verdict::OutsideTheDomain);
 }
