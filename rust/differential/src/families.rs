@@ -119,7 +119,7 @@ fn worst_case(random: &mut Random) -> Vec<u8> {
     }
 }
 
-/// A byte too long, some hundred, or about as long as two bytes can say; the Rust maps such codes.
+/// Too long by a byte, by up to some hundred, or about as long as two bytes can say.
 fn too_long(random: &mut Random) -> Vec<u8> {
     let length = match random.below(4) {
         0 => LONGEST + 1,

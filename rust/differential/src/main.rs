@@ -141,7 +141,8 @@ fn of_family(checker: &Checker, family: &Family, count: u64, first: u64) -> Tall
 
 fn report(title: &str, tally: &Tally, begun: Instant) {
     println!(
-        "{title}: {} codes, {} the same, {} different, {} with 1E, {} too heavy, {} too long, {:.1} s",
+        "{title}: {} codes, {} the same, {} different, {} with 1E, {} too heavy, {} too long, \
+         {:.1} s",
         tally.codes(),
         tally.same,
         tally.different,

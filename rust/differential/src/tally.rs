@@ -3,7 +3,7 @@
 use crate::check::{Checker, Mismatch, Verdict};
 use crate::shrink::smaller;
 
-/// Mismatches that are written out; the others are counted.
+/// Mismatches of a line that are written out; the others are counted.
 const WRITTEN_OUT: usize = 5;
 /// A longer code is not printed whole; its seed spells it out.
 const LONGEST_PRINTED: usize = 1_000;

@@ -63,7 +63,7 @@ fn too_long_codes(count: u64) -> impl Iterator<Item = (u64, Vec<u8>)> {
 #[test]
 fn the_library_on_codes_that_are_too_long() {
     for (seed, code) in too_long_codes(40) {
-        // The Rust, which maps such codes, is not asked.
+        // The Rust has no such bound and is not asked.
         assert_eq!(PORT.check(&code, seed), Ok(Verdict::TooLong));
     }
 }

@@ -38,7 +38,7 @@ pub fn faulty(code: &[u8], limit: u64, rooms: &mut Lent) -> u64 {
 #[cfg(test)]
 mod tests {
     use super::{faulty, mismatch, split};
-    use aznifrem::call;
+    use aznifrem::{Lent, call};
 
     const RETURN: &str = "60056007565b005b56";
 
@@ -57,5 +57,13 @@ mod tests {
         let text = mismatch(faulty, &input).expect("a destination is found");
         assert!(text.starts_with("mismatch: bytes: byte 14 "), "{text}");
         assert!(text.ends_with(&format!("--seed 1 --code {RETURN}")));
+    }
+
+    #[test]
+    fn a_panic_is_a_mismatch() {
+        let port = |_: &[u8], _, _: &mut Lent| panic!("it cannot be");
+        let text = mismatch(port, &[1, 0, 0x5b]).expect("it panics");
+        assert!(text.starts_with("mismatch: panic: panicked at "), "{text}");
+        assert!(text.ends_with(" it cannot be\n  differential --seed 1 --code 5b"));
     }
 }
