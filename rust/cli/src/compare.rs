@@ -1,8 +1,10 @@
 //! What moved between two maps of one contract.
 
-use std::collections::BTreeSet;
+use std::collections::{BTreeMap, BTreeSet};
 
 use aznifrem::{Block, BlockType, DynamicJump, Map};
+
+use crate::paths;
 
 /// A line for each block that came, went or changed, and for each jump that moved.
 pub fn differences(old: &Map, new: &Map) -> Vec<String> {
@@ -35,7 +37,8 @@ fn changed(lines: &mut Vec<String>, old: &Block, new: &Block) {
         lines.push(format!("block changed: {before} -> {after}"));
     }
     moved_sides(lines, old, new);
-    moved_paths(lines, old.start, old.btype.found(), new.btype.found());
+    let [before, after] = [old, new].map(|block| block.btype.found().iter().collect::<Vec<_>>());
+    paths::moved(lines, old.start, &before, &after);
 }
 
 /// The sides of a block that are known without a path.
@@ -54,89 +57,46 @@ fn moved_sides(lines: &mut Vec<String>, old: &Block, new: &Block) {
     for (name, (before, after)) in names.into_iter().zip(sides) {
         if before != after {
             let start = old.start;
-            let (before, after) = (place(before, "none"), place(after, "none"));
+            let (before, after) = (place(before), place(after));
             lines.push(format!("{name} moved: block {start}: {before} -> {after}"));
         }
     }
 }
 
-fn place(to: Option<usize>, missing: &str) -> String {
-    to.map_or(missing.into(), |to| to.to_string())
+fn place(to: Option<usize>) -> String {
+    to.map_or("none".into(), |to| to.to_string())
 }
 
-/// The record, block by block.
+/// The record, block by block; then whether blocks changed their order in it.
 fn recorded(lines: &mut Vec<String>, old: &Map, new: &Map) {
-    let all = old.records.iter().chain(&new.records);
-    let starts: BTreeSet<usize> = all.map(|record| record.start).collect();
-    let of = |map: &Map, start: usize| -> Vec<DynamicJump> {
-        let own = map.records.iter().filter(|record| record.start == start);
-        own.map(|record| record.jump.clone()).collect()
-    };
-    for start in starts {
-        moved_paths(lines, start, &of(old, start), &of(new, start));
-    }
-}
-
-/// Paths with another destination, paths that came and paths that went.
-fn moved_paths(lines: &mut Vec<String>, start: usize, old: &[DynamicJump], new: &[DynamicJump]) {
-    if old == new {
+    if old.records == new.records {
         return;
     }
-    let mut went = without(old, new);
-    let came = without(new, old);
-    if went.is_empty() && came.is_empty() {
-        lines.push(format!("paths changed their order: block {start}"));
+    let (mut before, mut after) = (by_start(old), by_start(new));
+    let starts: BTreeSet<usize> = before.keys().chain(after.keys()).copied().collect();
+    let said = lines.len();
+    for start in starts {
+        let [old, new] =
+            [&mut before, &mut after].map(|map| map.remove(&start).unwrap_or_default());
+        paths::moved(lines, start, &old, &new);
     }
-    for jump in came {
-        let same = went.iter().position(|other| other.path == jump.path);
-        let after = place(jump.to, UNKNOWN);
-        let line = match same.map(|at| went.remove(at)) {
-            Some(before) => format!(
-                "moved: {}: {} -> {after}",
-                way(start, jump),
-                place(before.to, UNKNOWN)
-            ),
-            None => format!("came: {}: {after}", way(start, jump)),
-        };
-        lines.push(format!("jump {line}"));
+    if lines.len() == said {
+        lines.push("the record changed its order between blocks".into());
     }
-    let gone = |jump: &&DynamicJump| {
-        format!(
-            "jump went: {}: {}",
-            way(start, jump),
-            place(jump.to, UNKNOWN)
-        )
-    };
-    lines.extend(went.iter().map(gone));
 }
 
-/// A path without a destination.
-const UNKNOWN: &str = "unknown";
-
-fn way(start: usize, jump: &DynamicJump) -> String {
-    let path: Vec<String> = jump.path.iter().map(usize::to_string).collect();
-    format!("block {start} by path {}", path.join(", "))
-}
-
-/// The first list without the second, each as often as it is there.
-fn without<'a>(list: &'a [DynamicJump], other: &[DynamicJump]) -> Vec<&'a DynamicJump> {
-    let key = |jump: &DynamicJump| (jump.path.clone(), jump.to);
-    let mut counts = std::collections::HashMap::new();
-    for jump in other {
-        *counts.entry(key(jump)).or_insert(0_usize) += 1;
+fn by_start(map: &Map) -> BTreeMap<usize, Vec<&DynamicJump>> {
+    let mut grouped: BTreeMap<usize, Vec<&DynamicJump>> = BTreeMap::new();
+    for record in &map.records {
+        grouped.entry(record.start).or_default().push(&record.jump);
     }
-    let left = |jump: &&DynamicJump| match counts.get_mut(&key(jump)) {
-        Some(count) if *count > 0 => {
-            *count -= 1;
-            false
-        }
-        _ => true,
-    };
-    list.iter().filter(left).collect()
+    grouped
 }
 
 #[cfg(test)]
 mod tests {
+    use std::time::{Duration, Instant};
+
     use super::differences;
     use aznifrem::{Block, BlockType, DynamicJump, Map, Record};
 
@@ -242,6 +202,53 @@ mod tests {
                 "jump went: block 7 by path 7, 3: 5",
             ]
         );
+    }
+
+    #[test]
+    fn an_order_that_changed_between_blocks_is_said() {
+        let (seven, nine) = ((7, jump(&[7, 0], Some(5))), (9, jump(&[9, 0], Some(5))));
+        let old = map(&[], &[seven.clone(), nine.clone()]);
+        let new = map(&[], &[nine.clone(), seven.clone()]);
+        let order = "the record changed its order between blocks";
+        assert_eq!(differences(&old, &new), [order]);
+        // Where a path says that something moved, the order is no news.
+        let less = differences(&old, &map(&[], &[nine]));
+        assert_eq!(less, ["jump went: block 7 by path 7, 0: 5"]);
+    }
+
+    #[test]
+    fn pairs_are_found_in_the_order_of_the_old_map() {
+        let with = |tos: &[usize]| {
+            let found = |to: &usize| (7, jump(&[7, 0], Some(*to)));
+            map(&[], &tos.iter().map(found).collect::<Vec<_>>())
+        };
+        assert_eq!(
+            differences(&with(&[1, 2, 3]), &with(&[4, 2])),
+            [
+                "jump moved: block 7 by path 7, 0: 1 -> 4",
+                "jump went: block 7 by path 7, 0: 3",
+            ]
+        );
+    }
+
+    /// Compared one with each other, either kind would take minutes.
+    #[test]
+    fn hundreds_of_thousands_of_records_end_in_useful_time() {
+        let count = 300_000;
+        let one_block = |first: usize| {
+            let record = |at| (7, jump(&[7, first + at], Some(5)));
+            map(&[], &(0..count).map(record).collect::<Vec<_>>())
+        };
+        let many_blocks = |to: usize| {
+            let record = |at| (at % 24_000, jump(&[at], Some(to)));
+            map(&[], &(0..count).map(record).collect::<Vec<_>>())
+        };
+        let begun = Instant::now();
+        let lines = differences(&one_block(0), &one_block(count));
+        assert_eq!(lines.len(), 2 * count);
+        let lines = differences(&many_blocks(1), &many_blocks(2));
+        assert_eq!(lines.len(), count);
+        assert!(begun.elapsed() < Duration::from_secs(30));
     }
 
     #[test]

@@ -6,6 +6,7 @@ mod diff;
 mod files;
 mod input;
 mod maps;
+mod paths;
 mod progress;
 mod summary;
 
