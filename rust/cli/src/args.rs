@@ -15,14 +15,17 @@ which its dynamic jumps were resolved.
 
 A contract is a file of deployed code (at most 24,576 bytes), as hexadecimal digits, with or without
 0x and line breaks, or as the bytes themselves. Which of the two it is shows by its content; say
---hex or --binary where it does not. In folders, files that begin with a dot or end in .map and
-links to folders are passed over.
+--hex or --binary where it does not: other text, and what begins with a byte order mark, is a
+contract with --binary alone. In folders of contracts, files and folders that begin with a dot,
+files that end in .map and links to folders are passed over.
 
 What comes out (the first is the default):
-  --lines           each entry of the map as hexadecimal digits on a line
+  --lines           each entry of the map as hexadecimal digits on a line; with two contracts or
+                    more, a line == PATH before each one's
   --summary         the map for a reader
   --to FOLDER       each map as a file NAME.map in this folder, to be stored; nothing is printed
-                    unless --lines or --summary is there too
+                    unless --lines or --summary is there too. A folder that holds a .map file
+                    already is refused: give a fresh one each time, so that no old map stays
 
 Options:
   --limit N         energy that the search may use, 0 to 500000 (default 500000)
@@ -32,11 +35,13 @@ Options:
   --                what follows is a file, whatever it begins with
   --help, --version
 
-diff lists the blocks that came, went or changed, and every jump that moved.
+diff lists the blocks that came, went or changed, and every jump that moved. Of a folder it takes
+every file that ends in .map, also those that begin with a dot and those behind links.
 
-Exit: of map, 0 if every contract is mapped, 1 if one is refused or unreadable (a line for each on
-standard error); of diff, 0 if nothing moved, 1 if something did, 2 if a map is unreadable; 2 if the
-command is not understood.
+Exit: of map, 0 if every contract is mapped, 1 if one is refused or not stored, or a file or folder
+is unreadable (a line for each on standard error); of diff, 0 if nothing moved, 1 if something did,
+2 if a map or a folder is unreadable; of both, 2 if the command is not understood or the output
+cannot be written.
 
 A first map:
   echo 60056007565b005b56 | aznifrem --summary -

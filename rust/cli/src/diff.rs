@@ -9,13 +9,14 @@ use aznifrem::Map;
 
 use crate::Outcome;
 use crate::compare::differences;
-use crate::files::beneath;
+use crate::files::{Kind, Named, beneath};
+use crate::tell;
 
 pub fn run(old: &Path, new: &Path, out: &mut impl Write) -> io::Result<Outcome> {
     let pairs = match pairs(old, new) {
         Ok(pairs) => pairs,
-        Err(sentence) => {
-            eprintln!("{sentence}");
+        Err(sentences) => {
+            sentences.iter().for_each(|sentence| tell(sentence));
             return Ok(Outcome::Wrong);
         }
     };
@@ -31,9 +32,7 @@ pub fn run(old: &Path, new: &Path, out: &mut impl Write) -> io::Result<Outcome> 
             }
             Err(sentences) => {
                 out.flush()?;
-                sentences
-                    .iter()
-                    .for_each(|sentence| eprintln!("{sentence}"));
+                sentences.iter().for_each(|sentence| tell(sentence));
                 unreadable += 1;
             }
         }
@@ -82,9 +81,10 @@ fn read(path: &Path) -> Result<Map, String> {
     Map::from_bytes(&bytes).map_err(|e| format!("{}: is no stored map: {e}", path.display()))
 }
 
-fn pairs(old: &Path, new: &Path) -> Result<Vec<Pair>, String> {
+/// The maps to compare, or why there are none.
+fn pairs(old: &Path, new: &Path) -> Result<Vec<Pair>, Vec<String>> {
     for side in [old, new] {
-        fs::metadata(side).map_err(|error| unreadable(side, error))?;
+        fs::metadata(side).map_err(|error| vec![unreadable(side, error)])?;
     }
     match (old.is_dir(), new.is_dir()) {
         (false, false) => Ok(vec![Pair {
@@ -93,33 +93,45 @@ fn pairs(old: &Path, new: &Path) -> Result<Vec<Pair>, String> {
             new: Some(new.to_path_buf()),
         }]),
         (true, true) => of_folders(old, new),
-        _ => Err(format!(
+        _ => Err(vec![format!(
             "{} and {}: one is a folder and the other is not; give two maps or two folders",
             old.display(),
             new.display()
-        )),
+        )]),
     }
 }
 
 /// The maps of two folders, by name.
-fn of_folders(old: &Path, new: &Path) -> Result<Vec<Pair>, String> {
+fn of_folders(old: &Path, new: &Path) -> Result<Vec<Pair>, Vec<String>> {
+    let (before, after) = maps_of(old, new)?;
     let mut pairs: BTreeMap<PathBuf, Pair> = BTreeMap::new();
-    for map in beneath(old, |_| true)? {
+    for map in before {
         pairs.entry(map.name).or_default().old = Some(map.path);
     }
-    for map in beneath(new, |_| true)? {
+    for map in after {
         pairs.entry(map.name).or_default().new = Some(map.path);
     }
     if pairs.is_empty() {
-        return Err(format!(
-            "{} and {}: no map is in either",
+        return Err(vec![format!(
+            "{} and {}: no map is in either; a map's file ends in .map",
             old.display(),
             new.display()
-        ));
+        )]);
     }
     let titled = |(name, pair): (PathBuf, Pair)| Pair {
         title: format!("{}: ", name.display()),
         ..pair
     };
     Ok(pairs.into_iter().map(titled).collect())
+}
+
+/// With half of a folder unread, maps would seem to have come or gone: then nothing is compared.
+fn maps_of(old: &Path, new: &Path) -> Result<(Vec<Named>, Vec<Named>), Vec<String>> {
+    let (old, new) = (beneath(old, Kind::Maps), beneath(new, Kind::Maps));
+    let faults = [old.faults, new.faults].concat();
+    if faults.is_empty() {
+        Ok((old.files, new.files))
+    } else {
+        Err(faults)
+    }
 }

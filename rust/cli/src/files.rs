@@ -1,6 +1,7 @@
 //! The files that the words of the command line stand for.
 
-use std::fs;
+use std::fs::{self, DirEntry};
+use std::io;
 use std::path::{Path, PathBuf};
 
 /// A file, and the name that it goes by beneath the folder that was named.
@@ -10,35 +11,110 @@ pub struct Named {
     pub name: PathBuf,
 }
 
-/// All files beneath a folder that pass the test, by name; none that begins with a dot.
-pub fn beneath(folder: &Path, test: fn(&Path) -> bool) -> Result<Vec<Named>, String> {
-    let mut found = Vec::new();
-    collect(folder, Path::new(""), test, &mut found)?;
-    found.sort_by(|a, b| a.name.cmp(&b.name));
-    Ok(found)
+/// What is looked for beneath a folder.
+#[derive(Clone, Copy, Debug, PartialEq, Eq)]
+pub enum Kind {
+    /// Every file but maps; what begins with a dot and links to folders are passed over.
+    Contracts,
+    /// Every file that ends in .map, wherever it lies: a map that is passed over is not compared.
+    Maps,
 }
 
-fn collect(
-    folder: &Path,
-    name: &Path,
-    test: fn(&Path) -> bool,
-    found: &mut Vec<Named>,
-) -> Result<(), String> {
-    let unreadable = |error| format!("{}: cannot read the folder: {error}", folder.display());
-    for entry in fs::read_dir(folder).map_err(unreadable)? {
-        let entry = entry.map_err(unreadable)?;
-        let (path, name) = (entry.path(), name.join(entry.file_name()));
-        if entry.file_name().as_encoded_bytes().starts_with(b".") {
-            continue;
-        }
-        // A link to a folder is not followed: it may lead back to where it stands. One that leads
-        // nowhere is kept, so that reading it is told.
-        let other = fs::metadata(&path).is_ok_and(|of| !of.is_file());
-        if entry.file_type().map_err(unreadable)?.is_dir() {
-            collect(&path, &name, test, found)?;
-        } else if !other && test(&name) {
-            found.push(Named { path, name });
+/// What is beneath a folder, and a sentence for each thing that cannot be read.
+#[derive(Clone, Debug, Default, PartialEq, Eq)]
+pub struct Found {
+    pub files: Vec<Named>,
+    pub faults: Vec<String>,
+}
+
+/// All files of a kind beneath a folder, by name.
+pub fn beneath(folder: &Path, kind: Kind) -> Found {
+    let mut search = Search {
+        kind,
+        within: Vec::new(),
+        found: Found::default(),
+    };
+    search.folder(folder, Path::new(""));
+    let mut found = search.found;
+    found.files.sort_by(|a, b| a.name.cmp(&b.name));
+    found
+}
+
+struct Search {
+    kind: Kind,
+    /// The folders that are being read, without links: a link to one of them leads round.
+    within: Vec<PathBuf>,
+    found: Found,
+}
+
+impl Search {
+    /// One folder that cannot be read does not hide the others.
+    fn folder(&mut self, folder: &Path, name: &Path) {
+        if let Err(error) = self.entries(folder, name) {
+            let sentence = format!("{}: cannot read the folder: {error}", folder.display());
+            self.found.faults.push(sentence);
         }
     }
-    Ok(())
+
+    fn entries(&mut self, folder: &Path, name: &Path) -> io::Result<()> {
+        let real = fs::canonicalize(folder)?;
+        if self.within.contains(&real) {
+            return Err(io::Error::other("it is a link to a folder that it lies in"));
+        }
+        self.within.push(real);
+        let read = fs::read_dir(folder).and_then(|mut entries| {
+            entries.try_for_each(|entry| entry.and_then(|entry| self.entry(&entry, name)))
+        });
+        self.within.pop();
+        read
+    }
+
+    fn entry(&mut self, entry: &DirEntry, name: &Path) -> io::Result<()> {
+        let hidden = entry.file_name().as_encoded_bytes().starts_with(b".");
+        if hidden && self.kind == Kind::Contracts {
+            return Ok(());
+        }
+        let (path, name) = (entry.path(), name.join(entry.file_name()));
+        if entry.file_type()?.is_dir() {
+            self.folder(&path, &name);
+            return Ok(());
+        }
+        let wanted = self.wanted(&name);
+        match fs::metadata(&path) {
+            Ok(of) if !of.is_file() && self.kind == Kind::Contracts => {}
+            Ok(of) if of.is_dir() => self.folder(&path, &name),
+            Ok(of) if !of.is_file() && wanted => self.fault(&path, "is no file"),
+            // A link that leads nowhere is kept, so that reading it is told.
+            _ if wanted => self.found.files.push(Named { path, name }),
+            Err(_) if self.kind == Kind::Maps => self.fault(&path, "is a link that leads nowhere"),
+            _ => {}
+        }
+        Ok(())
+    }
+
+    fn fault(&mut self, path: &Path, what: &str) {
+        let sentence = format!("{}: {what}: take it away", path.display());
+        self.found.faults.push(sentence);
+    }
+
+    fn wanted(&self, name: &Path) -> bool {
+        let is_map = name.as_os_str().as_encoded_bytes().ends_with(b".map");
+        is_map == (self.kind == Kind::Maps)
+    }
+}
+
+#[cfg(test)]
+mod tests {
+    use super::{Kind, beneath};
+    use std::path::Path;
+
+    #[test]
+    fn a_folder_that_cannot_be_read_is_a_fault() {
+        let found = beneath(Path::new("no such folder"), Kind::Maps);
+        assert_eq!(found.files, []);
+        let [fault] = &found.faults[..] else {
+            panic!("one sentence: {:?}", found.faults);
+        };
+        assert!(fault.starts_with("no such folder: cannot read the folder: "));
+    }
 }

@@ -26,6 +26,10 @@ pub fn decoded(bytes: Vec<u8>, form: Form) -> Result<Vec<u8>, String> {
         Form::Binary => Ok(bytes),
         Form::Hex => hex(&bytes),
         Form::ToldApart if looks_hex(&bytes) => hex(&bytes),
+        Form::ToldApart if begins_with_mark(&bytes) => Err(
+            "begins with a byte order mark, as text may: save it as plain hexadecimal digits, or say --binary if these are the code's bytes"
+                .into(),
+        ),
         Form::ToldApart if is_text(&bytes) => Err(
             "is text, but not hexadecimal digits: link its libraries if it names some, or say --binary"
                 .into(),
@@ -52,9 +56,16 @@ fn looks_hex(bytes: &[u8]) -> bool {
     digits(bytes).iter().all(u8::is_ascii_hexdigit)
 }
 
+/// Of UTF-8, and of UTF-16 in either order.
+fn begins_with_mark(bytes: &[u8]) -> bool {
+    let marks: [&[u8]; 3] = [&[0xef, 0xbb, 0xbf], &[0xff, 0xfe], &[0xfe, 0xff]];
+    marks.iter().any(|mark| bytes.starts_with(mark))
+}
+
+/// A contract has bytes that are no text almost at once; where it does not, a flag is for that.
 fn is_text(bytes: &[u8]) -> bool {
-    let text = |byte: &u8| byte.is_ascii_graphic() || byte.is_ascii_whitespace();
-    bytes.iter().all(text)
+    let text = |letter: char| !letter.is_control() || letter.is_whitespace();
+    str::from_utf8(bytes).is_ok_and(|letters| letters.chars().all(text))
 }
 
 fn hex(bytes: &[u8]) -> Result<Vec<u8>, String> {
@@ -95,6 +106,34 @@ mod tests {
         );
         assert_eq!(decoded(b"5b56".to_vec(), Form::Hex), Ok(vec![0x5b, 0x56]));
         assert!(decoded(vec![0x60, 0x00], Form::Hex).is_err());
+    }
+
+    #[test]
+    fn text_that_is_not_ascii_is_no_contract() {
+        for text in ["6000\u{a0}56", "0x6000 – 56", "ж", "\u{200b}6000\r\n"] {
+            let said = told_apart(text.as_bytes()).expect_err("it is text");
+            assert!(said.contains("is text") && said.contains("--binary"));
+            let kept = decoded(text.into(), Form::Binary);
+            assert_eq!(kept, Ok(text.as_bytes().to_vec()));
+        }
+        // Bytes that are no UTF-8, and controls, are a contract's.
+        for code in [&[0x60, 0x80, 0x60, 0x40, 0x52][..], b"W\x00W", b"\x7f5b"] {
+            assert_eq!(told_apart(code), Ok(code.to_vec()));
+        }
+    }
+
+    #[test]
+    fn byte_order_marks_are_refused() {
+        for marked in [
+            &b"\xef\xbb\xbf6000"[..],
+            b"\xff\xfe6\x000\x00",
+            b"\xfe\xff\x006\x000",
+        ] {
+            let said = told_apart(marked).expect_err("it begins with a mark");
+            assert!(said.contains("byte order mark") && said.contains("--binary"));
+            let kept = decoded(marked.to_vec(), Form::Binary);
+            assert_eq!(kept, Ok(marked.to_vec()));
+        }
     }
 
     #[test]

@@ -22,29 +22,33 @@ enum Outcome {
     Fine = 0,
     /// A code was refused or unreadable, or something moved.
     Found = 1,
-    /// Asked wrongly, or a map to compare is unreadable.
+    /// Asked wrongly, a map to compare is unreadable, or the output cannot be written.
     Wrong = 2,
+}
+
+/// A line on standard error; if nobody can read it, that is no reason to stop.
+fn tell(line: &str) {
+    let _ = writeln!(io::stderr(), "{line}");
 }
 
 fn main() -> ExitCode {
     let command = match args::parse(std::env::args_os().skip(1)) {
         Ok(command) => command,
         Err(sentence) => {
-            eprintln!("aznifrem: {sentence}\nTry 'aznifrem --help'.");
+            tell(&format!("aznifrem: {sentence}\nTry 'aznifrem --help'."));
             return ExitCode::from(Outcome::Wrong as u8);
         }
     };
     let mut out = BufWriter::new(io::stdout().lock());
     let outcome = run(command, &mut out).and_then(|outcome| out.flush().map(|()| outcome));
-    match outcome {
-        Ok(outcome) => ExitCode::from(outcome as u8),
-        // Who reads has closed the pipe: there is nobody to tell.
-        Err(error) if error.kind() == ErrorKind::BrokenPipe => ExitCode::FAILURE,
-        Err(error) => {
-            eprintln!("aznifrem: cannot write the output: {error}");
-            ExitCode::FAILURE
+    let outcome = outcome.unwrap_or_else(|error| {
+        // If who reads has closed the pipe, there is nobody to tell.
+        if error.kind() != ErrorKind::BrokenPipe {
+            tell(&format!("aznifrem: cannot write the output: {error}"));
         }
-    }
+        Outcome::Wrong
+    });
+    ExitCode::from(outcome as u8)
 }
 
 fn run(command: Command, out: &mut impl Write) -> io::Result<Outcome> {

@@ -9,29 +9,29 @@ use aznifrem::{Error, Map, Mapper};
 
 use crate::Outcome;
 use crate::args::{Options, Print};
-use crate::files::{Named, beneath};
+use crate::files::{Found, Kind, Named, beneath};
 use crate::input;
 use crate::progress::Progress;
 use crate::summary;
+use crate::tell;
 
 const HEADER: usize = 6;
 const DIGITS: &[u8; 16] = b"0123456789abcdef";
 
 pub fn run(options: &Options, out: &mut impl Write) -> io::Result<Outcome> {
-    if let Some(file) = options.to.as_deref().filter(|to| to.is_file()) {
-        eprintln!("{}: is a file, and --to takes a folder", file.display());
+    if let Some(sentence) = options.to.as_deref().and_then(unfit) {
+        tell(&sentence);
         return Ok(Outcome::Wrong);
     }
     let mut outcome = Outcome::Fine;
     let mut contracts = Vec::new();
     for input in &options.inputs {
-        match expanded(input) {
-            Ok(found) => contracts.extend(found),
-            Err(sentence) => {
-                eprintln!("{sentence}");
-                outcome = Outcome::Found;
-            }
+        let found = expanded(input);
+        for sentence in &found.faults {
+            tell(sentence);
+            outcome = Outcome::Found;
         }
+        contracts.extend(found.files);
     }
     let mut job = Job {
         options,
@@ -51,7 +51,7 @@ pub fn run(options: &Options, out: &mut impl Write) -> io::Result<Outcome> {
             Err(sentence) => {
                 progress.clear();
                 out.flush()?;
-                eprintln!("{}: {sentence}", contract.path.display());
+                tell(&format!("{}: {sentence}", contract.path.display()));
                 outcome = Outcome::Found;
             }
         }
@@ -60,26 +60,48 @@ pub fn run(options: &Options, out: &mut impl Write) -> io::Result<Outcome> {
     Ok(outcome)
 }
 
+/// Why maps cannot be stored here. A map of an earlier run would stay where this run stores none,
+/// and diff would take it for this run's.
+fn unfit(folder: &Path) -> Option<String> {
+    if folder.is_file() {
+        return Some(format!(
+            "{}: is a file, and --to takes a folder",
+            folder.display()
+        ));
+    }
+    if !folder.is_dir() {
+        return None;
+    }
+    let found = beneath(folder, Kind::Maps);
+    let held = found.files.first().map(|map| {
+        format!(
+            "{}: holds maps already, as {}: give --to a fresh folder, or empty this one",
+            folder.display(),
+            map.name.display()
+        )
+    });
+    held.or_else(|| found.faults.into_iter().next())
+}
+
 /// The contracts that a word of the command line stands for.
-fn expanded(input: &Path) -> Result<Vec<Named>, String> {
+fn expanded(input: &Path) -> Found {
     if input.is_dir() {
-        let found = beneath(input, |name| {
-            name.extension().is_none_or(|end| end != "map")
-        })?;
-        return if found.is_empty() {
-            Err(format!("{}: no contract is in it", input.display()))
-        } else {
-            Ok(found)
-        };
+        let mut found = beneath(input, Kind::Contracts);
+        if found == Found::default() {
+            let sentence = format!("{}: no contract is in it", input.display());
+            found.faults.push(sentence);
+        }
+        return found;
     }
     let name = match input.file_name() {
         Some(name) if input != Path::new("-") => PathBuf::from(name),
         _ => PathBuf::from("stdin"),
     };
-    Ok(vec![Named {
-        path: input.to_path_buf(),
-        name,
-    }])
+    let path = input.to_path_buf();
+    Found {
+        files: vec![Named { path, name }],
+        faults: Vec::new(),
+    }
 }
 
 /// The work on one contract after another.

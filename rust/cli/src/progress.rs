@@ -31,9 +31,7 @@ impl Progress {
         let soon = self.drawn.is_some_and(|drawn| drawn.elapsed() < PAUSE);
         if self.shown && !soon {
             self.drawn = Some(Instant::now());
-            eprint!("\r\x1b[K{}", line(self.done, self.total, name));
-            // A bar that cannot be drawn is no reason to stop.
-            let _ = io::stderr().flush();
+            draw(&line(self.done, self.total, name));
         }
         self.done += 1;
     }
@@ -41,9 +39,15 @@ impl Progress {
     /// Takes the bar away, so that a line can be printed.
     pub fn clear(&mut self) {
         if self.drawn.take().is_some() {
-            eprint!("\r\x1b[K");
+            draw("");
         }
     }
+}
+
+/// A bar that cannot be drawn is no reason to stop.
+fn draw(line: &str) {
+    let mut terminal = io::stderr();
+    let _ = write!(terminal, "\r\x1b[K{line}").and_then(|()| terminal.flush());
 }
 
 fn line(done: usize, total: usize, name: &Path) -> String {

@@ -1,9 +1,12 @@
 //! The command line as a stranger uses it.
 
+mod common;
+
 use std::fs;
 use std::io::Write;
-use std::path::{Path, PathBuf};
 use std::process::{Command, Output, Stdio};
+
+use common::{all, folder, put, run};
 
 const RETURN: &str = "60056007565b005b56";
 const LINES: &str = "0c0000000100090003000100000002000000
@@ -12,28 +15,6 @@ const LINES: &str = "0c0000000100090003000100000002000000
 060000000300070008000500
 0c0000000800070005000200000007000000
 ";
-
-/// A fresh folder for one test.
-fn folder(name: &str) -> PathBuf {
-    let folder = Path::new(env!("CARGO_TARGET_TMPDIR")).join(name);
-    let _ = fs::remove_dir_all(&folder);
-    fs::create_dir_all(&folder).expect("the folder of tests can be written");
-    folder
-}
-
-fn put(folder: &Path, name: &str, bytes: impl AsRef<[u8]>) {
-    let file = folder.join(name);
-    let parent = file.parent().expect("it lies in the folder");
-    fs::create_dir_all(parent).expect("a folder can be made");
-    fs::write(file, bytes).expect("a file can be written");
-}
-
-/// Runs the program in a folder.
-fn run(folder: &Path, words: &[&str]) -> Output {
-    let mut command = Command::new(env!("CARGO_BIN_EXE_aznifrem"));
-    let command = command.args(words).current_dir(folder);
-    command.output().expect("the program runs")
-}
 
 fn run_with(input: &str, words: &[&str]) -> Output {
     let mut child = Command::new(env!("CARGO_BIN_EXE_aznifrem"))
@@ -47,13 +28,6 @@ fn run_with(input: &str, words: &[&str]) -> Output {
     stdin.write_all(input.as_bytes()).expect("it is read");
     drop(stdin);
     child.wait_with_output().expect("the program ends")
-}
-
-/// Exit, standard output, standard error.
-fn all(output: &Output) -> (i32, String, String) {
-    let text = |bytes: &[u8]| String::from_utf8(bytes.to_vec()).expect("it is text");
-    let exit = output.status.code().expect("it is not killed");
-    (exit, text(&output.stdout), text(&output.stderr))
 }
 
 #[test]
@@ -183,23 +157,6 @@ fn a_side_that_is_missing_is_named() {
     let (exit, out, said) = all(&run(&here, &["diff", "maps", "yesterday"]));
     assert_eq!((exit, out.as_str()), (2, ""));
     assert!(said.starts_with("yesterday: cannot be read"), "{said}");
-}
-
-#[cfg(unix)]
-#[test]
-fn a_link_that_leads_nowhere_is_told() {
-    let here = folder("links");
-    put(&here, "code/a.hex", RETURN);
-    std::os::unix::fs::symlink("nowhere", here.join("code/b.hex")).expect("a link can be made");
-    std::os::unix::fs::symlink("../code", here.join("code/back")).expect("a link can be made");
-    let (exit, out, said) = all(&run(&here, &["code"]));
-    assert_eq!(
-        (exit, out),
-        (1, format!("== code/a.hex\n{LINES}")),
-        "{said}"
-    );
-    assert!(said.starts_with("code/b.hex: cannot be read"), "{said}");
-    assert_eq!(said.lines().count(), 1);
 }
 
 #[test]
