@@ -43,7 +43,7 @@ extern "C" {
  *
  * The answer is a row of entries: length of body (4 bytes), kind (2), body; little-endian.
  * Addresses are 2 bytes; a missing destination is 0x8000; counts, path lengths and energy are 4.
- *   1 head          code length, block count (2), record count, energy
+ *   1 head          code length (2), block count (2), record count, energy
  *   2 Terminate     start, end, success (1)
  *   3 Jump          start, end, to
  *   4 Jumpi         start, end, true, false

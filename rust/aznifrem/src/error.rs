@@ -20,7 +20,8 @@ pub enum Error {
         /// The limit that was asked for.
         limit: u64,
     },
-    /// Refusals 3 to 9, where the room may not grow: the ceiling is met, or what counts as lent.
+    /// Refusals 3 to 9, where the room may not grow: what the code is known to need is more than
+    /// the ceiling.
     RoomFull {
         /// The room that is too small.
         room: Room,
@@ -28,6 +29,13 @@ pub enum Error {
         lent: usize,
         /// What all rooms together may have.
         ceiling: usize,
+    },
+    /// Refusals 4 to 9, where the room has all that counts as lent: 2^30 units.
+    RoomAtMost {
+        /// The room that is too small.
+        room: Room,
+        /// Its bytes.
+        lent: usize,
     },
     /// The system has no memory for a room that may grow.
     NoMemory {
@@ -56,7 +64,7 @@ impl Error {
         match self {
             Error::CodeTooLong { .. } => Some(1),
             Error::LimitTooHigh { .. } => Some(2),
-            Error::RoomFull { room, .. } => Some(room.refusal()),
+            Error::RoomFull { room, .. } | Error::RoomAtMost { room, .. } => Some(room.refusal()),
             Error::NoMemory { .. } | Error::NoSuchAnswer { .. } | Error::Unreadable(_) => None,
         }
     }
@@ -81,9 +89,13 @@ impl fmt::Display for Error {
                 f,
                 "room {room} is too small at {lent} bytes and may not grow, as all rooms together may have {ceiling} bytes: allow more, or map with a lower limit"
             ),
+            Error::RoomAtMost { room, lent } => write!(
+                f,
+                "room {room} is too small at {lent} bytes, and no more of it counts as lent: map with a lower limit"
+            ),
             Error::NoMemory { room, bytes } => write!(
                 f,
-                "the system has no memory for {bytes} bytes of room {room}: set a lower ceiling, or map with a lower limit"
+                "the system has no memory for {bytes} bytes of room {room}: free memory, or map with a lower limit"
             ),
             Error::NoSuchAnswer { number } => write!(
                 f,
@@ -158,7 +170,10 @@ impl fmt::Display for Unreadable {
                 "is a block that starts at {start}, not above the block before it"
             ),
             Fault::Success(byte) => write!(f, "has {byte} where 0 or 1 says whether it succeeds"),
-            Fault::Entries(count) => write!(f, "says {count} paths and is followed by others"),
+            Fault::Entries(count) => write!(
+                f,
+                "says {count} paths and is followed by another number of them"
+            ),
             Fault::Counts => f.write_str("is a head whose counts are not those of the entries"),
         }?;
         f.write_str("; make the map again from the code, or fetch the stored file again")
@@ -185,3 +200,28 @@ impl fmt::Display for Unwritable {
 }
 
 impl StdError for Unwritable {}
+
+#[cfg(test)]
+mod tests {
+    use super::{Error, Fault, Room, Unreadable};
+
+    #[test]
+    fn sentences_advise_what_helps() {
+        let (room, lent, ceiling) = (Room::S, 9 << 30, 10 << 30);
+        let full = Error::RoomFull {
+            room,
+            lent,
+            ceiling,
+        };
+        assert!(full.to_string().contains("allow more"));
+        let most = Error::RoomAtMost { room, lent };
+        assert!(!most.to_string().contains("allow more"));
+        assert!(most.to_string().ends_with("map with a lower limit"));
+        assert_eq!((full.number(), most.number()), (Some(5), Some(5)));
+        let none = Error::NoMemory { room, bytes: lent };
+        assert!(none.to_string().contains(": free memory, or "));
+        let fault = Fault::Entries(3);
+        let said = Unreadable { offset: 0, fault }.to_string();
+        assert!(said.contains("says 3 paths and is followed by another number of them"));
+    }
+}

@@ -10,8 +10,10 @@ use crate::{LONGEST_CODE, read};
 const LEAST_WRITTEN: u64 = 18;
 
 /// Maps codes in rooms that it keeps, so that a thousand of them allocate a few times. A room
-/// grows when the library refuses a call by its number; then the call is made again. A room that
-/// one code made larger than 8 MiB is given back at the next, as every call wipes what it is lent.
+/// grows when the library refuses a call by its number; then the call is made again. At the ceiling
+/// all rooms share what it leaves, as often as it takes, so that a code is refused only if what it
+/// needs is more than the ceiling. A room that one code made larger than 8 MiB is given back at the
+/// next, as every call wipes what it is lent.
 ///
 /// ```
 /// use aznifrem::{HIGHEST_LIMIT, Mapper};
@@ -75,14 +77,8 @@ impl Mapper {
     /// # Ok::<(), aznifrem::Error>(())
     /// ```
     pub fn entries(&mut self, code: &[u8], limit: u64) -> Result<&[u8], Error> {
-        let kept = self.rooms.bytes() > 0;
-        let mut answer = self.answer(code, limit);
-        // What an earlier code needed must not stand in the way of this one.
-        if kept && matches!(answer, Err(Error::RoomFull { .. })) {
-            self.rooms.give_back();
-            answer = self.answer(code, limit);
-        }
-        self.written(answer?)
+        let number = self.answer(code, limit)?;
+        self.written(number)
     }
 
     /// Calls until the library answers; gives the bytes that it says it has written.
@@ -149,6 +145,10 @@ mod tests {
             let told = mapper.answer_refusal(number, 1, 1);
             assert_eq!(told, Err(Error::NoSuchAnswer { number }));
         }
+        // W is as large as the code needs it.
+        mapper.entries(&[0x00], 0).expect("STOP has a map");
+        let told = mapper.answer_refusal(3, 1, 1);
+        assert_eq!(told, Err(Error::NoSuchAnswer { number: 3 }));
         let number = 1 << 40;
         assert_eq!(mapper.written(number), Err(Error::NoSuchAnswer { number }));
     }

@@ -62,6 +62,11 @@ impl Room {
         }
     }
 
+    /// The bytes beyond which no more count as lent.
+    fn most(self) -> usize {
+        MOST_UNITS.saturating_mul(self.unit())
+    }
+
     /// What a room has before anything asks for more; W is lent by the code's length.
     fn start(self) -> usize {
         match self {
@@ -95,6 +100,10 @@ fn work(code_length: usize) -> usize {
 #[derive(Debug, Default)]
 pub(crate) struct Rooms {
     held: [Vec<u8>; ROOMS.len()],
+    /// What this code needs of each room at the least: more than was refused.
+    needed: [usize; ROOMS.len()],
+    /// Whether the ceiling is met, and shared among the rooms.
+    shared: bool,
     pub ceiling: usize,
     pub allocations: u64,
 }
@@ -115,14 +124,20 @@ impl Rooms {
     /// Before a call: every room at its start at least, and W as this code needs it. If the ceiling
     /// is too low for that, the call says so, after what it has to say first.
     pub fn ready(&mut self, code_length: usize) -> Result<(), Error> {
+        if self.shared {
+            self.held = Default::default();
+        }
+        self.shared = false;
+        self.needed = Default::default();
+        self.needed[Room::W as usize] = work(code_length);
         for room in ROOMS {
             let start = room.start().min(self.ceiling / 8);
-            let lent = self.held[room as usize].len();
+            let lent = self.lent_to(room);
             if lent < start || lent > KEPT {
                 self.allocate(room, start)?;
             }
         }
-        let lent = self.held[Room::W as usize].len();
+        let lent = self.lent_to(Room::W);
         let work = work(code_length).min(lent.saturating_add(self.free()));
         if lent < work {
             self.allocate(Room::W, work)?;
@@ -130,21 +145,64 @@ impl Rooms {
         Ok(())
     }
 
-    /// Forgets what earlier codes needed.
-    pub fn give_back(&mut self) {
-        self.held = Default::default();
+    /// Twice the room; where the ceiling does not leave that, all rooms share what it leaves.
+    pub fn grow(&mut self, room: Room) -> Result<(), Error> {
+        let lent = self.lent_to(room);
+        let units = lent / room.unit() + 1;
+        if units > MOST_UNITS {
+            return Err(Error::RoomAtMost { room, lent });
+        }
+        // W as document 01 has it is enough for every code.
+        if room == Room::W && lent >= self.needed[room as usize] {
+            let number = room.refusal().into();
+            return Err(Error::NoSuchAnswer { number });
+        }
+        let needed = &mut self.needed[room as usize];
+        *needed = (*needed).max(units * room.unit());
+        let more = (*needed).max(lent.saturating_mul(2)).min(room.most());
+        if !self.shared && room != Room::W && more - lent <= self.free() {
+            return self.allocate(room, more);
+        }
+        self.share(room)
     }
 
-    /// Twice the room, or as much as the ceiling leaves.
-    pub fn grow(&mut self, room: Room) -> Result<(), Error> {
-        let lent = self.held[room as usize].len();
-        let most = lent.saturating_add(self.free());
-        let most = most.min(MOST_UNITS.saturating_mul(room.unit()));
-        let wanted = lent.max(room.unit()).saturating_mul(2).min(most);
-        if wanted / room.unit() <= lent / room.unit() {
-            return Err(self.full(room));
+    /// Every room has what this code is known to need, and an even share of the rest. A refusal
+    /// then raises what is known by a share at least, and so the rest runs out soon: the ceiling is
+    /// named only if what the code needs is more than that, never because a room has too much.
+    fn share(&mut self, refused: Room) -> Result<(), Error> {
+        let known = self
+            .needed
+            .iter()
+            .fold(0, |sum: usize, n| sum.saturating_add(*n));
+        let Some(rest) = self.ceiling.checked_sub(known) else {
+            return Err(self.full(refused));
+        };
+        self.shared = true;
+        let share = |room: Room| {
+            let more = if room == Room::W {
+                0
+            } else {
+                rest / (ROOMS.len() - 1)
+            };
+            let bytes = self.needed[room as usize].saturating_add(more);
+            (bytes - bytes % room.unit()).min(room.most())
+        };
+        let shares = ROOMS.map(share);
+        // Those that shrink make way for those that grow.
+        for (held, bytes) in self.held.iter_mut().zip(shares) {
+            if held.len() != bytes {
+                *held = Vec::new();
+            }
         }
-        self.allocate(room, wanted)
+        let unlike = |room: &Room| self.lent_to(*room) != shares[*room as usize];
+        let changed: Vec<Room> = ROOMS.into_iter().filter(unlike).collect();
+        changed
+            .into_iter()
+            .try_for_each(|room| self.allocate(room, shares[room as usize]))
+    }
+
+    fn lent_to(&self, room: Room) -> usize {
+        self.held[room as usize].len()
     }
 
     fn free(&self) -> usize {
@@ -154,7 +212,7 @@ impl Rooms {
     fn full(&self, room: Room) -> Error {
         Error::RoomFull {
             room,
-            lent: self.held[room as usize].len(),
+            lent: self.lent_to(room),
             ceiling: self.ceiling,
         }
     }
@@ -190,5 +248,19 @@ impl Rooms {
     /// The first bytes of the output.
     pub fn written(&self, count: usize) -> Option<&[u8]> {
         self.held[Room::Output as usize].get(..count)
+    }
+}
+
+#[cfg(test)]
+mod tests {
+    use super::{Error, Room, Rooms};
+
+    #[test]
+    fn more_units_than_count_as_lent_are_not_asked_for() {
+        let (room, lent) = (Room::Output, 1 << 30);
+        let mut rooms = Rooms::new(usize::MAX);
+        // Zero bytes that nothing touches: the system gives no memory for them.
+        rooms.held[room as usize] = vec![0; lent];
+        assert_eq!(rooms.grow(room), Err(Error::RoomAtMost { room, lent }));
     }
 }

@@ -1,7 +1,8 @@
 //! Rooms grow as refusals name them, are kept, and keep to the ceiling.
 
-use aznifrem::{Error, HIGHEST_LIMIT, Map, Mapper, Room};
+use aznifrem::{Error, HIGHEST_LIMIT, LONGEST_CODE, Map, Mapper, Room};
 use codes::Random;
+use codes::contract::{Style, sized};
 use codes::solidity::{self, Shape};
 use codes::worst::{diamonds, fan};
 
@@ -45,6 +46,23 @@ fn a_thousand_contracts_allocate_a_few_times() {
     assert!(mapper.calls() - 1_000 <= allocations - 7);
 }
 
+/// Their rooms stay below the 8 MiB at which one is given back.
+#[test]
+fn a_thousand_of_the_longest_contracts_allocate_a_few_times() {
+    let mut random = Random::new(7);
+    let styles = [Style::Plain, Style::Calls].into_iter().cycle().take(6);
+    let contracts: Vec<Vec<u8>> = styles
+        .map(|style| sized(&mut random, LONGEST_CODE, style))
+        .collect();
+    let mut mapper = Mapper::new();
+    for code in contracts.iter().cycle().take(1_000) {
+        let entries = mapper.entries(code, HIGHEST_LIMIT);
+        assert!(entries.is_ok_and(|bytes| bytes.len() > 18));
+    }
+    let allocations = mapper.allocations();
+    assert!(allocations < 40, "{allocations} allocations");
+}
+
 #[test]
 fn a_huge_room_is_given_back() {
     let mut mapper = Mapper::new();
@@ -63,11 +81,10 @@ fn the_ceiling_is_kept_and_named() {
     let Error::RoomFull { room, lent, .. } = refused else {
         panic!("another error: {refused}");
     };
-    assert_eq!((room, refused.number()), (Room::T, Some(6)));
-    // The states took what the ceiling left.
-    assert!(lent < 163_712 && mapper.lent() == ceiling);
+    assert_eq!((room, refused.number()), (Room::S, Some(5)));
+    assert!(lent < 571_401 && mapper.lent() <= ceiling);
     let sentence = refused.to_string();
-    assert!(sentence.contains("T (remembered rows)") && sentence.contains("524288"));
+    assert!(sentence.contains("S (states)") && sentence.contains("524288"));
     // The same mapper goes on with what fits.
     assert_eq!(answered(&mut mapper, &[0x00]).blocks.len(), 1);
 }
@@ -95,19 +112,6 @@ fn refusals_keep_their_order_under_any_ceiling() {
     assert_eq!(number(&mut mapper, 24_577, 500_001), Some(1));
     assert_eq!(number(&mut mapper, 24_576, 500_001), Some(2));
     assert_eq!(number(&mut mapper, 0, 500_000), Some(3));
-}
-
-#[test]
-fn any_ceiling_is_answered_or_named() {
-    for ceiling in 0..4_000 {
-        let mut mapper = Mapper::with_ceiling(ceiling);
-        match mapper.map(&RETURN, HIGHEST_LIMIT) {
-            Ok(map) => assert_eq!(map.blocks.len(), 3),
-            Err(Error::RoomFull { .. }) => assert!(ceiling < 3_400, "refused at {ceiling}"),
-            Err(other) => panic!("another error: {other}"),
-        }
-        assert!(mapper.lent() <= ceiling);
-    }
 }
 
 #[test]

@@ -137,7 +137,7 @@ impl Job<'_> {
 fn refusal(error: Error) -> String {
     let advice = match error {
         Error::RoomFull { .. } => " (--ceiling, --limit)",
-        Error::LimitTooHigh { .. } => " (--limit)",
+        Error::LimitTooHigh { .. } | Error::RoomAtMost { .. } => " (--limit)",
         _ => "",
     };
     match error.number() {
