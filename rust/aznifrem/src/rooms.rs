@@ -96,14 +96,26 @@ fn work(code_length: usize) -> usize {
     64 * code_length + 256
 }
 
+/// Parts of the rest, the larger the more often a room was refused; none for W, whose need is known.
+fn shares(rest: usize, refused: &[usize; ROOMS.len()]) -> [usize; ROOMS.len()] {
+    let weight = |room: Room| match room {
+        Room::W => 0,
+        _ => 1 + 4 * refused[room as usize] as u128,
+    };
+    let weights = ROOMS.map(weight);
+    let all: u128 = weights.iter().sum();
+    // At most the rest: it fits.
+    weights.map(|weight| (rest as u128 * weight / all) as usize)
+}
+
 /// The memory of all rooms.
 #[derive(Debug, Default)]
 pub(crate) struct Rooms {
     held: [Vec<u8>; ROOMS.len()],
     /// What this code needs of each room at the least: more than was refused.
     needed: [usize; ROOMS.len()],
-    /// Whether the ceiling is met, and shared among the rooms.
-    shared: bool,
+    /// Once the ceiling is met and shared: how often each room was refused since.
+    shared: Option<[usize; ROOMS.len()]>,
     pub ceiling: usize,
     pub allocations: u64,
 }
@@ -124,10 +136,9 @@ impl Rooms {
     /// Before a call: every room at its start at least, and W as this code needs it. If the ceiling
     /// is too low for that, the call says so, after what it has to say first.
     pub fn ready(&mut self, code_length: usize) -> Result<(), Error> {
-        if self.shared {
+        if self.shared.take().is_some() {
             self.held = Default::default();
         }
-        self.shared = false;
         self.needed = Default::default();
         self.needed[Room::W as usize] = work(code_length);
         for room in ROOMS {
@@ -160,45 +171,43 @@ impl Rooms {
         let needed = &mut self.needed[room as usize];
         *needed = (*needed).max(units * room.unit());
         let more = (*needed).max(lent.saturating_mul(2)).min(room.most());
-        if !self.shared && room != Room::W && more - lent <= self.free() {
+        if self.shared.is_none() && room != Room::W && more - lent <= self.free() {
             return self.allocate(room, more);
         }
         self.share(room)
     }
 
-    /// Every room has what this code is known to need, and an even share of the rest. A refusal
-    /// then raises what is known by a share at least, and so the rest runs out soon: the ceiling is
+    /// Every room has what this code is known to need, and a share of the rest. A refusal then
+    /// raises what is known by that share at least, and so the rest runs out soon: the ceiling is
     /// named only if what the code needs is more than that, never because a room has too much.
     fn share(&mut self, refused: Room) -> Result<(), Error> {
         let known = self
             .needed
             .iter()
-            .fold(0, |sum: usize, n| sum.saturating_add(*n));
+            .fold(0, |sum: usize, bytes| sum.saturating_add(*bytes));
         let Some(rest) = self.ceiling.checked_sub(known) else {
             return Err(self.full(refused));
         };
-        self.shared = true;
-        let share = |room: Room| {
-            let more = if room == Room::W {
-                0
-            } else {
-                rest / (ROOMS.len() - 1)
-            };
-            let bytes = self.needed[room as usize].saturating_add(more);
+        let times = self.shared.get_or_insert_default();
+        times[refused as usize] += 1;
+        let shares = shares(rest, times);
+        let sizes = ROOMS.map(|room| {
+            let bytes = self.needed[room as usize].saturating_add(shares[room as usize]);
             (bytes - bytes % room.unit()).min(room.most())
-        };
-        let shares = ROOMS.map(share);
-        // Those that shrink make way for those that grow.
-        for (held, bytes) in self.held.iter_mut().zip(shares) {
-            if held.len() != bytes {
-                *held = Vec::new();
-            }
-        }
-        let unlike = |room: &Room| self.lent_to(*room) != shares[*room as usize];
+        });
+        self.resize(sizes)
+    }
+
+    /// Those that shrink make way for those that grow.
+    fn resize(&mut self, sizes: [usize; ROOMS.len()]) -> Result<(), Error> {
+        let unlike = |room: &Room| self.lent_to(*room) != sizes[*room as usize];
         let changed: Vec<Room> = ROOMS.into_iter().filter(unlike).collect();
+        for room in &changed {
+            self.held[*room as usize] = Vec::new();
+        }
         changed
             .into_iter()
-            .try_for_each(|room| self.allocate(room, shares[room as usize]))
+            .try_for_each(|room| self.allocate(room, sizes[room as usize]))
     }
 
     fn lent_to(&self, room: Room) -> usize {
@@ -253,7 +262,25 @@ impl Rooms {
 
 #[cfg(test)]
 mod tests {
-    use super::{Error, Room, Rooms};
+    use super::{Error, Room, Rooms, shares};
+
+    #[test]
+    fn the_rest_is_shared_by_refusals() {
+        assert_eq!(
+            shares(60, &[3, 0, 0, 0, 0, 0, 0]),
+            [0, 10, 10, 10, 10, 10, 10]
+        );
+        assert_eq!(
+            shares(100, &[0, 0, 1, 0, 0, 0, 0]),
+            [0, 10, 50, 10, 10, 10, 10]
+        );
+        let most = shares(usize::MAX, &[0, 9, 0, 0, 0, 0, 0]);
+        assert!(
+            most.iter()
+                .try_fold(0_usize, |sum, share| sum.checked_add(*share))
+                .is_some()
+        );
+    }
 
     #[test]
     fn more_units_than_count_as_lent_are_not_asked_for() {

@@ -122,6 +122,23 @@ maps: 2, differences: 4
 }
 
 #[test]
+fn an_order_of_records_that_changed_is_a_difference() {
+    let here = folder("order");
+    // 0 calls 13, which returns to 5; 5 calls 15, which returns to 11.
+    let code = [
+        0x60, 5, 0x60, 13, 0x56, 0x5b, 0x60, 11, 0x60, 15, 0x56, 0x5b, 0x00, 0x5b, 0x56, 0x5b, 0x56,
+    ];
+    let mut map = aznifrem::map(&code, aznifrem::HIGHEST_LIMIT).expect("it has a map");
+    put(&here, "old.map", map.to_bytes().expect("it fits"));
+    assert_ne!(map.records[0].start, map.records[1].start);
+    map.records.swap(0, 1);
+    put(&here, "new.map", map.to_bytes().expect("it fits"));
+    let (exit, out, _) = all(&run(&here, &["diff", "old.map", "new.map"]));
+    let lines = "the record changed its order between blocks\nmaps: 1, differences: 1\n";
+    assert_eq!((exit, out.as_str()), (1, lines));
+}
+
+#[test]
 fn maps_that_come_or_go_are_differences() {
     let here = folder("come-and-go");
     put(&here, "code/a.hex", RETURN);
@@ -203,6 +220,7 @@ fn wrong_words_are_told_and_help_is_given() {
         let (exit, out, _) = all(&run(&here, words));
         assert_eq!(exit, 0);
         assert!(out.contains("aznifrem diff OLD NEW"));
+        assert!(out.contains("a line == PATH before each"));
     }
     let (exit, out, _) = all(&run(&here, &["--version"]));
     assert_eq!((exit, out.starts_with("aznifrem ")), (0, true));
