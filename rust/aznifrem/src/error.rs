@@ -3,7 +3,7 @@
 use std::error::Error as StdError;
 use std::fmt;
 
-use crate::rooms::Room;
+use crate::room::Room;
 use crate::{HIGHEST_LIMIT, LONGEST_CODE};
 
 /// Why there is no map.

@@ -28,6 +28,7 @@ mod error;
 mod map;
 mod mapper;
 mod read;
+mod room;
 mod rooms;
 mod write;
 
@@ -35,7 +36,7 @@ pub use call::{Lent, call};
 pub use error::{Error, Fault, Unreadable, Unwritable};
 pub use map::{Block, BlockType, DynamicJump, Map, Record};
 pub use mapper::Mapper;
-pub use rooms::Room;
+pub use room::Room;
 
 /// The longest code that is mapped, in bytes.
 pub const LONGEST_CODE: usize = 24_576;

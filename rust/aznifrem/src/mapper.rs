@@ -3,7 +3,8 @@
 use crate::call::call;
 use crate::error::Error;
 use crate::map::Map;
-use crate::rooms::{Room, Rooms};
+use crate::room::Room;
+use crate::rooms::Rooms;
 use crate::{LONGEST_CODE, read};
 
 /// The fewest bytes that an answer has: those of a head.

@@ -1,95 +1,11 @@
-//! The rooms that are lent: their sizes, and how one grows.
-
-use std::fmt;
+//! The memory of the rooms that are lent, and how one grows.
 
 use crate::call::Lent;
 use crate::error::Error;
+use crate::room::{MOST_UNITS, ROOMS, Room};
 
-const KIB: usize = 1 << 10;
-/// "Of any room at most 2^30 units count as lent."
-const MOST_UNITS: usize = 1 << 30;
 /// A room that grew beyond this is given back, since every later call would wipe it.
 const KEPT: usize = 8 << 20;
-
-/// A lent room, by its letter in document 01.
-#[derive(Clone, Copy, Debug, PartialEq, Eq, Hash)]
-pub enum Room {
-    /// Work.
-    W,
-    /// The path in hand.
-    P,
-    /// States.
-    S,
-    /// Remembered rows.
-    T,
-    /// Records.
-    R,
-    /// Recorded paths.
-    Q,
-    /// The answer.
-    Output,
-}
-
-const ROOMS: [Room; 7] = [
-    Room::W,
-    Room::P,
-    Room::S,
-    Room::T,
-    Room::R,
-    Room::Q,
-    Room::Output,
-];
-
-impl Room {
-    /// The number of the refusal that names this room.
-    pub fn refusal(self) -> u8 {
-        self as u8 + 3
-    }
-
-    /// The room that a refusal names.
-    pub(crate) fn named(number: u64) -> Option<Room> {
-        let named = |room: &&Room| u64::from(room.refusal()) == number;
-        ROOMS.iter().find(named).copied()
-    }
-
-    /// Bytes of one unit: an address, a symbol, a row, a record or a byte.
-    fn unit(self) -> usize {
-        match self {
-            Room::W | Room::Output => 1,
-            Room::P | Room::Q => 2,
-            Room::S => 9,
-            Room::T | Room::R => 32,
-        }
-    }
-
-    /// The bytes beyond which no more count as lent.
-    fn most(self) -> usize {
-        MOST_UNITS.saturating_mul(self.unit())
-    }
-
-    /// What a room has before anything asks for more; W is lent by the code's length.
-    fn start(self) -> usize {
-        match self {
-            Room::W => 0,
-            Room::P => 4 * KIB,
-            _ => 64 * KIB,
-        }
-    }
-}
-
-impl fmt::Display for Room {
-    fn fmt(&self, f: &mut fmt::Formatter) -> fmt::Result {
-        f.write_str(match self {
-            Room::W => "W (work)",
-            Room::P => "P (the path in hand)",
-            Room::S => "S (states)",
-            Room::T => "T (remembered rows)",
-            Room::R => "R (records)",
-            Room::Q => "Q (recorded paths)",
-            Room::Output => "out (the answer)",
-        })
-    }
-}
 
 /// "Work W needs 64 × code length + 256 bytes."
 fn work(code_length: usize) -> usize {
@@ -181,10 +97,7 @@ impl Rooms {
     /// raises what is known by that share at least, and so the rest runs out soon: the ceiling is
     /// named only if what the code needs is more than that, never because a room has too much.
     fn share(&mut self, refused: Room) -> Result<(), Error> {
-        let known = self
-            .needed
-            .iter()
-            .fold(0, |sum: usize, bytes| sum.saturating_add(*bytes));
+        let known = self.needed.into_iter().fold(0, usize::saturating_add);
         let Some(rest) = self.ceiling.checked_sub(known) else {
             return Err(self.full(refused));
         };
