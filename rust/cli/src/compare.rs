@@ -248,7 +248,8 @@ mod tests {
         assert_eq!(lines.len(), 2 * count);
         let lines = differences(&many_blocks(1), &many_blocks(2));
         assert_eq!(lines.len(), count);
-        assert!(begun.elapsed() < Duration::from_secs(30));
+        // A scan for each record would take many minutes; the bound is wide, for a machine that is busy.
+        assert!(begun.elapsed() < Duration::from_secs(120));
     }
 
     #[test]
