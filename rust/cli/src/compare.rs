@@ -248,7 +248,7 @@ mod tests {
         assert_eq!(lines.len(), 2 * count);
         let lines = differences(&many_blocks(1), &many_blocks(2));
         assert_eq!(lines.len(), count);
-        // A scan for each record would take many minutes; the bound is wide, for a machine that is busy.
+        // With a scan for each record it takes over three minutes; the bound is wide, for a machine that is busy.
         assert!(begun.elapsed() < Duration::from_secs(120));
     }
 
