@@ -7,13 +7,12 @@ use std::path::{Path, PathBuf};
 
 use aznifrem::{Error, Map, Mapper};
 
-use crate::Outcome;
 use crate::args::{Options, Print};
 use crate::files::{Found, Kind, Named, beneath};
 use crate::input;
+use crate::outcome::{Outcome, tell};
 use crate::progress::Progress;
 use crate::summary;
-use crate::tell;
 
 const HEADER: usize = 6;
 const DIGITS: &[u8; 16] = b"0123456789abcdef";

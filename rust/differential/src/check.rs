@@ -1,16 +1,15 @@
 //! Everything that is held against each other on one code.
 
 use agree::{ENOUGH, has_other_row};
-use aznifrem::{Block, BlockType, DynamicJump, Lent as Rooms, Map};
+use aznifrem::{Block, BlockType, DynamicJump, Map};
 use codes::Random;
 use model::{Answer, HIGHEST_LIMIT, LONGEST_CODE, Lent, Refusal, rooms};
 use oracle::control_flow_graph as rust;
 
 use crate::lend::{self, Given};
+use crate::mismatch::{Mismatch, mismatch};
 use crate::panics::caught;
-
-/// The library's entry, or what stands in for it in a test.
-pub type Port = fn(&[u8], u64, &mut Rooms) -> u64;
+use crate::port::Port;
 
 /// What came of one code.
 #[derive(Clone, Copy, Debug, PartialEq, Eq)]
@@ -22,17 +21,6 @@ pub enum Verdict {
     TooHeavy,
     /// It has more than 24,576 bytes: its refusals were held against the model's, and are 1.
     TooLong,
-}
-
-/// What differs, in a sentence; two of one kind have the same cause, more likely than not.
-#[derive(Clone, Debug, PartialEq, Eq)]
-pub struct Mismatch {
-    pub kind: &'static str,
-    pub sentence: String,
-}
-
-fn mismatch(kind: &'static str, sentence: String) -> Mismatch {
-    Mismatch { kind, sentence }
 }
 
 /// Holds a port against the Rust and the model.

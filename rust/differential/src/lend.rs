@@ -3,7 +3,7 @@
 use aznifrem::Lent;
 use codes::Random;
 
-use crate::check::Port;
+use crate::port::Port;
 
 const FENCE: usize = 64;
 

@@ -6,12 +6,16 @@
 mod check;
 mod families;
 mod lend;
+mod mismatch;
 mod panics;
+mod port;
 mod shrink;
 mod tally;
 
-pub use check::{Checker, Mismatch, Port, Verdict};
+pub use check::{Checker, Verdict};
 pub use families::{FAMILIES, Family};
 pub use lend::{Given, call as fenced_call};
+pub use mismatch::Mismatch;
+pub use port::Port;
 pub use shrink::smaller;
 pub use tally::Tally;

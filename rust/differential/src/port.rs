@@ -1,0 +1,6 @@
+//! What is checked.
+
+use aznifrem::Lent;
+
+/// The library's entry, or what stands in for it in a test.
+pub type Port = fn(&[u8], u64, &mut Lent) -> u64;
