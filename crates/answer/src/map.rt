@@ -1,4 +1,6 @@
 // From the code to the answer's bytes, over lent buffers.
+// "1, 2, 3 are tested in that order and touch nothing. ... The first shortage met is answered; 9 comes last. On 0 and 4 to 9, W, P, S, T, R, Q are all zero
+// bytes on return."
 use entries::write_entries;
 use graph::graph;
 use initial::initial_blocks;

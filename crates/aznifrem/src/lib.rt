@@ -1,4 +1,6 @@
 // The exported entry.
+// "A call returns the number and the bytes written, 0 if refused; the exported entry gives whichever isn't 0. The exported entry takes numbers and byte
+// slices."
 use answer::map_code;
 ghost use Rattle.steps.specs.Runs.{buffers};
 ghost use Rattle.aznifrem.specs.Contracts.{Exported};

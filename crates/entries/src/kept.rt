@@ -1,4 +1,5 @@
 // The blocks that are kept, in the order of their starts: how many, and what is put of them.
+// "blocks by start each with its 7s"
 use crate::block::add_block;
 use initial::row::ROW;
 use lent::get8;

@@ -1,4 +1,5 @@
 // The rows that a block lists, along their links: how many, and what is put of them.
+// "At the end DynamicJump drops entries without destination; DynamicJumpi keeps them."
 use crate::row::EDGE;
 use crate::row::GOAL;
 use crate::row::NEXT;

@@ -1,4 +1,5 @@
 // What is put of a row of R: as an entry of its block, and as a record.
+// "7 entry of the block before it: to, path length, path. 8 record: start, to, path length, path."
 use crate::field::add_item;
 use crate::field::add_path;
 use crate::field::add16;

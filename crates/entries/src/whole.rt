@@ -1,4 +1,5 @@
 // The whole answer: its head, the blocks, the records.
+// "Order: head, blocks by start each with its 7s, records as found."
 use crate::field::add_item;
 use crate::field::add16;
 use crate::field::add32;

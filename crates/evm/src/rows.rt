@@ -1,4 +1,5 @@
 // One constant row for each byte that code may have.
+// "Size is 1, save PUSHk, which is 1+k. Given as taken/given, bytes in hex."
 ghost use mathlib.Core.Path.{_≡_};
 ghost use Prim.Native.Nat.{_%_};
 ghost use Rattle.evm.specs.Rows.{RowIs, SizeIs, unpacked};

@@ -1,4 +1,5 @@
 // The walk over code, on a slice and a number: one whole instruction at a place, and the number that its argument spells.
+// "walks whole instructions; stops before one that runs past the end"
 use crate::rows::size_of;
 ghost use mathlib.Core.Path.{_≡_};
 ghost use Rattle.evm.specs.Argument.{Follow, Spelled, Widened};

@@ -1,4 +1,5 @@
 // The instruction walker: it holds the code that it walks and its place. The work is step_at, on a slice and a number.
+// "the instruction walker holds the code it walks and its place, after a plain slice-and-number core is proved"
 use crate::walk::Step;
 use crate::walk::step_at;
 ghost use mathlib.Core.Path.{_≡_};

@@ -1,4 +1,5 @@
 // A DynamicJump whose records share one destination becomes a Jump.
+// "A DynamicJump whose entries share one target becomes a Jump."
 use crate::note::NOTE;
 use crate::note::note_all;
 use initial::row::BlockType;

@@ -1,4 +1,5 @@
 // The note of each address, among its fields of others in W: the one destination of its records and 1 more, 0 for none, SEVERAL for more.
+// "A DynamicJump whose entries share one target becomes a Jump."
 use initial::row::ROW;
 use lent::get16;
 use lent::get32;

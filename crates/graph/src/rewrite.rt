@@ -1,5 +1,6 @@
 // The records become rows of edges, in place: start, destination of the edge, the path's last block, the record's own destination, room for two links, and
 // the end of the path.
+// "Pruning follows a dynamic entry only if its path's last block is reached too"
 use crate::note::RECORD;
 use crate::note::TO;
 use initial::row::DYNAMIC_JUMP;

@@ -1,4 +1,5 @@
 // The graph: blocks, edges, and what is reached.
+// "prunes to blocks reached from 0"
 use crate::merge::settle;
 use crate::rewrite::rewrite;
 use reachable::prune;

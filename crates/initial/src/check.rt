@@ -1,4 +1,6 @@
 // The checks afterwards, one row a turn.
+// "Afterwards a Jump to no block, or to a block whose first byte isn't 5B, becomes Terminate false. So does a Jumpi whose false side starts no block;
+// otherwise, if its true side starts none or isn't 5B, it becomes a Jump to its false side."
 use crate::op::JUMPDEST;
 use crate::row::BlockType;
 use crate::row::END;

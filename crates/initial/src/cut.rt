@@ -1,4 +1,5 @@
 // Cutting code into blocks, one instruction a turn.
+// "Empty code has no blocks. ... A last open block is kept, Terminate false, if its start is not beyond the last instruction."
 use crate::op::JUMPDEST;
 use crate::row::ROW;
 use crate::row::put_block;

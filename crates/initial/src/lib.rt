@@ -1,4 +1,5 @@
 // Cuts code into blocks, written as rows of the lent buffer W, and checks where their jumps go.
+// "cuts code into blocks; static jumps"
 mod check;
 mod cut;
 mod jump;

@@ -1,4 +1,5 @@
 // The rows of W: one of 20 bytes for each address from 0 to the code's length.
+// "`id` equals `start`; that is proved."
 use lent::get8;
 use lent::get16;
 use lent::put16;

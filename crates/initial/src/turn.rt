@@ -1,4 +1,6 @@
 // One instruction of the cutting: what it is, the block that it closes, and how the walk goes on.
+// "A JUMPDEST past its block's start ends the block before it, as a Jump to it. ... An unknown byte ends the block at the previous instruction, Terminate
+// false, unless the block starts at that byte; then no block is kept."
 use crate::jump::branching;
 use crate::jump::jumping;
 use crate::op;

@@ -1,4 +1,5 @@
 // Little-endian numbers. Each width is two of the half: the compiler makes one load or store of it, and one law proves all.
+// "Output entries: ... little-endian."
 ghost use mathlib.Core.Path.{_≡_};
 ghost use Prim.Native.Nat.{_+_, _≤_, _<_};
 ghost use lib.ListN.{length};

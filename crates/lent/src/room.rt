@@ -1,4 +1,5 @@
 // What a length has room for.
+// "Counts round down, and of any room at most 2^30 units count as lent"
 ghost use mathlib.Core.Path.{_≡_};
 ghost use Prim.Native.Nat.{_/_, _^_, _<_, min};
 

@@ -1,4 +1,5 @@
 // Runs of bytes, one byte a turn: the compiler makes wide moves, or a call of memset, of each loop.
+// "`Vec` stacks and paths: cells in lent rooms with counts."
 ghost use mathlib.Core.Path.{_≡_};
 ghost use Prim.Native.Nat.{_+_, _≤_};
 ghost use lib.ListN.{length, take, drop, replicate};

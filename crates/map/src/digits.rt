@@ -1,4 +1,5 @@
 // From what is typed to the code.
+// "input not an even number of hex digits with at most one closing line feed, or over 512 bytes of code"
 use lent::get8;
 use lent::put8;
 ghost use Prim.Native.Nat.{_≤_};

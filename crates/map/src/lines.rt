@@ -1,4 +1,5 @@
 // From the answer to what is printed.
+// "prints each entry as lowercase hex on a line, or `refused N`"
 use lent::get8;
 use lent::get32;
 use lent::put8;

@@ -1,4 +1,5 @@
 // The program of document 01: a code in hex on standard input, its map or a refusal on standard output.
+// "The program reads hex of either case on standard input"
 mod digits;
 mod lines;
 mod rooms;

@@ -1,4 +1,5 @@
 // The answer in the rooms that the program lends, and its print.
+// "runs at limit 500,000 with 33,024 bytes of W and 32,768 of each other buffer"
 use crate::lines::put_answer;
 use answer::map_code;
 ghost use Prim.Native.Nat.{_≤_};

@@ -1,4 +1,5 @@
 // The direct parents of each address, as a list that is linked through the rows.
+// "each block with its own stack, for every static side (equal sides once), of a DynamicJumpi the false side only"
 use initial::row::DYNAMIC_JUMPI;
 use initial::row::JUMP;
 use initial::row::JUMPI;

@@ -1,4 +1,5 @@
 // The first stage: each dynamic block is run, and what its jump takes settles it.
+// "First, each dynamic block whose own run ends in Jumpdest becomes static, with no test that a block starts there."
 use crate::taker::take_turn;
 use initial::row::BlockType;
 use initial::row::DYNAMIC_JUMP;

@@ -1,4 +1,5 @@
 // The blocks that take turns, as a list that is linked through the rows.
+// "Those ending in Before(p) take turns, in address order"
 use initial::row::ROW;
 use lent::get16;
 use lent::get32;

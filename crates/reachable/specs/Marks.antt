@@ -39,7 +39,7 @@ entries w n (suc i) = entryAt w n i ∷ entries w n i
 abbrev pub wiped : ℕ → List ℕ → List ℕ
 wiped n w = patch w (20 * (n + 1)) (replicate (20 * (n + 1)) 0)
 
--- "was reached when there were by - 1 records"
+-- the address was reached when there were at most by - 1 records
 abbrev pub markedBy : List ℕ → ℕ → ℕ → ℕ → Bool
 markedBy w n a by = ltb 0 (markAt w n a) && leb (markAt w n a) by
 

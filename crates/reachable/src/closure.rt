@@ -1,4 +1,5 @@
 // The closure of what is reached under static sides.
+// "A destination found counts as reached for parents at once; the rest of the reached set grows when the round ends."
 use crate::fields::begin;
 use crate::follow::enter;
 use crate::follow::follow;

@@ -1,4 +1,5 @@
 // Marks, when an address was reached, and flags, whether its own sides have been followed or wait to be.
+// "`HashSet` of addresses: marks in W."
 use initial::row::ROW;
 use lent::get8;
 use lent::get32;

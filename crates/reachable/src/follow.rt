@@ -1,4 +1,5 @@
 // The worklist, and what is followed from one address.
+// "`HashSet` of addresses: marks in W."
 use crate::fields::FLAG;
 use crate::fields::mark;
 use initial::row::DYNAMIC_JUMP;

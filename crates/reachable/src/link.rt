@@ -1,4 +1,5 @@
 // Rows of edges in a lent buffer, 32 bytes each, linked by their place and by their witness.
+// "Pruning follows a dynamic entry only if its path's last block is reached too"
 use initial::row::ROW;
 use lent::get16;
 use lent::get32;

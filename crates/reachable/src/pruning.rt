@@ -1,4 +1,5 @@
 // Pruning's closure: static sides, and rows of edges that lead on only when their place and their witness are both reached.
+// "Pruning follows a dynamic entry only if its path's last block is reached too, and never follows the true side of DynamicJumpi."
 use crate::fields::begin;
 use crate::fields::is_flagged;
 use crate::follow::enter;

@@ -1,4 +1,5 @@
 // What is done with a parent of a level, up to the level that it may open.
+// "Per parent, in this order: ... A one-block parent already on the path is skipped. ... The path grows (room P). ... It is remembered (room T)."
 use lent::get16;
 use parents::link::parent_start;
 use state::sym::StackSym;

@@ -1,4 +1,5 @@
 // A level tries the parents of its path's last block; a parent may open a level.
+// "A level tries its parents and each parent may open a level."
 use crate::enter::enter;
 use lent::get16;
 use reachable::is_marked;

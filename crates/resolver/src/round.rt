@@ -1,4 +1,5 @@
 // A round: a turn for each block that takes turns and is reached when the round begins, while there is energy left.
+// "A round gives turns to the starts reached when it began."
 use crate::turn::turn;
 use parents::taker::next_taker;
 use reachable::is_marked;

@@ -1,4 +1,5 @@
 // The search: rounds of turns, from what is reached by the code's static sides alone.
+// "A round with no record is the last, and no round or turn starts once the limit is reached."
 use crate::round::round;
 use lent::get16;
 use lent::units;

@@ -1,4 +1,5 @@
 // A turn of a block that takes turns: the first level, with the block's own state.
+// "A turn needs one address in P, then its state in S."
 use crate::enter::SHORT_P;
 use crate::enter::refused;
 use crate::levels::level;

@@ -1,4 +1,5 @@
 // Numbers and bytes as the cases spell them.
+// "a program runs the rest and the differential set"
 ghost use mathlib.Core.Path.{_≡_};
 ghost use Prim.Native.Nat.{_≤_};
 ghost use lib.ListN.{length};

@@ -1,4 +1,5 @@
 // Runs the entry on the cases of standard input, and writes a line for each: what it answered, and what stands in the lent bytes.
+// "a program runs the rest and the differential set"
 mod input;
 mod room;
 mod trial;

@@ -1,4 +1,5 @@
 // Lent buffers before and after a call.
+// "On 0 and 4 to 9, W, P, S, T, R, Q are all zero bytes on return. On 0 the output holds the answer and its other bytes stay."
 use std::num::wrapping_add_u64;
 ghost use mathlib.Core.Path.{_≡_};
 ghost use Prim.Native.Nat.{_*_, _%_, _^_};

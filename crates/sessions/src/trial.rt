@@ -1,4 +1,5 @@
 // One case: read, called and told.
+// "a program runs the rest and the differential set"
 use crate::input::number;
 use crate::input::repeated;
 use crate::room::checksum;

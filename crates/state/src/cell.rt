@@ -1,4 +1,5 @@
 // A symbol in nine bytes: a tag, and the number, little-endian.
+// "S: 9 bytes a symbol"
 use crate::sym::StackSym;
 use lent::get8;
 use lent::get64;

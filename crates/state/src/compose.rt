@@ -1,5 +1,6 @@
 // Composing a child's state with a parent's: each Before(n) of the child is the parent's symbol at n, and below the child's cells stand those of the
 // parent that lie deeper. Nothing is trimmed. Each new cell is written once; child and parent are read where they lie.
+// "Composing child with parent reads, at every position, the child's symbol with Before(n) replaced by the parent's position n."
 use crate::cell::get_cell;
 use crate::cell::put_cell;
 use crate::read::base_at;

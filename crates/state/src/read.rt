@@ -1,4 +1,5 @@
 // Reading a stored state.
+// "Before(n) is the word at depth n on entry, top 0; below the stored stack the numbering goes on by one."
 use crate::cell::get_cell;
 use crate::sym::StackSym;
 use lent::get64;

@@ -1,4 +1,5 @@
 // A block's own run: from its start to its end, its stack trimmed and stored, and the symbol that its jump takes.
+// "A block's stack is trimmed at its end; a composed one is not."
 use crate::cell::get_cell;
 use crate::cell::put_cell;
 use crate::step::Turn;

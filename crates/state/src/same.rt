@@ -1,4 +1,5 @@
 // Comparing stored states: equal stacks have equal bytes.
+// "If last block, state and symbol were met in this turn, its cells are given back; next."
 use lent::get8;
 use lent::get64;
 ghost use mathlib.Core.Path.{_≡_};

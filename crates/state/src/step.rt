@@ -1,4 +1,5 @@
 // One instruction of a block's run: one decision over its byte and the ranges of bytes.
+// "Which instruction does what is one decision over the byte and its ranges."
 use crate::swap::swapped;
 use crate::sym::StackSym;
 use crate::top::Top;

@@ -1,4 +1,5 @@
 // SWAP on the stack in hand. Where it reaches below the cells, the cells that it needs are first spelled out.
+// "SWAPk (90-9F): k+1/k+1."
 use crate::cell::get_cell;
 use crate::cell::put_cell;
 use crate::sym::StackSym;

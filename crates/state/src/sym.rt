@@ -1,4 +1,5 @@
 // A symbol of a block's stack.
+// "A symbol is Before(n), Constant(v), Jumpdest(v) or Other(pc)."
 ghost use mathlib.Core.Path.{_≡_};
 ghost use Rattle.spec.specs.Stacks.{known-value, from-value, is, mask};
 ghost use Rattle.state.specs.Symbols.{symOf, knownOf};

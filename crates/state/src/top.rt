@@ -1,5 +1,6 @@
 // The stack in hand while a block is run. It grows downward: `n` cells from `at` on, top first, are the symbols above
 // Before(base), and the nine bytes after them are left free for the cell of Before(base).
+// "`Vec` stacks and paths: cells in lent rooms with counts."
 use crate::cell::get_cell;
 use crate::cell::put_cell;
 use crate::sym::StackSym;

@@ -1,4 +1,6 @@
 // AND and ADD: what they make of two symbols, the top one first, and of the stack in hand.
+// "ADD of two known values does so if the sum fits 64 bits, else Other. AND with the known value 0xffffffff, top looked at first, leaves the other symbol
+// unmasked."
 use crate::sym::Known;
 use crate::sym::StackSym;
 use crate::top::Top;

@@ -1,4 +1,5 @@
 // The parents of a block, one after the other: a number below `FOUND` is a link to a direct parent, any other a found one's record, and 0 is the end.
+// "Its parents are fixed when it opens: those then stored for its block whose path's last block is then reached, in the order first stored."
 use lent::get16;
 use lent::get32;
 use parents::link::first_parent;

@@ -1,4 +1,5 @@
 // What a path ends in: it is recorded, and where it leads counts as reached at once.
+// "A destination found counts as reached for parents at once"
 use crate::Plan;
 use reachable::mark;
 use tables::Answer;

@@ -1,4 +1,5 @@
 // What was met in a turn: it is met again, or remembered.
+// "If last block, state and symbol were met in this turn, its cells are given back; next. ... It is remembered (room T)."
 use crate::Plan;
 use tables::Counts;
 use tables::met::remember;

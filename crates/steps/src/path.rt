@@ -1,4 +1,5 @@
 // The path in hand, in P: growing it by a parent's path, and how often each address is on it, in W.
+// "A one-block parent already on the path is skipped. ... The path grows (room P)."
 use crate::cursor::FOUND;
 use lent::copy;
 use lent::get16;

@@ -1,4 +1,5 @@
 // A parent's state: the symbol that it has at a position, and its state behind the level's.
+// "The parent's symbol at the level's position is read, and the new state, the path's state composed with the parent's, is formed (room S)."
 use crate::Level;
 use crate::Plan;
 use crate::cursor::FOUND;

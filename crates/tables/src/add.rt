@@ -1,4 +1,5 @@
 // A record more: its path goes to Q, its state to the kept cells of S, and its row to R, with its links there and in W.
+// "one kept copy for each record with a destination"
 use crate::Counts;
 use crate::Entry;
 use crate::Rooms;

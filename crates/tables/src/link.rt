@@ -1,4 +1,5 @@
 // A new record's row in R, and the links that lead to it: from its bucket, and from the found parents of its destination.
+// "rows in order of insertion, searched"
 use crate::record::bucket_of;
 use lent::get32;
 use lent::put16;

@@ -1,4 +1,5 @@
 // What was met in a turn: remembering it, and forgetting all of it when the turn ends.
+// "when a turn ends, T and the cells of its first and remembered states are free and used again"
 use crate::Answer;
 use crate::Counts;
 use crate::Rooms;

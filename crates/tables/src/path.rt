@@ -1,4 +1,5 @@
 // Paths: addresses of two bytes each, one after the other.
+// "P: 2 bytes an address of the path in hand. ... Q: 2 bytes an address in recorded paths."
 use lent::get16;
 ghost use mathlib.Core.Path.{_≡_};
 ghost use Prim.Native.Nat.{_<_, _^_};

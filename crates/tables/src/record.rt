@@ -1,4 +1,5 @@
 // Looking a record up: along the chain of its bucket.
+// "recorded unless that destination has that path already"
 use crate::path::same_path;
 use lent::get16;
 use lent::get32;

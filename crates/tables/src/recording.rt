@@ -1,4 +1,5 @@
 // Recording the path in hand: unless it is recorded already, and where R, then Q, then S have room.
+// "A record needs R, then Q, then (with a destination) S."
 use crate::Answer;
 use crate::Counts;
 use crate::Entry;

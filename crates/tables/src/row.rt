@@ -1,4 +1,5 @@
 // Looking a remembered row up: along the chain of its bucket.
+// "If last block, state and symbol were met in this turn"
 use crate::path::mix;
 use crate::record::bucket_of;
 use lent::get16;

@@ -1,4 +1,5 @@
 // A remembered row in T, and the head of its bucket, which stands in the row of the bucket's number.
+// "T: 32 bytes a remembered row."
 use crate::record::bucket_of;
 use crate::row::Seen;
 use lent::get32;
