@@ -81,18 +81,20 @@ impl Memory {
         Ok(spans)
     }
 
-    /// Reads back what may have been written; an error if anything else was.
+    /// Reads back what may have been written; if anything else was, an error, and nothing is read back.
     pub fn give_back(&mut self, parts: &mut [Part], spans: &[Span]) -> Result<(), NotRelayed> {
         for gap in gaps(spans) {
             self.same(gap.start, fence(&gap), "outside of what it was lent")?;
         }
+        for (part, span) in parts.iter().zip(spans) {
+            if let Part::Read(bytes) = part {
+                self.same(span.start, bytes, "to what it was lent to read")?;
+            }
+        }
         for (part, span) in parts.iter_mut().zip(spans) {
-            match part {
-                Part::Read(bytes) => self.same(span.start, bytes, "to what it was lent to read")?,
-                Part::Write(bytes) => self
-                    .file
-                    .read_exact_at(bytes, span.start)
-                    .map_err(|e| unread(&e))?,
+            if let Part::Write(bytes) = part {
+                let read = self.file.read_exact_at(bytes, span.start);
+                read.map_err(|e| unread(&e))?;
             }
         }
         if self.length > KEPT {

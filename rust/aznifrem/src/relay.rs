@@ -20,8 +20,7 @@ fn idle() -> MutexGuard<'static, Vec<Relay>> {
     IDLE.lock().unwrap_or_else(PoisonError::into_inner)
 }
 
-/// One call, by its place in the table. If the relay fails, no slice is touched or some are read back; the next call has another
-/// relay.
+/// One call, by its place in the table. If the relay fails, what was lent is as it was, and the next call has another relay.
 pub fn call(place: usize, numbers: &[u64], parts: &mut [Part]) -> Result<u64, NotRelayed> {
     let waiting = idle().pop();
     let mut relay = match waiting {
