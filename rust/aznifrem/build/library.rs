@@ -104,7 +104,7 @@ fn make(repository: &Path) -> Result<(), String> {
     let mut terminal = OpenOptions::new().write(true).open("/dev/tty").ok();
     tell(
         &mut terminal,
-        "the proved library is missing: 'rt staticlib aznifrem' proves and builds it now, once. That takes some minutes.",
+        "the proved library is missing: 'rt staticlib aznifrem' proves and builds it now, once. That takes five to ten minutes on two cores.",
     );
     let child = Command::new("rt")
         .args(["staticlib", "aznifrem"])

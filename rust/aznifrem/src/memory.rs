@@ -57,12 +57,7 @@ impl Memory {
     /// The memory that a process has open as its file of this number.
     pub fn of(process: u32, number: u64) -> io::Result<Memory> {
         let path = format!("/proc/{process}/fd/{number}");
-        let file = File::options().read(true).write(true).open(path)?;
-        Ok(Memory {
-            file,
-            length: 0,
-            fresh: 0,
-        })
+        File::options().read(true).write(true).open(path).map(over)
     }
 
     pub fn length(&self) -> u64 {
@@ -86,18 +81,20 @@ impl Memory {
         Ok(spans)
     }
 
-    /// Reads back what may have been written; an error if anything else was.
+    /// Reads back what may have been written; if anything else was, an error, and nothing is read back.
     pub fn give_back(&mut self, parts: &mut [Part], spans: &[Span]) -> Result<(), NotRelayed> {
         for gap in gaps(spans) {
             self.same(gap.start, fence(&gap), "outside of what it was lent")?;
         }
+        for (part, span) in parts.iter().zip(spans) {
+            if let Part::Read(bytes) = part {
+                self.same(span.start, bytes, "to what it was lent to read")?;
+            }
+        }
         for (part, span) in parts.iter_mut().zip(spans) {
-            match part {
-                Part::Read(bytes) => self.same(span.start, bytes, "to what it was lent to read")?,
-                Part::Write(bytes) => self
-                    .file
-                    .read_exact_at(bytes, span.start)
-                    .map_err(|e| unread(&e))?,
+            if let Part::Write(bytes) = part {
+                let read = self.file.read_exact_at(bytes, span.start);
+                read.map_err(|e| unread(&e))?;
             }
         }
         if self.length > KEPT {
@@ -148,6 +145,15 @@ impl Memory {
     }
 }
 
+/// An empty file as memory.
+fn over(file: File) -> Memory {
+    Memory {
+        file,
+        length: 0,
+        fresh: 0,
+    }
+}
+
 /// One slice after the other, with a fence before each.
 fn placed(parts: &[Part]) -> Vec<Span> {
     let mut end = 0;
@@ -185,4 +191,113 @@ fn no_memory(bytes: u64, error: &io::Error) -> NotRelayed {
 
 fn unread(error: &io::Error) -> NotRelayed {
     NotRelayed(format!("the relay's memory cannot be read back ({error})"))
+}
+
+#[cfg(test)]
+mod tests {
+    use super::*;
+    use std::{env, fs, process};
+
+    /// A file that goes when it is closed stands in for the relay's memory.
+    fn memory(name: &str) -> Memory {
+        let path = env::temp_dir().join(format!("aznifrem-{name}-{}", process::id()));
+        let mut options = File::options();
+        options.read(true).write(true).create_new(true);
+        let file = options.open(&path).expect("a fresh file can be made");
+        fs::remove_file(path).expect("it has no name from here on");
+        over(file)
+    }
+
+    #[test]
+    fn what_is_lent_is_there_and_what_is_written_comes_back() {
+        let mut memory = memory("back");
+        let (code, mut room) = ([1, 2, 3], [9; 100]);
+        let mut parts = [Part::Read(&code), Part::Write(&mut room[1..])];
+        let spans = memory.lend(&parts).expect("there is room");
+        assert_eq!((spans[0].length, spans[1].length), (3, 99));
+        let places = parts.iter().zip(&spans);
+        let alike =
+            |(part, span): (&Part, &Span)| part.bytes().as_ptr() as u64 % 16 == span.start % 16;
+        assert!(
+            places.into_iter().all(alike),
+            "they begin as the caller's do"
+        );
+        let mut held = [0; 3];
+        memory
+            .file
+            .read_exact_at(&mut held, spans[0].start)
+            .expect("it is there");
+        assert_eq!(held, code);
+        memory
+            .file
+            .write_all_at(&[7; 50], spans[1].start)
+            .expect("it is there");
+        memory
+            .give_back(&mut parts, &spans)
+            .expect("nothing else is written");
+        assert!(room == [[9; 1].as_slice(), &[7; 50], &[9; 49]].concat()[..]);
+    }
+
+    #[test]
+    fn a_byte_outside_or_to_be_read_is_seen() {
+        let (code, mut room) = ([1; 40], [9; 40]);
+        let mut parts = [Part::Read(&code), Part::Write(&mut room)];
+        let mut memory = memory("fences");
+        let places = |spans: &[Span]| {
+            let [code, room] = spans else {
+                panic!("there are two")
+            };
+            [
+                0,
+                code.start - 1,
+                code.end(),
+                room.start - 1,
+                room.end(),
+                room.end() + FENCE - 1,
+                code.start + 7,
+            ]
+        };
+        for at in 0..7 {
+            let spans = memory.lend(&parts).expect("there is room");
+            memory
+                .file
+                .write_all_at(&[0], places(&spans)[at])
+                .expect("it is there");
+            let told = memory
+                .give_back(&mut parts, &spans)
+                .expect_err("it is seen");
+            let place = if at < 6 {
+                "outside of what it was lent"
+            } else {
+                "to what it was lent to read"
+            };
+            assert_eq!(told.to_string(), format!("the library wrote {place}"));
+        }
+    }
+
+    #[test]
+    fn large_memory_is_given_back_and_zeros_are_zeros_again() {
+        let mut memory = memory("large");
+        let length = KEPT as usize + 3 * CHUNK + 5;
+        for byte in [0, 7, 0, 0] {
+            let mut room = vec![byte; length];
+            let mut parts = [Part::Write(&mut room)];
+            let spans = memory.lend(&parts).expect("there is room");
+            assert!(memory.length() > KEPT);
+            let mut held = vec![1; length];
+            memory
+                .file
+                .read_exact_at(&mut held, spans[0].start)
+                .expect("it is there");
+            assert!(held.iter().all(|found| *found == byte));
+            memory
+                .file
+                .write_all_at(&vec![5; length], spans[0].start)
+                .expect("it is there");
+            memory
+                .give_back(&mut parts, &spans)
+                .expect("nothing else is written");
+            assert!(room.iter().all(|found| *found == 5) && memory.length() == KEPT);
+        }
+    }
 }

@@ -20,13 +20,12 @@ fn idle() -> MutexGuard<'static, Vec<Relay>> {
     IDLE.lock().unwrap_or_else(PoisonError::into_inner)
 }
 
-/// One call, by its place in the table. If the relay fails, no slice is touched or some are read back; the next call has another
-/// relay.
+/// One call, by its place in the table. If the relay fails, what was lent is as it was, and the next call has another relay.
 pub fn call(place: usize, numbers: &[u64], parts: &mut [Part]) -> Result<u64, NotRelayed> {
     let waiting = idle().pop();
     let mut relay = match waiting {
         Some(relay) => relay,
-        None => Relay::start()?,
+        None => Relay::start(Path::new(TOOLS), Path::new(PROGRAM))?,
     };
     let result = relay.call(place, numbers, parts)?;
     idle().push(relay);
@@ -41,14 +40,15 @@ struct Relay {
 }
 
 impl Relay {
-    fn start() -> Result<Relay, NotRelayed> {
-        let child = emulated(Path::new(TOOLS), Path::new(PROGRAM))
+    fn start(tools: &Path, program: &Path) -> Result<Relay, NotRelayed> {
+        let child = emulated(tools, program)
             .stdin(Stdio::piped())
             .stdout(Stdio::piped())
             .spawn();
         let mut child = child.map_err(|e| {
             NotRelayed(format!(
-                "the emulator of Rattle's kit at {TOOLS} cannot be run ({e}). Build again where the kit is."
+                "the emulator of Rattle's kit at {} cannot be run ({e}): build again where the kit is",
+                tools.display()
             ))
         })?;
         let (Some(requests), Some(mut results)) = (child.stdin.take(), child.stdout.take()) else {
@@ -111,4 +111,30 @@ fn ended(child: &mut Child, error: &std::io::Error) -> NotRelayed {
     NotRelayed(format!(
         "the relay that runs the library ended ({how}; {error}). If it was killed for want of memory, lend less or free some; else see what stands above, and build again"
     ))
+}
+
+#[cfg(test)]
+mod tests {
+    use super::{PROGRAM, Relay, TOOLS};
+    use std::path::Path;
+
+    fn refused(tools: &str, program: &str) -> String {
+        let started = Relay::start(Path::new(tools), Path::new(program));
+        started.err().expect("it is not there").to_string()
+    }
+
+    #[test]
+    fn a_missing_emulator_or_relay_is_told() {
+        let told = refused("/no/kit", PROGRAM);
+        assert!(
+            told.starts_with("the emulator of Rattle's kit at /no/kit cannot be run"),
+            "{told}"
+        );
+        assert!(told.ends_with("build again where the kit is"), "{told}");
+        let told = refused(TOOLS, "/no/relay");
+        assert!(
+            told.starts_with("the relay that runs the library ended (exit status: 127;"),
+            "{told}"
+        );
+    }
 }
