@@ -1,6 +1,6 @@
 -- How many bytes of code after its own belong to an instruction, by the range that its byte lies in. Assumes nothing.
 use mathlib.Core.Path.{_≡_}
-use Prim.Native.Nat.{ℕ, _-_, _≤_, _<_}
+use Prim.Native.Nat.{ℕ, _+_, _-_, _≤_, _<_}
 use native.Mathlib.Decide.{decLt}
 use native.Mathlib.Omega.{arith}
 use borrow.Author.Tests.{le-leb, lt-leb}
@@ -30,7 +30,7 @@ module _ (b : ℕ) where
   pub size-below : b < 0x60 → SizeIs b 1
   size-below h = omega (arith, argument-below h)
 
-  pub size-push : 0x60 ≤ b → b < 0x80 → SizeIs b (b - 0x5E)
+  pub size-push : 0x60 ≤ b → b < 0x80 → SizeIs b (1 + (b - 0x60 + 1))
   size-push h g = omega (arith, argument-push h g)
 
   pub size-above : 0x80 ≤ b → SizeIs b 1

@@ -1,8 +1,8 @@
--- Walks, Steps and Arguments are what a crate above cites of the walk; Packed and Table of the rows.
+-- Walks, Steps and Arguments are what a crate above cites of the walk; Table of the rules of bytes.
 pub mod Walks
 pub mod Steps
 pub mod Arguments
-pub mod Packed
 pub mod Table
+mod Listed
 mod Spells
 mod Held

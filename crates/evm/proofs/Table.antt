@@ -1,12 +1,13 @@
--- A rule of a table, proved at all of its entries by one test that antt computes, one entry after the other. Assumes nothing.
-use mathlib.Core.Path.{_≡_, refl, subst}
+-- A rule of bytes, proved at each of them by one test that antt computes, one byte after the other. Assumes nothing.
+use mathlib.Core.Path.{_≡_, sym, subst}
+use mathlib.Core.Logic.{_⊎_, inl, inr}
 use mathlib.Core.Bool.{Bool, true, false}
 use mathlib.Core.List.{List, [], _∷_}
-use Prim.Native.Nat.{ℕ, zero, suc, _+_, _<_}
-use native.Mathlib.Nat.{le-of-suc-le-suc, not-suc-le-zero}
+use Prim.Native.Nat.{ℕ, zero, suc, _+_, _≤_, _<_}
+use native.Mathlib.Decide.{decLt}
 use native.Mathlib.Omega.{arith}
 use lib.Dec.{T}
-use lib.ListN.{length, getD}
+use types.Run.{OneOf}
 
 -- Both tests pass. It does not unfold by itself, so that a proof can name the two.
 infixl 35 _both_
@@ -24,30 +25,29 @@ unfolding _both_
 right true b t = t
 right false b t = absurd t
 
--- the test passes at each entry and its place, counted from i
-abbrev pub every : (ℕ → ℕ → Bool) → ℕ → List ℕ → Bool
-every f i [] = true
-every f i (x ∷ xs) = let later = every f (suc i) xs in f i x both later
+module _ (f : ℕ → Bool) where
+  -- the test passes at each of these
+  unfoldable pub each-of : List ℕ → Bool
+  each-of [] = true
+  each-of (k ∷ ks) = let later = each-of ks in f k both later
 
-every-from : (f : ℕ → ℕ → Bool) (xs : List ℕ) (i : ℕ) → T (every f i xs) → (k : ℕ) → k < length xs → T (f (i + k) (getD xs k 0))
-every-from f [] i t k h = absurd (not-suc-le-zero h)
-every-from f (x ∷ xs) i t zero h =
-    let e : i ≡ i + 0 = omega arith in
-    subst (λ (m : ℕ). T (f m x)) e (left (f i x) (every f (suc i) xs) t)
-every-from f (x ∷ xs) i t (suc k) h =
-    let e : suc i + k ≡ i + suc k = omega arith in
-    subst (λ (m : ℕ). T (f m (getD xs k 0))) e (every-from f xs (suc i) (right (f i x) (every f (suc i) xs) t) k (le-of-suc-le-suc h))
+  pub each-at : (ks : List ℕ) (x : ℕ) → T (each-of ks) → OneOf ks x → T (f x)
+  unfolding each-of
+  each-at [] x t o = absurd o
+  each-at (k ∷ []) x t e = subst (λ (y : ℕ). T (f y)) (sym e) (left (f k) true t)
+  each-at (k ∷ k′ ∷ ks) x t (inl e) = subst (λ (y : ℕ). T (f y)) (sym e) (left (f k) (each-of (k′ ∷ ks)) t)
+  each-at (k ∷ k′ ∷ ks) x t (inr o) = each-at (k′ ∷ ks) x (right (f k) (each-of (k′ ∷ ks)) t) o
 
--- The entry at a place, as a call that does not unfold: by it a law reads the table off the goal.
-unfoldable pub entry : List ℕ → ℕ → ℕ
-entry xs k = getD xs k 0
+  -- the test passes at the n numbers from a on
+  unfoldable pub every : ℕ → ℕ → Bool
+  every a zero = true
+  every a (suc n) = let later = every (suc a) n in f a both later
 
-pub entered : (xs : List ℕ) (k : ℕ) → getD xs k 0 ≡ entry xs k
-unfolding entry
-entered xs k = refl
-
-pub at : (f : ℕ → ℕ → Bool) (xs : List ℕ) → T (every f 0 xs) → (k : ℕ) → k < length xs → T (f k (entry xs k))
-unfolding entry
-at f xs t k h =
-    let e : 0 + k ≡ k = omega arith in
-    subst (λ (m : ℕ). T (f m (getD xs k 0))) e (every-from f xs 0 t k h)
+  pub every-at : (n a x : ℕ) → T (every a n) → a ≤ x → x < a + n → T (f x)
+  unfolding every
+  every-at zero a x t h g = absurd (omega arith)
+  every-at (suc n) a x t h g = go (decLt a x) (λ l m. every-at n (suc a) x (right (f a) (every (suc a) n) t) l m)
+    where
+      go : Dec (a < x) → (suc a ≤ x → x < suc a + n → T (f x)) → T (f x)
+      go (yes l) later = later l (omega arith)
+      go (no l) later = subst (λ (k : ℕ). T (f k)) (let e : a ≡ x = omega arith in e) (left (f a) (every (suc a) n) t)

@@ -1,10 +1,10 @@
 -- What the functions of rows.rt promise, in terms of the rows of document 01. Assumes nothing.
 use mathlib.Core.Path.{_≡_}
-use mathlib.Core.Bool.{not}
-use Prim.Native.Nat.{ℕ, suc, _≤_, _%_, _/_}
-use lib.Dec.{eqb}
+use mathlib.Core.Bool.{true}
+use Prim.Native.Nat.{ℕ, suc, _≤_}
 use Rattle.spec.specs.Opcodes.{argument, row}
 use Rattle.evm.specs.declared.rows.Row.{Row}
+use Rattle.evm.specs.declared.rows.Words.{Words}
 
 -- r is the row of the byte op; the bounds are for the sums of callers
 pub record RowIs (op : ℕ) (r : Row) : Type 0 where
@@ -17,12 +17,20 @@ pub record RowIs (op : ℕ) (r : Row) : Type 0 where
   pub taken-most : r .taken ≤ 17
   pub given-most : r .given ≤ 17
 
--- what a row says as one number: known, given, taken and size, a byte each from the highest
-abbrev pub unpacked : ℕ → Row
-unpacked w = record { size = w % 256; taken = w / 256 % 256; given = w / 65536 % 256; known = not (eqb (w / 16777216) 0) }
-
 -- r is the size of the instruction whose byte is op
 pub record SizeIs (op r : ℕ) : Type 0 where
   pub size : r ≡ suc (argument op)
   pub least : 1 ≤ r
   pub most : r ≤ 33
+
+-- w is the row of the byte op, but for its size
+pub record WordsAre (op : ℕ) (w : Words) : Type 0 where
+  pub taken : w .taken ≡ row op .taken
+  pub given : w .given ≡ row op .given
+  pub known : w .known ≡ row op .known
+  pub taken-most : w .taken ≤ 17
+  pub given-most : w .given ≤ 17
+
+-- a known byte that takes t words and gives g
+abbrev pub each : ℕ → ℕ → Words
+each t g = record { taken = t; given = g; known = true }

@@ -14,4 +14,4 @@ returns-3 : tie.Need-returns-3
 returns-3 c = search size-above
 
 pub size-of-spec : {M : Type 1} → statement M
-size-of-spec = tie.close (tie.spec (λ c. search needs) returns returns-2 returns-3)
+size-of-spec = tie.close (tie.spec (λ c. search needs) (λ c. search needs) (λ c. search needs) returns returns-2 returns-3)
