@@ -1,11 +1,11 @@
 //! Mapping one code after another in the same memory.
 
-use crate::call::{call, call_json};
+use crate::bounds::LONGEST_CODE;
+use crate::call::{called, called_json};
 use crate::error::Error;
 use crate::map::Map;
 use crate::room::Room;
 use crate::rooms::Rooms;
-use crate::{LONGEST_CODE, read};
 
 /// The fewest bytes that an answer has: those of a head.
 const LEAST_WRITTEN: u64 = 18;
@@ -69,7 +69,7 @@ impl Mapper {
     /// The map of a code, made with this energy limit.
     pub fn map(&mut self, code: &[u8], limit: u64) -> Result<Map, Error> {
         let bytes = self.entries(code, limit)?;
-        read::map(bytes).map_err(Error::Unreadable)
+        Map::from_bytes(bytes).map_err(Error::Unreadable)
     }
 
     /// The map as the library writes it: the entries of document 01, to be stored.
@@ -130,9 +130,9 @@ impl Mapper {
             self.calls += 1;
             let (mut lent, text) = self.rooms.lent(length);
             let number = if texted {
-                call_json(code, limit, &mut lent, text)
+                called_json(code, limit, &mut lent, text)?
             } else {
-                call(code, limit, &mut lent)
+                called(code, limit, &mut lent)?
             };
             if number >= LEAST_WRITTEN {
                 return Ok(number);
