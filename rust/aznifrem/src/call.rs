@@ -1,4 +1,7 @@
-//! The one call of the proved library.
+//! The calls that map a code, with its text or without.
+
+use crate::error::NotRelayed;
+use crate::exported;
 
 /// The memory that one call borrows, by the letters of document 01; it may hold anything.
 #[derive(Debug)]
@@ -19,32 +22,6 @@ pub struct Lent<'a> {
     pub out: &'a mut [u8],
 }
 
-#[allow(unsafe_code)] // The library's contract asks nothing of its caller but valid slices.
-mod linked {
-    unsafe extern "C" {
-        #[allow(clippy::too_many_arguments)]
-        pub fn aznifrem_map(
-            limit: u64,
-            code: *const u8,
-            code_len: usize,
-            w: *mut u8,
-            w_len: usize,
-            p: *mut u8,
-            p_len: usize,
-            s: *mut u8,
-            s_len: usize,
-            t: *mut u8,
-            t_len: usize,
-            r: *mut u8,
-            r_len: usize,
-            q: *mut u8,
-            q_len: usize,
-            out: *mut u8,
-            out_len: usize,
-        ) -> u64;
-    }
-}
-
 /// The library's own call: the refusal's number, 1 to 9, or the bytes written to `out`, never
 /// fewer than 18. Refusals 1 to 3 touch nothing; else the rooms W to Q are zero bytes afterwards,
 /// and `out` is touched by an answer alone, in the bytes written.
@@ -59,29 +36,74 @@ mod linked {
 /// assert_eq!(w, [0; 320]);
 /// assert_eq!(out[29..], [0xaa; 35]);
 /// ```
-#[allow(unsafe_code)]
+///
+/// # Panics
+///
+/// On a machine that is not x86-64, if the library cannot be reached there: [`NotRelayed`] says
+/// why. A [`Mapper`](crate::Mapper) gives that as an error.
 pub fn call(code: &[u8], limit: u64, lent: &mut Lent) -> u64 {
-    // SAFETY: each pointer and length is of one slice, valid for the call; the mutable ones are
-    // borrowed apart from each other and from the code.
-    unsafe {
-        linked::aznifrem_map(
-            limit,
-            code.as_ptr(),
-            code.len(),
-            lent.w.as_mut_ptr(),
-            lent.w.len(),
-            lent.p.as_mut_ptr(),
-            lent.p.len(),
-            lent.s.as_mut_ptr(),
-            lent.s.len(),
-            lent.t.as_mut_ptr(),
-            lent.t.len(),
-            lent.r.as_mut_ptr(),
-            lent.r.len(),
-            lent.q.as_mut_ptr(),
-            lent.q.len(),
-            lent.out.as_mut_ptr(),
-            lent.out.len(),
-        )
+    match called(code, limit, lent) {
+        Ok(number) => number,
+        Err(not_relayed) => panic!("{not_relayed}"),
     }
+}
+
+/// The same; an error only where the machine is not x86-64.
+pub(crate) fn called(code: &[u8], limit: u64, lent: &mut Lent) -> Result<u64, NotRelayed> {
+    let Lent {
+        w,
+        p,
+        s,
+        t,
+        r,
+        q,
+        out,
+    } = lent;
+    exported::aznifrem_map(limit, code, w, p, s, t, r, q, out)
+}
+
+/// The library's call that also writes the blocks as JSON, to `text`: the refusal's number, 1 to 9 or
+/// 11; or the bytes written to `out` and, times 2^32, those written to `text`. Of the rooms and of
+/// `out` all is as after [`call`], on 11 as on 9; `text` is touched by an answer alone, in the bytes
+/// written.
+///
+/// ```
+/// use aznifrem::{Lent, call_json};
+///
+/// let (mut w, mut room, mut out) = ([0xaa; 320], [[0xaa; 64]; 5], [0xaa; 64]);
+/// let (mut text, [p, s, t, r, q]) = ([0xaa; 80], &mut room);
+/// let mut lent = Lent { w: &mut w, p, s, t, r, q, out: &mut out };
+/// let written = call_json(&[0x00], 0, &mut lent, &mut text);
+/// assert_eq!(written, 29 + (71 << 32));
+/// assert_eq!((&text[..6], text[71]), (&b"[{\"id\""[..], 0xaa));
+/// assert_eq!(call_json(&[0x00], 0, &mut lent, &mut text[..70]), 11);
+/// ```
+///
+/// # Panics
+///
+/// As [`call`].
+pub fn call_json(code: &[u8], limit: u64, lent: &mut Lent, text: &mut [u8]) -> u64 {
+    match called_json(code, limit, lent, text) {
+        Ok(number) => number,
+        Err(not_relayed) => panic!("{not_relayed}"),
+    }
+}
+
+/// The same; an error only where the machine is not x86-64.
+pub(crate) fn called_json(
+    code: &[u8],
+    limit: u64,
+    lent: &mut Lent,
+    text: &mut [u8],
+) -> Result<u64, NotRelayed> {
+    let Lent {
+        w,
+        p,
+        s,
+        t,
+        r,
+        q,
+        out,
+    } = lent;
+    exported::aznifrem_json(limit, code, w, p, s, t, r, q, out, text)
 }

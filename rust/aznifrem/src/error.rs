@@ -3,8 +3,8 @@
 use std::error::Error as StdError;
 use std::fmt;
 
+use crate::bounds::{HIGHEST_LIMIT, LONGEST_CODE};
 use crate::room::Room;
-use crate::{HIGHEST_LIMIT, LONGEST_CODE};
 
 /// Why there is no map.
 #[derive(Clone, Debug, PartialEq, Eq)]
@@ -51,6 +51,8 @@ pub enum Error {
     },
     /// The linked library's answer is no map.
     Unreadable(Unreadable),
+    /// On a machine that is not x86-64 the library cannot be reached.
+    NotRelayed(NotRelayed),
 }
 
 impl Error {
@@ -65,7 +67,10 @@ impl Error {
             Error::CodeTooLong { .. } => Some(1),
             Error::LimitTooHigh { .. } => Some(2),
             Error::RoomFull { room, .. } | Error::RoomAtMost { room, .. } => Some(room.refusal()),
-            Error::NoMemory { .. } | Error::NoSuchAnswer { .. } | Error::Unreadable(_) => None,
+            Error::NoMemory { .. }
+            | Error::NoSuchAnswer { .. }
+            | Error::Unreadable(_)
+            | Error::NotRelayed(_) => None,
         }
     }
 }
@@ -105,6 +110,7 @@ impl fmt::Display for Error {
                 f,
                 "the linked library's answer is no map ({unreadable}): link the libaznifrem.a that belongs to this crate"
             ),
+            Error::NotRelayed(not_relayed) => not_relayed.fmt(f),
         }
     }
 }
@@ -113,8 +119,28 @@ impl StdError for Error {
     fn source(&self) -> Option<&(dyn StdError + 'static)> {
         match self {
             Error::Unreadable(unreadable) => Some(unreadable),
+            Error::NotRelayed(not_relayed) => Some(not_relayed),
             _ => None,
         }
+    }
+}
+
+/// Why a call did not come back from the library. Where the machine is not x86-64 the library runs
+/// under an emulator, in a program beside the caller's; elsewhere this does not happen.
+#[derive(Clone, Debug, PartialEq, Eq)]
+pub struct NotRelayed(pub(crate) String);
+
+impl fmt::Display for NotRelayed {
+    fn fmt(&self, f: &mut fmt::Formatter) -> fmt::Result {
+        f.write_str(&self.0)
+    }
+}
+
+impl StdError for NotRelayed {}
+
+impl From<NotRelayed> for Error {
+    fn from(not_relayed: NotRelayed) -> Error {
+        Error::NotRelayed(not_relayed)
     }
 }
 

@@ -19,12 +19,15 @@
 //! ```
 //!
 //! A [`Mapper`] keeps its memory between calls; [`Map::from_bytes`] reads a map that was stored;
-//! [`call`] is the library's own call, for those who lend the memory themselves.
+//! [`Mapper::json`] gives the blocks as JSON; [`call`] and [`call_json`] are the library's own calls,
+//! for those who lend the memory themselves.
 
 #![warn(missing_docs)]
 
+mod bounds;
 mod call;
 mod error;
+mod kinds;
 mod map;
 mod mapper;
 mod read;
@@ -32,17 +35,26 @@ mod room;
 mod rooms;
 mod write;
 
-pub use call::{Lent, call};
-pub use error::{Error, Fault, Unreadable, Unwritable};
+#[cfg(target_arch = "x86_64")]
+#[path = "linked.rs"]
+mod exported;
+
+#[cfg(not(target_arch = "x86_64"))]
+mod emulator;
+#[cfg(not(target_arch = "x86_64"))]
+#[path = "relayed.rs"]
+mod exported;
+#[cfg(not(target_arch = "x86_64"))]
+mod memory;
+#[cfg(not(target_arch = "x86_64"))]
+mod relay;
+
+pub use bounds::{HIGHEST_LIMIT, LONGEST_CODE, RELAYED};
+pub use call::{Lent, call, call_json};
+pub use error::{Error, Fault, NotRelayed, Unreadable, Unwritable};
 pub use map::{Block, BlockType, DynamicJump, Map, Record};
 pub use mapper::Mapper;
 pub use room::Room;
-
-/// The longest code that is mapped, in bytes.
-pub const LONGEST_CODE: usize = 24_576;
-
-/// The highest energy limit; at this one the map is evmole's.
-pub const HIGHEST_LIMIT: u64 = 500_000;
 
 /// The map of a code, made with an energy limit of at most [`HIGHEST_LIMIT`], in memory of its
 /// own up to [`Mapper::DEFAULT_CEILING`]. For many codes, a [`Mapper`] is faster.

@@ -3,9 +3,6 @@
 use std::collections::BTreeMap;
 use std::fmt;
 
-use crate::error::{Unreadable, Unwritable};
-use crate::{read, write};
-
 /// The map of a code: blocks by start, the record, the energy that the search used.
 #[derive(Clone, Debug, PartialEq, Eq)]
 pub struct Map {
@@ -80,33 +77,6 @@ pub struct Record {
     pub start: usize,
     /// Where to, and by which path.
     pub jump: DynamicJump,
-}
-
-impl Map {
-    /// Reads a map from the entries of document 01. Whatever is accepted is written again to the
-    /// same bytes by [`Map::to_bytes`]; no bytes make it panic.
-    ///
-    /// ```
-    /// use aznifrem::{Map, Mapper};
-    ///
-    /// let mut mapper = Mapper::new();
-    /// let stored = mapper.entries(&[0x60, 0x03, 0x56, 0x5b, 0x00], 500_000)?.to_vec();
-    /// let map = Map::from_bytes(&stored)?;
-    /// assert_eq!(map.to_bytes()?, stored);
-    ///
-    /// let cut = Map::from_bytes(&stored[..20]).unwrap_err();
-    /// assert_eq!(cut.offset, 18);
-    /// assert!(cut.to_string().contains("byte 18"));
-    /// # Ok::<(), Box<dyn std::error::Error>>(())
-    /// ```
-    pub fn from_bytes(bytes: &[u8]) -> Result<Map, Unreadable> {
-        read::map(bytes)
-    }
-
-    /// The entries of document 01 for this map.
-    pub fn to_bytes(&self) -> Result<Vec<u8>, Unwritable> {
-        write::map(self)
-    }
 }
 
 impl Block {

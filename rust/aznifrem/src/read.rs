@@ -1,24 +1,37 @@
-//! Reading the entries of document 01: "length of body (4 bytes), kind (2), body; little-endian".
+//! Reading the entries of document 01.
 
 use std::collections::BTreeMap;
 
 use crate::error::{Fault, Unreadable};
+use crate::kinds::{
+    DYNAMIC_JUMP, DYNAMIC_JUMPI, FOUND, HEAD, HEADER, JUMP, JUMPI, NOWHERE, RECORD, TERMINATE,
+};
 use crate::map::{Block, BlockType, DynamicJump, Map, Record};
 
-pub(crate) const HEADER: usize = 6;
-pub(crate) const NOWHERE: usize = 0x8000;
-
-pub(crate) const HEAD: u16 = 1;
-pub(crate) const TERMINATE: u16 = 2;
-pub(crate) const JUMP: u16 = 3;
-pub(crate) const JUMPI: u16 = 4;
-pub(crate) const DYNAMIC_JUMP: u16 = 5;
-pub(crate) const DYNAMIC_JUMPI: u16 = 6;
-pub(crate) const FOUND: u16 = 7;
-pub(crate) const RECORD: u16 = 8;
+impl Map {
+    /// Reads a map from the entries of document 01. Whatever is accepted is written again to the
+    /// same bytes by [`Map::to_bytes`]; no bytes make it panic.
+    ///
+    /// ```
+    /// use aznifrem::{Map, Mapper};
+    ///
+    /// let mut mapper = Mapper::new();
+    /// let stored = mapper.entries(&[0x60, 0x03, 0x56, 0x5b, 0x00], 500_000)?.to_vec();
+    /// let map = Map::from_bytes(&stored)?;
+    /// assert_eq!(map.to_bytes()?, stored);
+    ///
+    /// let cut = Map::from_bytes(&stored[..20]).unwrap_err();
+    /// assert_eq!(cut.offset, 18);
+    /// assert!(cut.to_string().contains("byte 18"));
+    /// # Ok::<(), Box<dyn std::error::Error>>(())
+    /// ```
+    pub fn from_bytes(bytes: &[u8]) -> Result<Map, Unreadable> {
+        map(bytes)
+    }
+}
 
 /// The map that the bytes hold, or the place of their first bad entry.
-pub(crate) fn map(bytes: &[u8]) -> Result<Map, Unreadable> {
+fn map(bytes: &[u8]) -> Result<Map, Unreadable> {
     let mut entries = Entries { bytes, at: 0 };
     let head = head(&mut entries)?;
     let blocks = blocks(&mut entries)?;

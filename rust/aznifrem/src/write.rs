@@ -1,15 +1,22 @@
 //! Writing the entries of document 01.
 
 use crate::error::Unwritable;
-use crate::map::{Block, BlockType, DynamicJump, Map};
-use crate::read::{
+use crate::kinds::{
     DYNAMIC_JUMP, DYNAMIC_JUMPI, FOUND, HEAD, JUMP, JUMPI, NOWHERE, RECORD, TERMINATE,
 };
+use crate::map::{Block, BlockType, DynamicJump, Map};
 
 type Written = Result<(), Unwritable>;
 
+impl Map {
+    /// The entries of document 01 for this map.
+    pub fn to_bytes(&self) -> Result<Vec<u8>, Unwritable> {
+        map(self)
+    }
+}
+
 /// Head, blocks by start each with its paths, records as found.
-pub(crate) fn map(map: &Map) -> Result<Vec<u8>, Unwritable> {
+fn map(map: &Map) -> Result<Vec<u8>, Unwritable> {
     let mut out = Vec::new();
     let mut head = Body::default();
     head.address(map.code_length)?;

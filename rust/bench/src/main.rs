@@ -22,8 +22,11 @@ bench [OPTIONS]: the proved library's call and the unchanged Rust in one process
 
 Prints one table. Times are medians, of the turns and then of the codes; the call's has its wiping,
 and its rooms have grown before; map is the binding's, which reads the answer too. A worst case runs
-in a process of its own, both sides in it.
+in a process of its own, both sides in it. Where the machine is not x86-64 it says so and ends.
 ";
+
+const NOT_HERE: &str = "\
+bench: times are taken on x86-64 only, and none is taken here: on this machine the library runs under an emulator";
 
 struct Options {
     codes: usize,
@@ -41,6 +44,10 @@ fn main() -> ExitCode {
         return child(case, which, ceiling);
     }
     match options(words.into_iter()) {
+        Ok(Some(_)) if aznifrem::RELAYED => {
+            println!("{NOT_HERE}");
+            ExitCode::SUCCESS
+        }
         Ok(Some(options)) => run(&options),
         Ok(None) => {
             print!("{HELP}");

@@ -1,16 +1,22 @@
 //! Everything that is held against each other on one code.
 
+use std::collections::BTreeMap;
+
 use agree::{ENOUGH, has_other_row};
 use aznifrem::{Block, BlockType, DynamicJump, Lent as Rooms, Map};
 use codes::Random;
 use model::{Answer, HIGHEST_LIMIT, LONGEST_CODE, Lent, Refusal, rooms};
 use oracle::control_flow_graph as rust;
 
+use crate::json;
 use crate::lend::{self, Given};
 use crate::panics::caught;
 
 /// The library's entry, or what stands in for it in a test.
 pub type Port = fn(&[u8], u64, &mut Rooms) -> u64;
+
+/// The library's call that also writes the text, or what stands in for it.
+pub type JsonPort = fn(&[u8], u64, &mut Rooms, &mut [u8]) -> u64;
 
 /// What came of one code.
 #[derive(Clone, Copy, Debug, PartialEq, Eq)]
@@ -31,7 +37,7 @@ pub struct Mismatch {
     pub sentence: String,
 }
 
-fn mismatch(kind: &'static str, sentence: String) -> Mismatch {
+pub(crate) fn mismatch(kind: &'static str, sentence: String) -> Mismatch {
     Mismatch { kind, sentence }
 }
 
@@ -39,9 +45,16 @@ fn mismatch(kind: &'static str, sentence: String) -> Mismatch {
 #[derive(Clone, Copy)]
 pub struct Checker {
     pub port: Port,
+    pub json: JsonPort,
 }
 
 impl Checker {
+    /// The proved library.
+    pub const LIBRARY: Checker = Checker {
+        port: aznifrem::call,
+        json: aznifrem::call_json,
+    };
+
     /// All calls on one code; the seed chooses rooms and limits beyond the plain call.
     pub fn check(&self, code: &[u8], seed: u64) -> Result<Verdict, Mismatch> {
         // The model, the library and the binding may panic: that is told with the code as well.
@@ -62,12 +75,15 @@ impl Checker {
         };
         let exact = map.needs.lent(code.len());
         let given = self.call(code, HIGHEST_LIMIT, &exact, random)?;
-        let verdict = if has_other_row(code) {
-            Verdict::OutsideTheDomain
+        let (verdict, text) = if has_other_row(code) {
+            let text = agree::json::of_model(&map.blocks);
+            (Verdict::OutsideTheDomain, text)
         } else {
-            same_blocks(code, &given.written)?;
-            Verdict::Same
+            let theirs = caught("panic of the Rust", || oracle::blocks(code))?;
+            same_blocks(&theirs, &given.written)?;
+            (Verdict::Same, agree::json::text(theirs.values()))
         };
+        json::calls(self.json, code, &map, &text, random)?;
         self.call(code, HIGHEST_LIMIT, &short(&exact, random), random)?;
         let lower = random.below(map.energy as usize + 2) as u64;
         self.call(code, lower, &longer(&exact, random), random)?;
@@ -132,7 +148,7 @@ impl Checker {
     }
 }
 
-fn different(ours: &[u8], expected: &[u8]) -> String {
+pub(crate) fn different(ours: &[u8], expected: &[u8]) -> String {
     let same = ours.iter().zip(expected).take_while(|(a, b)| a == b);
     format!(
         "byte {} of the answer is not the model's: {} against {}",
@@ -143,7 +159,7 @@ fn different(ours: &[u8], expected: &[u8]) -> String {
 }
 
 /// Rooms with one of them short: by a byte, by a unit, by half or by all.
-fn short(exact: &Lent, random: &mut Random) -> Lent {
+pub(crate) fn short(exact: &Lent, random: &mut Random) -> Lent {
     let mut lent = *exact;
     let rooms = [
         (&mut lent.w, 1),
@@ -178,10 +194,9 @@ fn longer(exact: &Lent, random: &mut Random) -> Lent {
 }
 
 /// Every block, type, path and destination in order: the library's entries and the Rust's map.
-fn same_blocks(code: &[u8], written: &[u8]) -> Result<(), Mismatch> {
+fn same_blocks(theirs: &BTreeMap<usize, rust::Block>, written: &[u8]) -> Result<(), Mismatch> {
     let map = Map::from_bytes(written)
         .map_err(|fault| mismatch("unreadable", format!("the answer is no map: {fault}")))?;
-    let theirs = caught("panic of the Rust", || oracle::blocks(code))?;
     let ours: Vec<&Block> = map.blocks.values().collect();
     let theirs: Vec<Block> = theirs.values().map(translated).collect();
     for at in 0..ours.len().max(theirs.len()) {
@@ -225,12 +240,14 @@ fn translated(block: &rust::Block) -> Block {
 
 #[cfg(test)]
 mod tests {
+    use std::collections::BTreeMap;
+
     use super::same_blocks;
     use model::{HIGHEST_LIMIT, Lent, answer};
 
     fn against_the_rust(code: &[u8]) -> Result<(), String> {
         let answer = answer(&Lent::ALL, HIGHEST_LIMIT, code);
-        same_blocks(code, answer.written()).map_err(|found| found.kind.into())
+        same_blocks(&oracle::blocks(code), answer.written()).map_err(|found| found.kind.into())
     }
 
     #[test]
@@ -242,7 +259,7 @@ mod tests {
 
     #[test]
     fn bytes_that_are_no_map_are_found() {
-        let found = same_blocks(&[], &[1, 2, 3]).expect_err("they are no map");
+        let found = same_blocks(&BTreeMap::new(), &[1, 2, 3]).expect_err("they are no map");
         assert_eq!(found.kind, "unreadable");
     }
 }

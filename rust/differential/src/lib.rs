@@ -5,13 +5,14 @@
 
 mod check;
 mod families;
+mod json;
 mod lend;
 mod panics;
 mod shrink;
 mod tally;
 
-pub use check::{Checker, Mismatch, Port, Verdict};
+pub use check::{Checker, JsonPort, Mismatch, Port, Verdict};
 pub use families::{FAMILIES, Family};
-pub use lend::{Given, call as fenced_call};
+pub use lend::{Given, call as fenced_call, call_json as fenced_call_json};
 pub use shrink::smaller;
 pub use tally::Tally;

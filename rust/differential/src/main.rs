@@ -9,7 +9,8 @@ use differential::{Checker, FAMILIES, Family, Tally};
 const HELP: &str = "\
 differential [OPTIONS]: the proved library against the unchanged Rust, on the same codes.
 
-  --codes N     codes of a light family; the heavier ones have a share of it (default 12000)
+  --codes N     codes of a light family; the heavier ones have a share of it (default 12000, and
+                1800 where the library runs under an emulator)
   --seed S      where the seeded families begin (default 1); the same seed, the same codes
   --long        all codes of five telling and of seven jumping bytes too, and 200000 of a light
                 family unless --codes says otherwise: millions
@@ -18,6 +19,30 @@ differential [OPTIONS]: the proved library against the unchanged Rust, on the sa
 
 Exit: 0 if all is the same, 1 if something differs, 2 if the command is not understood.
 ";
+
+/// How far a run goes: the lengths of the exhaustive codes, and how many of a light family.
+struct Extent {
+    telling: usize,
+    jumping: usize,
+    codes: u64,
+}
+
+const LONG: Extent = Extent {
+    telling: 5,
+    jumping: 7,
+    codes: 200_000,
+};
+/// The gate's, where the library is linked and where it is relayed.
+const LINKED: Extent = Extent {
+    telling: 3,
+    jumping: 5,
+    codes: 12_000,
+};
+const RELAYED: Extent = Extent {
+    telling: 2,
+    jumping: 4,
+    codes: 1_800,
+};
 
 #[derive(Default)]
 struct Options {
@@ -73,18 +98,20 @@ fn number(text: &str) -> Result<u64, String> {
 }
 
 fn run(options: &Options, begun: Instant) -> Tally {
-    let checker = Checker {
-        port: aznifrem::call,
-    };
+    let checker = Checker::LIBRARY;
     let mut all = Tally::default();
     let seed = options.seed.unwrap_or(1);
     if let Some(code) = &options.code {
         all.add(&checker, code, seed, "--code");
         return all;
     }
-    every_short_code(&checker, options.long, &mut all);
-    let most = options.codes;
-    let most = most.unwrap_or(if options.long { 200_000 } else { 12_000 });
+    let extent = match options.long {
+        true => LONG,
+        false if aznifrem::RELAYED => RELAYED,
+        false => LINKED,
+    };
+    every_short_code(&checker, &extent, &mut all);
+    let most = options.codes.unwrap_or(extent.codes);
     let mut round = seed;
     loop {
         seeded(&checker, most, round, &mut all);
@@ -97,12 +124,11 @@ fn run(options: &Options, begun: Instant) -> Tally {
 }
 
 /// Exhaustive codes; the seed of each one's rooms and limits is made from its bytes.
-fn every_short_code(checker: &Checker, long: bool, all: &mut Tally) {
-    let telling = if long { 5 } else { 3 };
-    let jumping = if long { 7 } else { 5 };
+fn every_short_code(checker: &Checker, extent: &Extent, all: &mut Tally) {
     let mut parts: Vec<(&str, &[u8], usize)> = Vec::new();
-    parts.extend((0..=telling).map(|length| ("telling", &exhaustive::TELLING[..], length)));
-    parts.push(("jumping", &exhaustive::JUMPS[..], jumping));
+    let telling = 0..=extent.telling;
+    parts.extend(telling.map(|length| ("telling", &exhaustive::TELLING[..], length)));
+    parts.push(("jumping", &exhaustive::JUMPS[..], extent.jumping));
     for (name, alphabet, length) in parts {
         let begun = Instant::now();
         let mut tally = Tally::default();
