@@ -7,10 +7,9 @@ use std::path::{Path, PathBuf};
 
 use aznifrem::Map;
 
-use crate::Outcome;
 use crate::compare::differences;
 use crate::files::{Kind, Named, beneath};
-use crate::tell;
+use crate::outcome::{Outcome, tell};
 
 pub fn run(old: &Path, new: &Path, out: &mut impl Write) -> io::Result<Outcome> {
     let pairs = match pairs(old, new) {

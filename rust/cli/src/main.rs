@@ -6,6 +6,7 @@ mod diff;
 mod files;
 mod input;
 mod maps;
+mod outcome;
 mod paths;
 mod progress;
 mod summary;
@@ -14,22 +15,7 @@ use std::io::{self, BufWriter, ErrorKind, Write};
 use std::process::ExitCode;
 
 use args::Command;
-
-/// What a run comes to; the numbers are the exit's.
-#[derive(Clone, Copy, Debug, PartialEq, Eq, PartialOrd, Ord)]
-enum Outcome {
-    /// Everything is mapped, or nothing moved.
-    Fine = 0,
-    /// A code was refused or unreadable, or something moved.
-    Found = 1,
-    /// Asked wrongly, a map to compare is unreadable, or the output cannot be written.
-    Wrong = 2,
-}
-
-/// A line on standard error; if nobody can read it, that is no reason to stop.
-fn tell(line: &str) {
-    let _ = writeln!(io::stderr(), "{line}");
-}
+use outcome::{Outcome, tell};
 
 fn main() -> ExitCode {
     let command = match args::parse(std::env::args_os().skip(1)) {

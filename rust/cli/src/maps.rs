@@ -7,13 +7,12 @@ use std::path::{Path, PathBuf};
 
 use aznifrem::{Error, Map, Mapper};
 
-use crate::Outcome;
 use crate::args::{Options, Print};
 use crate::files::{Found, Kind, Named, beneath};
 use crate::input;
+use crate::outcome::{Outcome, tell};
 use crate::progress::Progress;
 use crate::summary;
-use crate::tell;
 
 const HEADER: usize = 6;
 const DIGITS: &[u8; 16] = b"0123456789abcdef";
@@ -127,7 +126,7 @@ impl Job<'_> {
         let title = contract.path.display().to_string();
         match self.options.print {
             None | Some(Print::Json) => Ok(String::new()),
-            Some(Print::Lines) => Ok(self.titled(contract, lines(entries))),
+            Some(Print::Lines) => Ok(titled(self.many, &title, &lines(entries))),
             Some(Print::Summary) => Map::from_bytes(entries)
                 .map(|map| summary::text(&title, &map))
                 .map_err(|error| Error::Unreadable(error).to_string()),
@@ -139,8 +138,8 @@ impl Job<'_> {
         let both = self.mapper.both(code, self.options.limit);
         let (entries, text) = both.map_err(refusal)?;
         let Some(folder) = &self.options.to else {
-            let line = format!("{text}\n");
-            return Ok(self.titled(contract, line));
+            let title = contract.path.display().to_string();
+            return Ok(titled(self.many, &title, &format!("{text}\n")));
         };
         store(folder, &contract.name, "map", entries, &mut self.stored)?;
         store(
@@ -152,14 +151,14 @@ impl Job<'_> {
         )?;
         Ok(String::new())
     }
+}
 
-    /// With the contract's path before it, where there are more.
-    fn titled(&self, contract: &Named, text: String) -> String {
-        if self.many {
-            format!("== {}\n{text}", contract.path.display())
-        } else {
-            text
-        }
+/// With a line of the contract's path before it, where there are more.
+fn titled(many: bool, title: &str, text: &str) -> String {
+    if many {
+        format!("== {title}\n{text}")
+    } else {
+        text.into()
     }
 }
 

@@ -3,20 +3,17 @@
 use std::collections::BTreeMap;
 
 use agree::{ENOUGH, has_other_row};
-use aznifrem::{Block, BlockType, DynamicJump, Lent as Rooms, Map};
+use aznifrem::{Block, BlockType, DynamicJump, Map};
 use codes::Random;
 use model::{Answer, HIGHEST_LIMIT, LONGEST_CODE, Lent, Refusal, rooms};
 use oracle::control_flow_graph as rust;
 
 use crate::json;
 use crate::lend::{self, Given};
+use crate::mismatch::{Mismatch, different, mismatch};
+use crate::nearby::{longer, short};
 use crate::panics::caught;
-
-/// The library's entry, or what stands in for it in a test.
-pub type Port = fn(&[u8], u64, &mut Rooms) -> u64;
-
-/// The library's call that also writes the text, or what stands in for it.
-pub type JsonPort = fn(&[u8], u64, &mut Rooms, &mut [u8]) -> u64;
+use crate::port::{JsonPort, Port};
 
 /// What came of one code.
 #[derive(Clone, Copy, Debug, PartialEq, Eq)]
@@ -28,17 +25,6 @@ pub enum Verdict {
     TooHeavy,
     /// It has more than 24,576 bytes: its refusals were held against the model's, and are 1.
     TooLong,
-}
-
-/// What differs, in a sentence; two of one kind have the same cause, more likely than not.
-#[derive(Clone, Debug, PartialEq, Eq)]
-pub struct Mismatch {
-    pub kind: &'static str,
-    pub sentence: String,
-}
-
-pub(crate) fn mismatch(kind: &'static str, sentence: String) -> Mismatch {
-    Mismatch { kind, sentence }
 }
 
 /// Holds a port against the Rust and the model.
@@ -145,51 +131,6 @@ impl Checker {
             ));
         }
         Ok(given)
-    }
-}
-
-pub(crate) fn different(ours: &[u8], expected: &[u8]) -> String {
-    let same = ours.iter().zip(expected).take_while(|(a, b)| a == b);
-    format!(
-        "byte {} of the answer is not the model's: {} against {}",
-        same.count(),
-        codes::to_hex(ours),
-        codes::to_hex(expected)
-    )
-}
-
-/// Rooms with one of them short: by a byte, by a unit, by half or by all.
-pub(crate) fn short(exact: &Lent, random: &mut Random) -> Lent {
-    let mut lent = *exact;
-    let rooms = [
-        (&mut lent.w, 1),
-        (&mut lent.p, rooms::P_UNIT),
-        (&mut lent.s, rooms::S_UNIT),
-        (&mut lent.t, rooms::T_UNIT),
-        (&mut lent.r, rooms::R_UNIT),
-        (&mut lent.q, rooms::Q_UNIT),
-        (&mut lent.out, 1),
-    ];
-    let count = rooms.len();
-    let Some((room, unit)) = rooms.into_iter().nth(random.below(count)) else {
-        return *exact;
-    };
-    let less = [1, unit, *room / 2, *room];
-    *room = room.saturating_sub(random.pick(&less));
-    lent
-}
-
-/// Rooms with up to 40 bytes more of each.
-fn longer(exact: &Lent, random: &mut Random) -> Lent {
-    let mut more = |bytes: u64| bytes + random.below(41) as u64;
-    Lent {
-        w: more(exact.w),
-        p: more(exact.p),
-        s: more(exact.s),
-        t: more(exact.t),
-        r: more(exact.r),
-        q: more(exact.q),
-        out: more(exact.out),
     }
 }
 

@@ -3,8 +3,10 @@
 use codes::Random;
 use model::{HIGHEST_LIMIT, Lent, Map, entries};
 
-use crate::check::{JsonPort, Mismatch, different, mismatch, short};
 use crate::lend::{self, Given};
+use crate::mismatch::{Mismatch, different, mismatch};
+use crate::nearby::short;
+use crate::port::JsonPort;
 
 /// The refusal of a text room that is short.
 const TEXT_SHORT: u64 = 11;

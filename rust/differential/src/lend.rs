@@ -3,7 +3,7 @@
 use aznifrem::Lent;
 use codes::Random;
 
-use crate::check::{JsonPort, Port};
+use crate::port::{JsonPort, Port};
 
 const FENCE: usize = 64;
 

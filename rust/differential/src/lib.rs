@@ -7,12 +7,17 @@ mod check;
 mod families;
 mod json;
 mod lend;
+mod mismatch;
+mod nearby;
 mod panics;
+mod port;
 mod shrink;
 mod tally;
 
-pub use check::{Checker, JsonPort, Mismatch, Port, Verdict};
+pub use check::{Checker, Verdict};
 pub use families::{FAMILIES, Family};
 pub use lend::{Given, call as fenced_call, call_json as fenced_call_json};
+pub use mismatch::Mismatch;
+pub use port::{JsonPort, Port};
 pub use shrink::smaller;
 pub use tally::Tally;

@@ -4,7 +4,7 @@ use std::cell::RefCell;
 use std::panic::{AssertUnwindSafe, catch_unwind, set_hook, take_hook};
 use std::sync::Once;
 
-use crate::check::Mismatch;
+use crate::mismatch::Mismatch;
 
 thread_local! {
     /// Within `caught`: the text of this thread's last panic.

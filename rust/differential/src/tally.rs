@@ -1,6 +1,7 @@
 //! What came of many codes.
 
-use crate::check::{Checker, Mismatch, Verdict};
+use crate::check::{Checker, Verdict};
+use crate::mismatch::Mismatch;
 use crate::shrink::smaller;
 
 /// Mismatches of a line that are written out; the others are counted.

@@ -4,8 +4,10 @@
 //! the unchanged Rust. It is written to be read, not to be fast.
 
 pub mod blocks;
+mod bounds;
+mod call;
 pub mod entries;
-pub mod map;
+mod map;
 pub mod ops;
 pub mod reach;
 pub mod rooms;
@@ -13,14 +15,11 @@ pub mod search;
 pub mod stack;
 
 pub use blocks::{Block, Entry, Kind};
-pub use map::{Map, map};
+pub use bounds::{HIGHEST_LIMIT, LONGEST_CODE};
+pub use call::map;
+pub use map::Map;
 pub use rooms::{Lent, Needs, Refusal};
 pub use search::Record;
-
-/// "code over 24,576 bytes" is refused.
-pub const LONGEST_CODE: usize = 24_576;
-/// "an energy limit of 0 to 500,000".
-pub const HIGHEST_LIMIT: u64 = 500_000;
 
 /// What a call gives back: its refusal, or the bytes of its output.
 #[derive(Clone, Debug, PartialEq, Eq)]

@@ -1,11 +1,8 @@
-//! A whole call: the refusals in their order, the blocks, the search, merging and pruning.
+//! What an answered call comes to.
 
-use crate::blocks::{Block, Entry, Kind, blocks};
-use crate::entries;
-use crate::reach::pruned;
-use crate::rooms::{Lent, Needs, Refusal, Room, Rooms, work};
-use crate::search::{Found, Record, search};
-use crate::{HIGHEST_LIMIT, LONGEST_CODE};
+use crate::blocks::Block;
+use crate::rooms::Needs;
+use crate::search::Record;
 
 /// An answered call: the map, the records as found, the energy, and what was asked of each room.
 #[derive(Clone, Debug, PartialEq, Eq)]
@@ -14,60 +11,4 @@ pub struct Map {
     pub records: Vec<Record>,
     pub energy: u64,
     pub needs: Needs,
-}
-
-/// The map of a code, or the first refusal met.
-pub fn map(lent: &Lent, limit: u64, code: &[u8]) -> Result<Map, Refusal> {
-    if code.len() > LONGEST_CODE {
-        return Err(Refusal::CodeTooLong);
-    }
-    if limit > HIGHEST_LIMIT {
-        return Err(Refusal::LimitTooHigh);
-    }
-    if lent.w < work(code.len()) {
-        return Err(Refusal::WorkShort);
-    }
-    let mut rooms = Rooms::new(lent);
-    let mut cut = blocks(code);
-    let Found { records, energy } = search(code, &mut cut, limit, &mut rooms)?;
-    for record in &records {
-        enter(&mut cut, record);
-    }
-    cut.iter_mut().for_each(merge);
-    let reached = pruned(&cut, code.len() + 1);
-    cut.retain(|block| reached[block.start]);
-    let mut map = Map {
-        blocks: cut,
-        records,
-        energy,
-        needs: Needs::default(),
-    };
-    rooms.ask(Room::Out, entries::length(&map))?;
-    map.needs = rooms.asked;
-    Ok(map)
-}
-
-/// A record is an entry of its block; "DynamicJump drops entries without destination".
-fn enter(blocks: &mut [Block], record: &Record) {
-    let place = blocks.binary_search_by_key(&record.start, |block| block.start);
-    let block = &mut blocks[place.expect("a record is of a block")];
-    let entry = Entry {
-        to: record.to,
-        path: record.path.clone(),
-    };
-    match &mut block.kind {
-        Kind::DynamicJump { entries } if record.to.is_some() => entries.push(entry),
-        Kind::DynamicJumpi { entries, .. } => entries.push(entry),
-        _ => {}
-    }
-}
-
-/// "A DynamicJump whose entries share one target becomes a Jump."
-fn merge(block: &mut Block) {
-    if let Kind::DynamicJump { entries } = &block.kind
-        && let Some(Entry { to: Some(to), .. }) = entries.first()
-        && entries.iter().all(|entry| entry.to == Some(*to))
-    {
-        block.kind = Kind::Jump { to: *to };
-    }
 }
