@@ -2,4 +2,5 @@
 // their order, each lent to be read or to be written. The relay, the linked functions and the safe ones are all made from this.
 exports! {
     aznifrem_map(limit; read code, write w, write p, write s, write t, write r, write q, write out);
+    aznifrem_json(limit; read code, write w, write p, write s, write t, write r, write q, write out, write text);
 }

@@ -1,4 +1,7 @@
 pub mod Numbers
 pub mod Running
+pub mod Told
 pub mod Mapping
 pub mod Calls
+pub mod JsonCalls
+pub mod JsonOnce

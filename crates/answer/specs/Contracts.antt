@@ -1,13 +1,18 @@
 -- What a call gives and leaves, against document 01's answer. Assumes nothing.
 use mathlib.Core.Path.{_≡_}
-use Prim.Native.Nat.{ℕ, _+_, _*_, _≤_}
+use Prim.Native.Nat.{ℕ, _+_, _*_, _^_, _≤_, _<_}
 use mathlib.Core.List.{List}
 use lib.ListN.{length, replicate}
+use Rattle.spec.specs.Search.{Rec}
 use Rattle.spec.specs.Rooms.{Lent, shortage}
 use Rattle.spec.specs.Answer as spec
 use Rattle.spec.specs.Answer.{numberOf, written, searched, mapped, within-out, within-rooms, answer, room-after, output-after}
+use Rattle.spec.specs.JsonAnswer.{within-text, json-answer, texted, text-after}
 use Rattle.steps.specs.Runs.{Mem}
+use Rattle.entries.specs.Contracts.{mapOf, Ends}
+use Rattle.answer.specs.declared.find.Found.{Found}
 use Rattle.answer.specs.declared.map.Answer.{Answer}
+use Rattle.answer.specs.declared.both.Both.{Both}
 
 -- the lengths of the lent buffers
 abbrev pub lentOf : Mem → List ℕ → Lent
@@ -18,6 +23,23 @@ pub record Lends (limit : ℕ) (code w : List ℕ) : Type 0 where
   pub short : length code ≤ 24576
   pub limited : limit ≤ 500000
   pub lent : 64 * length code + 256 ≤ length w
+
+-- ---- the map in the rooms
+
+-- W, R and Q hold the map that document 01 gives
+pub record Leaves (limit : ℕ) (code w r q : List ℕ) (m energy : ℕ) : Type 0 where
+  pub recs : List Rec
+  pub ends : Ends w r q (length code) m code recs
+  pub is : mapOf code recs energy ≡ mapped code (searched limit code)
+  pub short : length code ≤ 24576
+  pub small : energy < 2 ^ 32
+
+-- the number of the first shortage, whatever the output's length; or 0, and the map is left
+pub record Finds (limit : ℕ) (code : List ℕ) (m : Mem) (w r q : List ℕ) (d : Found) : Type 0 where
+  pub number : (out : List ℕ) → d .number ≡ shortage (lentOf m out) (searched limit code .needs)
+  pub leaves : d .number ≡ 0 → Leaves limit code w r q (d .records) (d .energy)
+
+-- ---- the entry
 
 -- the answer that is left once 1, 2 and 3 are tested
 abbrev pub rest : Lent → ℕ → List ℕ → spec.Answer
@@ -50,3 +72,31 @@ pub record Mapped (limit : ℕ) (code : List ℕ) (m : Mem) (out : List ℕ) (m�
   pub t : m′ .t ≡ room-after (answer (lentOf m out) limit code) (m .t)
   pub r : m′ .r ≡ room-after (answer (lentOf m out) limit code) (m .r)
   pub q : m′ .q ≡ room-after (answer (lentOf m out) limit code) (m .q)
+
+-- ---- with the text
+
+-- the number and both counts are the answer's, and so are the output and the text buffer
+pub record TellsBoth (x : spec.Answer) (out out′ text text′ : List ℕ) (a : Both) : Type 0 where
+  pub number : a .number ≡ numberOf x
+  pub count : a .written ≡ length (written x)
+  pub shows : a .texted ≡ length (texted x)
+  pub out-is : out′ ≡ output-after x out
+  pub text-is : text′ ≡ text-after x text
+
+-- 9 and 11 tested, and the rest written, for the map that W, R and Q hold
+pub record PutBoth (w r q : List ℕ) (n m energy : ℕ) (out out′ text text′ : List ℕ) (a : Both) : Type 0 where
+  pub answer : (code : List ℕ) (recs : List Rec) → Ends w r q n m code recs → (l : Lent) → length out ≡ l .out
+      → TellsBoth (within-text (length text) (within-out l (mapOf code recs energy))) out out′ text text′ a
+
+abbrev pub RanBoth : ℕ → List ℕ → Mem → List ℕ → List ℕ → List ℕ → List ℕ → Both → Type 0
+RanBoth limit code m out out′ text text′ a = TellsBoth (within-text (length text) (rest (lentOf m out) limit code)) out out′ text text′ a
+
+-- all that documents 01 and 02 say of a call with a text buffer
+pub record MappedBoth (limit : ℕ) (code : List ℕ) (m : Mem) (out text : List ℕ) (m′ : Mem) (out′ text′ : List ℕ) (a : Both) : Type 0 where
+  pub tells : TellsBoth (json-answer (lentOf m out) (length text) limit code) out out′ text text′ a
+  pub w : m′ .w ≡ room-after (json-answer (lentOf m out) (length text) limit code) (m .w)
+  pub p : m′ .p ≡ room-after (json-answer (lentOf m out) (length text) limit code) (m .p)
+  pub s : m′ .s ≡ room-after (json-answer (lentOf m out) (length text) limit code) (m .s)
+  pub t : m′ .t ≡ room-after (json-answer (lentOf m out) (length text) limit code) (m .t)
+  pub r : m′ .r ≡ room-after (json-answer (lentOf m out) (length text) limit code) (m .r)
+  pub q : m′ .q ≡ room-after (json-answer (lentOf m out) (length text) limit code) (m .q)

@@ -1,4 +1,7 @@
-// The whole answer: the refusals in document 01's order, the map, and what stands in every lent byte afterwards.
+// The whole answer: the refusals in the documents' order, the map, with the text or without, and what stands in every lent byte afterwards.
+mod both;
+mod find;
 mod map;
 
+pub use both::map_json;
 pub use map::map_code;

@@ -1,9 +1,10 @@
-// The exported entry.
+// The exported calls.
 // "A call returns the number and the bytes written, 0 if refused; the exported entry gives whichever isn't 0. The exported entry takes numbers and byte
 // slices."
 use answer::map_code;
+use answer::map_json;
 ghost use Rattle.steps.specs.Runs.{buffers};
-ghost use Rattle.aznifrem.specs.Contracts.{Exported};
+ghost use Rattle.aznifrem.specs.Contracts.{Exported, ExportedJson};
 
 // Maps a code at an energy limit over seven lent buffers; gives the number of the refusal, or the bytes written, which are never under 18 (`answered-long`).
 #[no_mangle]
@@ -26,4 +27,30 @@ pub extern "C" fn aznifrem_map(
         return a.number as u64;
     }
     a.written as u64
+}
+
+// The same, and the JSON text of the blocks in an eighth lent buffer; gives the number of the refusal, or the bytes of entries and 2^32 times those of text
+// (`json-number`).
+#[no_mangle]
+pub extern "C" fn aznifrem_json(
+    limit: u64,
+    code: &[u8],
+    w: &mut [u8],
+    p: &mut [u8],
+    s: &mut [u8],
+    t: &mut [u8],
+    r: &mut [u8],
+    q: &mut [u8],
+    out: &mut [u8],
+    text: &mut [u8],
+) -> u64
+    ensures { λ x. ⌜ ExportedJson limit (now (code .entry)) (buffers (now (w .entry)) (now (p .entry)) (now (s .entry)) (now (t .entry)) (now (r .entry)) (now (q .entry)))
+        (now (out .entry)) (now (text .entry)) (buffers (now (w .exit)) (now (p .exit)) (now (s .exit)) (now (t .exit)) (now (r .exit)) (now (q .exit)))
+        (now (out .exit)) (now (text .exit)) x ⌝ }
+{
+    let b = map_json(limit as usize, code, w, p, s, t, r, q, out, text);
+    if b.number != 0 {
+        return b.number as u64;
+    }
+    (b.written + 4294967296 * b.texted) as u64
 }

@@ -10,6 +10,7 @@ use Rattle.spec.specs.Search.{Node, Rec, dest, search}
 use Rattle.spec.specs.Answer.{prepared}
 use Rattle.theorems.proofs.Branch.{if-true}
 use Rattle.theorems.proofs.Members.{In}
+use Rattle.theorems.proofs.Passing.{record-passes}
 use Rattle.initial.specs.Rows.{blocksAt}
 use Rattle.tables.specs.Records.{none, toAt, recAt}
 use Rattle.tables.specs.Tables.{mem, recs, Goes, leads-nowhere, leads, Tables}
@@ -20,7 +21,6 @@ use Rattle.graph.specs.Contracts.{Fits}
 use Rattle.graph.proofs.Finals.{dest-at}
 use Rattle.graph.proofs.Recs.{in-rec, rec-destination}
 use Rattle.graph.proofs.Edges.{dest-is}
-use Rattle.graph.proofs.Paths.{record-passes}
 
 -- a record's destination, as the tables have it
 goes-within : (n room : ℕ) (r q s : List ℕ) (i : ℕ) → Goes n room r s i → (t : ℕ) → In t (dest (recAt r q s room i .to)) → t ≤ n

@@ -7,5 +7,4 @@ pub mod Edges
 pub mod Sides
 pub mod Asking
 pub mod Finished
-pub mod Paths
 pub mod Fitting

@@ -13,8 +13,8 @@ use Rattle.spec.specs.Search.{Node, node, sides}
 use Rattle.spec.specs.Answer.{prepared}
 use Rattle.theorems.proofs.Branch.{both}
 use Rattle.theorems.proofs.Members.{In, in-map}
+use Rattle.theorems.proofs.Sides.{Within, node-within, sides-within}
 use Rattle.initial.specs.Rows.{blocksAt}
-use Rattle.parents.proofs.Falls.{Within, node-within, sides-within}
 use Rattle.graph.specs.Notes.{noteOf, byNote, mergedKind, mergedBlock}
 use Rattle.graph.specs.Contracts.{Settled, Fits}
 

@@ -14,6 +14,7 @@ use Rattle.spec.specs.Stacks.{Sym, before}
 use Rattle.spec.specs.Search.{Node, nodes, takers}
 use Rattle.spec.specs.Answer.{prepared}
 use Rattle.theorems.proofs.Cutting.{made}
+use Rattle.theorems.proofs.Sides.{node-within}
 use Rattle.initial.specs.Rows.{typed, typeOf, tagAt, rowBlocks, blocksFrom, blocksAt}
 use Rattle.initial.specs.declared.row.BlockType.{BlockType}
 use Rattle.initial.proofs.Types.{kind-type}
@@ -22,7 +23,6 @@ use Rattle.parents.specs.Links.{turnOf, Parents, no-parent, Takers, no-t
 use Rattle.parents.specs.Rows.{firstTaker, takerPast, turnsOf, firstTo, ownOf, linksOf, nodesHere, nodesFrom, rowFor}
 use Rattle.parents.specs.Contracts.{Lent, Prepared}
 use Rattle.parents.proofs.Goals.{Goes, run-goes}
-use Rattle.parents.proofs.Falls.{node-within}
 use Rattle.parents.proofs.Slots.{own, first, links, first-is, own-tag, own-end, own-type}
 use Rattle.parents.proofs.Pass.{Pass, nodeAt, block-of, nodes-split, nodes-end, good-within}
 use Rattle.parents.proofs.Chains.{small-parents, shape, more-takers, more-parents}
@@ -33,7 +33,7 @@ row-parts w a =
     let f : take 8 (drop (20 * a + 12) w) ≡ first w a ++ links w a = take-add 2 6 (drop (20 * a + 12) w) ∙ ap (λ (l : List ℕ). first w a ++ take 6 l) e in
     take-add 12 8 (drop (20 * a) w) ∙ ap (λ (l : List ℕ). own w a ++ l) (rw drop-drop f)
 
-goes-small : (n : ℕ) (g : Option Sym) → n ≤ 24576 → Goes n (17 * n + 17) g → (p : ℕ) → g ≡ some (before p) → p < 4294967296
+goes-small : (n : ℕ) (g : Option Sym) → n ≤ 24576 → Goes (17 * n + 17) g → (p : ℕ) → g ≡ some (before p) → p < 4294967296
 goes-small n g s h p e = let f : p < 17 * n + 17 = rw e at h in omega arith
 
 module _ {code w₀ : List ℕ} {end : ℕ} (l : Lent code w₀ end) {w : List ℕ} {head : ℕ} (p : Pass code w₀ end w 0 head) where

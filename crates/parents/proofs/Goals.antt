@@ -1,90 +1,84 @@
--- Where a block's own run can go, and what its stack holds: a Jumpdest lies in the code, and a Before no deeper than its instructions reach. Assumes nothing.
-use mathlib.Core.Path.{_≡_}
+-- Where a block's own run can go, and what its stack holds: a Before is no deeper than its instructions reach. Assumes nothing.
 use mathlib.Core.Option.{Option, none, some}
 use mathlib.Core.List.{List, [], _∷_, _++_}
 use Prim.Native.Nat.{ℕ, zero, suc, _+_, _*_, _^_, _≤_, _<_}
 use native.Mathlib.Omega.{arith}
-use native.Mathlib.Decide.{decLt}
 use lib.Dec.{eqb, leb, ltb}
-use lib.ListN.{length, getD, drop, replicate, List·getD-eq-default}
-use borrow.Author.Tests.{eqb-true, leb-true}
+use lib.ListN.{length, getD, drop, replicate}
+use borrow.Author.Tests.{leb-true}
 use Rattle.spec.specs.Lists.{within}
 use Rattle.spec.specs.Opcodes.{row}
 use Rattle.spec.specs.Walk.{Ins, instructions, from}
 use Rattle.spec.specs.Stacks.{Sym, before, constant, jumpdest, other, known-value, from-value, is, mask, anded, summed, Stack, entry, reads, read, span, pops, push, pushes, swap, trade, Does, pushes-value, pushes-pc, dups, swaps, ands, adds, jumps, jumpis, lands, halts, plain, does, act, Ran, after, runs, joins, settle, trims, trim, run}
 use Rattle.theorems.proofs.Branch.{both}
-use Rattle.theorems.proofs.Members.{In, here, there, and-both}
+use Rattle.theorems.proofs.Members.{and-both}
 use Rattle.theorems.proofs.Counts.{few}
 use Rattle.theorems.proofs.Walking.{Walked, stops, steps, walked}
 use Rattle.state.specs.Cells.{depth, deepest, reach}
 use Rattle.state.proofs.Reach.{reach-is}
 
--- ---- symbols: a Jumpdest below n, a Before below m
+-- ---- symbols: a Before below m
 
-abbrev pub Fits : ℕ → ℕ → Sym → Type 0
-Fits n m (before p) = p < m
-Fits n m (constant v) = Unit {0}
-Fits n m (jumpdest t) = t < n
-Fits n m (other pc) = Unit {0}
+abbrev pub Fits : ℕ → Sym → Type 0
+Fits m (before p) = p < m
+Fits m (constant v) = Unit {0}
+Fits m (jumpdest t) = Unit {0}
+Fits m (other pc) = Unit {0}
 
-data All (n m : ℕ) : List Sym → Type 0 where
-  no-more : All n m []
-  and-more : {x : Sym} {xs : List Sym} → Fits n m x → All n m xs → All n m (x ∷ xs)
+data All (m : ℕ) : List Sym → Type 0 where
+  no-more : All m []
+  and-more : {x : Sym} {xs : List Sym} → Fits m x → All m xs → All m (x ∷ xs)
 
 -- after k instructions
-record Sound (n k : ℕ) (s : Stack) : Type 0 where
-  all : All n (17 * k + 17) (s .above)
+record Sound (k : ℕ) (s : Stack) : Type 0 where
+  all : All (17 * k + 17) (s .above)
   low : s .base ≤ 17 * k
 
-fits-more : (n m l : ℕ) → m ≤ l → (x : Sym) → Fits n m x → Fits n l x
-fits-more n m l h (before p) f = omega arith
-fits-more n m l h (constant v) f = tt
-fits-more n m l h (jumpdest t) f = f
-fits-more n m l h (other pc) f = tt
+fits-more : (m l : ℕ) → m ≤ l → (x : Sym) → Fits m x → Fits l x
+fits-more m l h (before p) f = omega arith
+fits-more m l h (constant v) f = tt
+fits-more m l h (jumpdest t) f = tt
+fits-more m l h (other pc) f = tt
 
-all-more : {n m l : ℕ} {xs : List Sym} → m ≤ l → All n m xs → All n l xs
+all-more : {m l : ℕ} {xs : List Sym} → m ≤ l → All m xs → All l xs
 all-more h no-more = no-more
-all-more {n} {m} {l} h (and-more {x} f a) = and-more (fits-more n m l h x f) (all-more h a)
+all-more {m} {l} h (and-more {x} f a) = and-more (fits-more m l h x f) (all-more h a)
 
-sound-more : {n k m : ℕ} {s : Stack} → k ≤ m → Sound n k s → Sound n m s
+sound-more : {k m : ℕ} {s : Stack} → k ≤ m → Sound k s → Sound m s
 sound-more h o = record { all = all-more (omega arith) (o .all); low = omega (arith, o .low) }
 
-fits-deep : (n m : ℕ) (x : Sym) → Fits n m x → depth x ≤ m
-fits-deep n m (before p) f = omega arith
-fits-deep n m (constant v) f = omega arith
-fits-deep n m (jumpdest t) f = omega arith
-fits-deep n m (other pc) f = omega arith
+fits-deep : (m : ℕ) (x : Sym) → Fits m x → depth x ≤ m
+fits-deep m (before p) f = omega arith
+fits-deep m (constant v) f = omega arith
+fits-deep m (jumpdest t) f = omega arith
+fits-deep m (other pc) f = omega arith
 
-all-deep : {n m : ℕ} {xs : List Sym} → All n m xs → deepest xs ≤ m
+all-deep : {m : ℕ} {xs : List Sym} → All m xs → deepest xs ≤ m
 unfolding deepest
 all-deep no-more = omega arith
-all-deep {n} {m} (and-more {x} f a) = omega (arith, fits-deep n m x f, all-deep a)
+all-deep {m} (and-more {x} f a) = omega (arith, fits-deep m x f, all-deep a)
 
-module _ {n m : ℕ} where
-  all-drop : (k : ℕ) {xs : List Sym} → All n m xs → All n m (drop k xs)
+module _ {m : ℕ} where
+  all-drop : (k : ℕ) {xs : List Sym} → All m xs → All m (drop k xs)
   all-drop zero a = a
   all-drop (suc k) no-more = no-more
   all-drop (suc k) (and-more f a) = all-drop k a
 
-  all-append : {xs ys : List Sym} → All n m xs → All n m ys → All n m (xs ++ ys)
+  all-append : {xs ys : List Sym} → All m xs → All m ys → All m (xs ++ ys)
   all-append no-more b = b
   all-append (and-more f a) b = and-more f (all-append a b)
 
-  all-others : (k pc : ℕ) → All n m (replicate k (other pc))
+  all-others : (k pc : ℕ) → All m (replicate k (other pc))
   all-others zero pc = no-more
   all-others (suc k) pc = and-more tt (all-others k pc)
 
-  fits-reads : {xs : List Sym} (base i : ℕ) → All n m xs → base + i < m → Fits n m (reads xs base i)
+  fits-reads : {xs : List Sym} (base i : ℕ) → All m xs → base + i < m → Fits m (reads xs base i)
   fits-reads base i no-more h = h
   fits-reads base zero (and-more f a) h = f
   fits-reads base (suc i) (and-more f a) h = fits-reads base i a (omega arith)
 
-value-fits : (code : List ℕ) (m v : ℕ) → Fits (length code) m (from-value code v)
-value-fits code m v = both (Fits (length code) m) (eqb (getD code v 0) 0x5B) (λ e. inside (eqb-true _ _ e) (decLt v (length code))) (λ _. tt)
-  where
-    inside : getD code v 0 ≡ 0x5B → Dec (v < length code) → v < length code
-    inside e (yes l) = l
-    inside e (no l) = absurd (let h : length code ≤ v = omega arith in omega (arith, e, List·getD-eq-default code 0 h))
+value-fits : (code : List ℕ) (m v : ℕ) → Fits m (from-value code v)
+value-fits code m v = both (Fits m) (eqb (getD code v 0) 0x5B) (λ _. tt) (λ _. tt)
 
 -- ---- one instruction
 
@@ -102,22 +96,22 @@ Near lands = Unit {0}
 Near halts = Unit {0}
 Near plain = Unit {0}
 
-module _ (code : List ℕ) {k : ℕ} {s : Stack} (o : Sound (length code) k s) where
+module _ (code : List ℕ) {k : ℕ} {s : Stack} (o : Sound k s) where
   abbrev Next : Stack → Type 0
-  Next t = Sound (length code) (suc k) t
+  Next t = Sound (suc k) t
 
   abbrev FitsNext : Sym → Type 0
-  FitsNext x = Fits (length code) (17 * suc k + 17) x
+  FitsNext x = Fits (17 * suc k + 17) x
 
-  later : All (length code) (17 * suc k + 17) (s .above)
+  later : All (17 * suc k + 17) (s .above)
   later = all-more (omega arith) (o .all)
 
-  read-now : (i : ℕ) → i ≤ 16 → Fits (length code) (17 * k + 17) (read s i)
+  read-now : (i : ℕ) → i ≤ 16 → Fits (17 * k + 17) (read s i)
   unfolding read
   read-now i h = fits-reads (s .base) i (o .all) (omega (arith, o .low))
 
   read-fits : (i : ℕ) → i ≤ 16 → FitsNext (read s i)
-  read-fits i h = fits-more (length code) (17 * k + 17) (17 * suc k + 17) (omega arith) (read s i) (read-now i h)
+  read-fits i h = fits-more (17 * k + 17) (17 * suc k + 17) (omega arith) (read s i) (read-now i h)
 
   pops-next : (i : ℕ) → i ≤ 17 → Next (pops i s)
   pops-next i h = record { all = all-drop i later; low = omega (arith, o .low) }
@@ -125,7 +119,7 @@ module _ (code : List ℕ) {k : ℕ} {s : Stack} (o : Sound (length code) k s) w
   push-next : (x : Sym) → FitsNext x → Next (push x s)
   push-next x f = record { all = and-more f later; low = omega (arith, o .low) }
 
-  pushes-next : (i : ℕ) {xs : List Sym} → i ≤ 17 → All (length code) (17 * suc k + 17) xs → Next (pushes xs (pops i s))
+  pushes-next : (i : ℕ) {xs : List Sym} → i ≤ 17 → All (17 * suc k + 17) xs → Next (pushes xs (pops i s))
   pushes-next i h a = let p = pops-next i h in record { all = all-append a (p .all); low = p .low }
 
   replace-next : (x : Sym) → FitsNext x → Next (push x (pops 2 s))
@@ -142,7 +136,7 @@ module _ (code : List ℕ) {k : ℕ} {s : Stack} (o : Sound (length code) k s) w
   summed-fits pc (some v) none = tt
   summed-fits pc (some v) (some u) = both FitsNext (ltb (v + u) (2 ^ 64)) (λ _. value-fits code (17 * suc k + 17) (v + u)) (λ _. tt)
 
-  span-fits : (i j : ℕ) → i + j ≤ 17 → All (length code) (17 * suc k + 17) (span s i j)
+  span-fits : (i j : ℕ) → i + j ≤ 17 → All (17 * suc k + 17) (span s i j)
   span-fits i zero h = no-more
   span-fits i (suc j) h = and-more (read-fits i (omega arith)) (span-fits (suc i) j (omega arith))
 
@@ -184,23 +178,23 @@ near b =
 -- ---- the run
 
 -- where a run goes, if it goes anywhere
-abbrev pub Goes : ℕ → ℕ → Option Sym → Type 0
-Goes n m none = Unit {0}
-Goes n m (some x) = Fits n m x
+abbrev pub Goes : ℕ → Option Sym → Type 0
+Goes m none = Unit {0}
+Goes m (some x) = Fits m x
 
 -- where it goes, and the stack that it leaves, after m instructions at most
-record Ends (n m : ℕ) (r : Ran) : Type 0 where
-  goes : Goes n (17 * m + 17) (r .goes)
-  stack : Sound n m (r .stack)
+record Ends (m : ℕ) (r : Ran) : Type 0 where
+  goes : Goes (17 * m + 17) (r .goes)
+  stack : Sound m (r .stack)
 
 module _ (code : List ℕ) (start : ℕ) where
-  leaps : {k : ℕ} {s t : Stack} → Sound (length code) k s → Sound (length code) (suc k) t → (m : ℕ) → suc k ≤ m
-      → Ends (length code) m (record { stack = t; goes = some (read s 0) })
+  leaps : {k : ℕ} {s t : Stack} → Sound k s → Sound (suc k) t → (m : ℕ) → suc k ≤ m
+      → Ends m (record { stack = t; goes = some (read s 0) })
   leaps {k} {s} o p m h =
-      record { goes = fits-more (length code) (17 * k + 17) (17 * m + 17) (omega arith) (read s 0) (read-now code o 0 (omega arith)); stack = sound-more h p }
+      record { goes = fits-more (17 * k + 17) (17 * m + 17) (omega arith) (read s 0) (read-now code o 0 (omega arith)); stack = sound-more h p }
 
-  after-ends : {k : ℕ} {s t : Stack} → Sound (length code) k s → Sound (length code) (suc k) t → (m : ℕ) → suc k ≤ m
-      → (i : Ins) (on : Ran) → Ends (length code) m on → (d : Does) → Ends (length code) m (after start i s t on d)
+  after-ends : {k : ℕ} {s t : Stack} → Sound k s → Sound (suc k) t → (m : ℕ) → suc k ≤ m
+      → (i : Ins) (on : Ran) → Ends m on → (d : Does) → Ends m (after start i s t on d)
   after-ends o p m h i on e pushes-value = e
   after-ends o p m h i on e pushes-pc = e
   after-ends o p m h i on e (dups n) = e
@@ -209,11 +203,11 @@ module _ (code : List ℕ) (start : ℕ) where
   after-ends o p m h i on e adds = e
   after-ends o p m h i on e jumps = leaps o p m h
   after-ends o p m h i on e jumpis = leaps o p m h
-  after-ends o p m h i on e lands = both (Ends (length code) m) (eqb (i .pc) start) (λ _. e) (λ _. record { goes = tt; stack = sound-more (omega arith) o })
+  after-ends o p m h i on e lands = both (Ends m) (eqb (i .pc) start) (λ _. e) (λ _. record { goes = tt; stack = sound-more (omega arith) o })
   after-ends o p m h i on e halts = record { goes = tt; stack = sound-more h p }
   after-ends o p m h i on e plain = e
 
-  runs-ends : (is : List Ins) {k : ℕ} {s : Stack} → Sound (length code) k s → (m : ℕ) → k + length is ≤ m → Ends (length code) m (runs code start is s)
+  runs-ends : (is : List Ins) {k : ℕ} {s : Stack} → Sound k s → (m : ℕ) → k + length is ≤ m → Ends m (runs code start is s)
   runs-ends [] o m h = record { goes = tt; stack = sound-more (omega arith) o }
   runs-ends (i ∷ is) o m h =
       let p = act-next code o i (does (i .op)) (near (i .op)) in
@@ -230,43 +224,36 @@ from-short a (i ∷ is) =
     let r = from-short a is in
     both (λ (l : List Ins). length l ≤ length (i ∷ is)) (leb a (i .pc)) (λ _. omega arith) (λ _. omega arith)
 
-begun : {n : ℕ} → Sound n 0 entry
+begun : Sound 0 entry
 begun = record { all = no-more; low = omega arith }
 
 -- ---- a trimmed stack: no symbol is new
 
-sound-settle : {n k : ℕ} (x : Sym) (xs : List Sym) (base : ℕ) → Fits n (17 * k + 17) x → Sound n k (record { above = xs; base = base })
-    → Sound n k (settle x xs base)
-sound-settle {n} {k} x [] base f o =
-    both (Sound n k) (joins x base) (λ _. record { all = no-more; low = omega (arith, o .low) }) (λ _. record { all = and-more f no-more; low = o .low })
+sound-settle : {k : ℕ} (x : Sym) (xs : List Sym) (base : ℕ) → Fits (17 * k + 17) x → Sound k (record { above = xs; base = base })
+    → Sound k (settle x xs base)
+sound-settle {k} x [] base f o =
+    both (Sound k) (joins x base) (λ _. record { all = no-more; low = omega (arith, o .low) }) (λ _. record { all = and-more f no-more; low = o .low })
 sound-settle x (y ∷ ys) base f o = record { all = and-more f (o .all); low = o .low }
 
-sound-trims : {n k : ℕ} {xs : List Sym} {base : ℕ} → All n (17 * k + 17) xs → base ≤ 17 * k → Sound n k (trims xs base)
+sound-trims : {k : ℕ} {xs : List Sym} {base : ℕ} → All (17 * k + 17) xs → base ≤ 17 * k → Sound k (trims xs base)
 sound-trims no-more h = record { all = no-more; low = h }
 sound-trims {base = base} (and-more {x} {xs} f a) h = sound-settle x (trims xs base .above) (trims xs base .base) f (sound-trims a h)
 
 -- ---- the whole run, from any place
 
 module _ (code : List ℕ) (start : ℕ) where
-  ran : Ends (length code) (length code) (runs code start (from start (instructions code)) entry)
+  ran : Ends (length code) (runs code start (from start (instructions code)) entry)
   ran =
       let few = walk-short (walked code) (omega arith) in
       runs-ends code start (from start (instructions code)) begun (length code) (omega (arith, from-short start (instructions code)))
 
-  own : Sound (length code) (length code) (run code (instructions code) start .stack)
+  own : Sound (length code) (run code (instructions code) start .stack)
   unfolding run trim
   own = let o = ran .stack in sound-trims (o .all) (o .low)
 
-  pub run-goes : Goes (length code) (17 * length code + 17) (run code (instructions code) start .goes)
+  pub run-goes : Goes (17 * length code + 17) (run code (instructions code) start .goes)
   unfolding run
   run-goes = ran .goes
-
-  pub run-lands : (t : ℕ) → In (jumpdest t) (run code (instructions code) start .stack .above) → t < length code
-  run-lands t i = lands-in (own .all) i
-    where
-      lands-in : {n m : ℕ} {xs : List Sym} → All n m xs → In (jumpdest t) xs → t < n
-      lands-in (and-more f a) here = f
-      lands-in (and-more f a) (there j) = lands-in a j
 
   pub run-deep : reach (run code (instructions code) start .stack) ≤ 17 * length code + 17
   run-deep = let o = own in omega (arith, reach-is (run code (instructions code) start .stack), all-deep (o .all), o .low)

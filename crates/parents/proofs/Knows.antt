@@ -15,11 +15,11 @@ use Rattle.spec.specs.Answer.{prepared}
 use Rattle.lent.proofs.Numbers.{num-prefix}
 use Rattle.theorems.proofs.Members.{In, here, there, in-keep, in-gather, in-map}
 use Rattle.theorems.proofs.Cutting.{block-afresh}
+use Rattle.theorems.proofs.Sides.{node-within, sides-within}
 use Rattle.initial.proofs.Rows.{blocks-prefix}
 use Rattle.parents.specs.Links.{Turn, turnOf, directTo, fromOf}
 use Rattle.parents.specs.Contracts.{Known}
 use Rattle.parents.proofs.Goals.{Goes, run-goes}
-use Rattle.parents.proofs.Falls.{node-within, sides-within}
 use Rattle.parents.proofs.Chains.{parents-prefix, takers-prefix, Shape, takes-none, takes-one, shape}
 
 -- all of it depends on the rows alone
@@ -102,7 +102,7 @@ module _ (code : List ℕ) where
   pub taker-near : {k : Taker} → In k (takers (prepared code)) → k .position < 17 * length code + 17
   taker-near i = let g = taken i in let b = prepares (g .1) in near (ap (λ (r : Node). r .own .goes) (sym (b .is)) ∙ g .2 .goes) (run-goes code (b .from-block .start))
     where
-      near : {o : Option Sym} {p : ℕ} → o ≡ some (before p) → Goes (length code) (17 * length code + 17) o → p < 17 * length code + 17
+      near : {o : Option Sym} {p : ℕ} → o ≡ some (before p) → Goes (17 * length code + 17) o → p < 17 * length code + 17
       near e h = rw e at h
 
   -- ---- the direct parents

@@ -1,7 +1,6 @@
 pub mod Parts
 pub mod Leaves
 pub mod Goals
-pub mod Falls
 pub mod Slots
 pub mod Settling
 pub mod Pass

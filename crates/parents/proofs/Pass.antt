@@ -19,6 +19,7 @@ use Rattle.lent.proofs.Numbers.{num-within}
 use Rattle.theorems.proofs.Branch.{both}
 use Rattle.theorems.proofs.Members.{In}
 use Rattle.theorems.proofs.Cutting.{made, block-afresh}
+use Rattle.theorems.proofs.Sides.{Within, block-within, node-within}
 use Rattle.initial.specs.Rows.{typed, typeOf, tagAt, typeAt, kindAt, blockAt, rowBlocks, blocksFrom}
 use Rattle.initial.proofs.Types.{Good, good}
 use Rattle.initial.proofs.Rows.{here-empty, here-block, by-row, from-one, block-in}
@@ -26,7 +27,6 @@ use Rattle.initial.specs.declared.row.BlockType.{BlockType}
 use Rattle.parents.specs.Rows.{ownBytes, linkBytes, turnsOf, firstTaker, takerPast, edgeTo, firstTo, ownOf, linksOf, nodesHere, nodesFrom}
 use Rattle.parents.specs.Writes.{linkSides, place, goesAt}
 use Rattle.parents.specs.Contracts.{Lent, Beside, Sides, Wrote, Settles, Settled}
-use Rattle.parents.proofs.Falls.{Within, block-within, node-within}
 use Rattle.parents.proofs.Slots.{own, first, links, own-type, Rows, rows-ran, rows-sides, rows-placed}
 use Rattle.parents.proofs.Settling.{none-own, none-links, first-zero, block-own, block-links, looks, settles}
 

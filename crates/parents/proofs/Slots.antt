@@ -19,6 +19,7 @@ use Rattle.lent.proofs.Parts.{part-prefix}
 use Rattle.lent.proofs.Numbers.{num-within, number-little}
 use Rattle.lent.proofs.Stored.{stored, kept-drop, kept-part, read-all}
 use Rattle.theorems.proofs.Branch.{both, if-true, if-false}
+use Rattle.theorems.proofs.Sides.{Within}
 use Rattle.initial.specs.Rows.{typeOf, tagAt, typeAt, headOf}
 use Rattle.initial.specs.declared.row.BlockType.{BlockType}
 use Rattle.parents.specs.Links.{firstAt}
@@ -27,7 +28,6 @@ use Rattle.parents.specs.Writes.{link, linkSides, takeTurn, staticType, 
 use Rattle.state.specs.Owns.{roomOf}
 use Rattle.parents.specs.Contracts.{Beside, Ran}
 use Rattle.parents.proofs.Parts.{part-stored}
-use Rattle.parents.proofs.Falls.{Within}
 
 abbrev pub own : List ℕ → ℕ → List ℕ
 own w a = take 12 (drop (20 * a) w)

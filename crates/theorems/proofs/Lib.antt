@@ -26,3 +26,15 @@ pub mod Refusals
 pub mod Demand3
 pub mod Answered
 pub mod Sessions
+pub mod Landing
+pub mod Sides
+pub mod Decimal
+pub mod Readers
+pub mod JsonReader
+pub mod JsonRead
+pub mod BlockEntries
+pub mod Passing
+pub mod Inside
+pub mod JsonText
+pub mod JsonCall
+pub mod JsonSessions

@@ -1,6 +1,7 @@
 //! The model against the unchanged Rust: every block, type, path and destination, in order.
 
 pub mod families;
+pub mod json;
 
 use model::{Block, Entry, HIGHEST_LIMIT, Kind, Lent};
 use oracle::control_flow_graph::{Block as RustBlock, BlockType, DynamicJump};

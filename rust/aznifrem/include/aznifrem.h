@@ -25,6 +25,7 @@ extern "C" {
 #define AZNIFREM_R_SHORT 7
 #define AZNIFREM_Q_SHORT 8
 #define AZNIFREM_OUT_SHORT 9
+#define AZNIFREM_TEXT_SHORT 11 /* of aznifrem_json alone */
 
 /* Maps a code with an energy limit, in memory that the caller lends; no other is used.
  *
@@ -57,6 +58,24 @@ uint64_t aznifrem_map(uint64_t limit, const uint8_t *code, size_t code_len,
                       uint8_t *s, size_t s_len, uint8_t *t, size_t t_len,
                       uint8_t *r, size_t r_len, uint8_t *q, size_t q_len,
                       uint8_t *out, size_t out_len);
+
+/* The same, and the answer's blocks as JSON in one more part:
+ *
+ *   text  a list of objects with id, start, end, type and data, as serde makes it of evmole's
+ *         blocks; no spaces, a missing destination is null. There is no zero byte at its end.
+ *
+ * Gives the number of a refusal, 1 to 9 or 11, which comes last; or the bytes written to out and,
+ * times 2^32, those written to text: AZNIFREM_OUT_BYTES and AZNIFREM_TEXT_BYTES. On a refusal text
+ * is untouched; on an answer its bytes after the written ones are. On 11 the others are as on 9. */
+uint64_t aznifrem_json(uint64_t limit, const uint8_t *code, size_t code_len,
+                       uint8_t *w, size_t w_len, uint8_t *p, size_t p_len,
+                       uint8_t *s, size_t s_len, uint8_t *t, size_t t_len,
+                       uint8_t *r, size_t r_len, uint8_t *q, size_t q_len,
+                       uint8_t *out, size_t out_len, uint8_t *text, size_t text_len);
+
+/* The two counts of an answer of aznifrem_json. */
+#define AZNIFREM_OUT_BYTES(n) ((size_t)((n) & 0xffffffffu))
+#define AZNIFREM_TEXT_BYTES(n) ((size_t)((n) >> 32))
 
 #ifdef __cplusplus
 }

@@ -1,4 +1,4 @@
-//! The call that maps a code.
+//! The calls that map a code, with its text or without.
 
 use crate::error::NotRelayed;
 use crate::exported;
@@ -60,4 +60,50 @@ pub(crate) fn called(code: &[u8], limit: u64, lent: &mut Lent) -> Result<u64, No
         out,
     } = lent;
     exported::aznifrem_map(limit, code, w, p, s, t, r, q, out)
+}
+
+/// The library's call that also writes the blocks as JSON, to `text`: the refusal's number, 1 to 9 or
+/// 11; or the bytes written to `out` and, times 2^32, those written to `text`. Of the rooms and of
+/// `out` all is as after [`call`], on 11 as on 9; `text` is touched by an answer alone, in the bytes
+/// written.
+///
+/// ```
+/// use aznifrem::{Lent, call_json};
+///
+/// let (mut w, mut room, mut out) = ([0xaa; 320], [[0xaa; 64]; 5], [0xaa; 64]);
+/// let (mut text, [p, s, t, r, q]) = ([0xaa; 80], &mut room);
+/// let mut lent = Lent { w: &mut w, p, s, t, r, q, out: &mut out };
+/// let written = call_json(&[0x00], 0, &mut lent, &mut text);
+/// assert_eq!(written, 29 + (71 << 32));
+/// assert_eq!((&text[..6], text[71]), (&b"[{\"id\""[..], 0xaa));
+/// assert_eq!(call_json(&[0x00], 0, &mut lent, &mut text[..70]), 11);
+/// ```
+///
+/// # Panics
+///
+/// As [`call`].
+pub fn call_json(code: &[u8], limit: u64, lent: &mut Lent, text: &mut [u8]) -> u64 {
+    match called_json(code, limit, lent, text) {
+        Ok(number) => number,
+        Err(not_relayed) => panic!("{not_relayed}"),
+    }
+}
+
+/// The same; an error only where the machine is not x86-64.
+pub(crate) fn called_json(
+    code: &[u8],
+    limit: u64,
+    lent: &mut Lent,
+    text: &mut [u8],
+) -> Result<u64, NotRelayed> {
+    let Lent {
+        w,
+        p,
+        s,
+        t,
+        r,
+        q,
+        out,
+    } = lent;
+    exported::aznifrem_json(limit, code, w, p, s, t, r, q, out, text)
 }

@@ -19,7 +19,8 @@
 //! ```
 //!
 //! A [`Mapper`] keeps its memory between calls; [`Map::from_bytes`] reads a map that was stored;
-//! [`call`] is the library's own call, for those who lend the memory themselves.
+//! [`Mapper::json`] gives the blocks as JSON; [`call`] and [`call_json`] are the library's own calls,
+//! for those who lend the memory themselves.
 
 #![warn(missing_docs)]
 
@@ -49,7 +50,7 @@ mod memory;
 mod relay;
 
 pub use bounds::{HIGHEST_LIMIT, LONGEST_CODE, RELAYED};
-pub use call::{Lent, call};
+pub use call::{Lent, call, call_json};
 pub use error::{Error, Fault, NotRelayed, Unreadable, Unwritable};
 pub use map::{Block, BlockType, DynamicJump, Map, Record};
 pub use mapper::Mapper;

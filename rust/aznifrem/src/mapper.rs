@@ -1,7 +1,7 @@
 //! Mapping one code after another in the same memory.
 
 use crate::bounds::LONGEST_CODE;
-use crate::call::called;
+use crate::call::{called, called_json};
 use crate::error::Error;
 use crate::map::Map;
 use crate::room::Room;
@@ -9,6 +9,9 @@ use crate::rooms::Rooms;
 
 /// The fewest bytes that an answer has: those of a head.
 const LEAST_WRITTEN: u64 = 18;
+
+/// The bytes of text are counted in these, the bytes of entries below.
+const TEXT_UNIT: u64 = 1 << 32;
 
 /// Maps codes in rooms that it keeps, so that a thousand of them allocate a few times. A room
 /// grows when the library refuses a call by its number; then the call is made again. At the ceiling
@@ -78,22 +81,59 @@ impl Mapper {
     /// # Ok::<(), aznifrem::Error>(())
     /// ```
     pub fn entries(&mut self, code: &[u8], limit: u64) -> Result<&[u8], Error> {
-        let number = self.answer(code, limit)?;
-        self.written(number)
+        let number = self.answer(code, limit, false)?;
+        self.written(Room::Output, number, number)
     }
 
-    /// Calls until the library answers; gives the bytes that it says it has written.
-    fn answer(&mut self, code: &[u8], limit: u64) -> Result<u64, Error> {
+    /// The map's blocks as JSON, byte for byte what serde makes of evmole's: a list of objects with
+    /// id, start, end, type and data.
+    ///
+    /// ```
+    /// let mut mapper = aznifrem::Mapper::new();
+    /// let text = mapper.json(&[0x00], 500_000)?;
+    /// assert_eq!(
+    ///     text,
+    ///     r#"[{"id":0,"start":0,"end":0,"type":"Terminate","data":{"success":true}}]"#
+    /// );
+    /// # Ok::<(), aznifrem::Error>(())
+    /// ```
+    pub fn json(&mut self, code: &[u8], limit: u64) -> Result<&str, Error> {
+        self.both(code, limit).map(|(_, text)| text)
+    }
+
+    /// The entries and the JSON text of one call: both name the same blocks, paths and destinations.
+    ///
+    /// ```
+    /// let mut mapper = aznifrem::Mapper::new();
+    /// let (entries, text) = mapper.both(&[], 500_000)?;
+    /// assert_eq!((entries.len(), text), (18, "[]"));
+    /// # Ok::<(), aznifrem::Error>(())
+    /// ```
+    pub fn both(&mut self, code: &[u8], limit: u64) -> Result<(&[u8], &str), Error> {
+        let number = self.answer(code, limit, true)?;
+        let entries = self.written(Room::Output, number % TEXT_UNIT, number)?;
+        let text = self.written(Room::Text, number / TEXT_UNIT, number)?;
+        let text = std::str::from_utf8(text).map_err(|_| Error::NoSuchAnswer { number })?;
+        Ok((entries, text))
+    }
+
+    /// Calls until the library answers, with a text or without; gives what it says it has written.
+    fn answer(&mut self, code: &[u8], limit: u64, texted: bool) -> Result<u64, Error> {
         // A longer code is refused whatever is lent.
         let length = if code.len() > LONGEST_CODE {
             0
         } else {
             code.len()
         };
-        self.rooms.ready(length)?;
+        self.rooms.ready(length, texted)?;
         loop {
             self.calls += 1;
-            let number = called(code, limit, &mut self.rooms.lent(length))?;
+            let (mut lent, text) = self.rooms.lent(length);
+            let number = if texted {
+                called_json(code, limit, &mut lent, text)?
+            } else {
+                called(code, limit, &mut lent)?
+            };
             if number >= LEAST_WRITTEN {
                 return Ok(number);
             }
@@ -101,9 +141,10 @@ impl Mapper {
         }
     }
 
-    fn written(&self, number: u64) -> Result<&[u8], Error> {
-        let count = usize::try_from(number).ok();
-        let bytes = count.and_then(|count| self.rooms.written(count));
+    /// The first bytes of a room, so many, as the library's number says.
+    fn written(&self, room: Room, count: u64, number: u64) -> Result<&[u8], Error> {
+        let count = usize::try_from(count).ok();
+        let bytes = count.and_then(|count| self.rooms.written(room, count));
         bytes.ok_or(Error::NoSuchAnswer { number })
     }
 
@@ -113,8 +154,8 @@ impl Mapper {
             1 => Err(Error::CodeTooLong { length }),
             2 => Err(Error::LimitTooHigh { limit }),
             _ => match Room::named(number) {
-                Some(room) => self.rooms.grow(room),
-                None => Err(Error::NoSuchAnswer { number }),
+                Some(room) if self.rooms.lends(room) => self.rooms.grow(room),
+                _ => Err(Error::NoSuchAnswer { number }),
             },
         }
     }
@@ -137,12 +178,12 @@ impl Mapper {
 
 #[cfg(test)]
 mod tests {
-    use super::{Error, Mapper};
+    use super::{Error, Mapper, Room};
 
     #[test]
     fn numbers_that_document_01_does_not_have_are_told() {
         let mut mapper = Mapper::new();
-        for number in [0, 10, 17] {
+        for number in [0, 10, 11, 17] {
             let told = mapper.answer_refusal(number, 1, 1);
             assert_eq!(told, Err(Error::NoSuchAnswer { number }));
         }
@@ -151,6 +192,7 @@ mod tests {
         let told = mapper.answer_refusal(3, 1, 1);
         assert_eq!(told, Err(Error::NoSuchAnswer { number: 3 }));
         let number = 1 << 40;
-        assert_eq!(mapper.written(number), Err(Error::NoSuchAnswer { number }));
+        let told = mapper.written(Room::Output, number, number);
+        assert_eq!(told, Err(Error::NoSuchAnswer { number }));
     }
 }

@@ -1,4 +1,4 @@
-//! The rooms by document 01's letters: their units, and what they begin with.
+//! The rooms by document 01's letters, and the text's: their units, and what they begin with.
 
 use std::fmt;
 
@@ -6,7 +6,7 @@ const KIB: usize = 1 << 10;
 /// "Of any room at most 2^30 units count as lent."
 pub(crate) const MOST_UNITS: usize = 1 << 30;
 
-/// A lent room, by its letter in document 01.
+/// A lent room, by its letter in document 01, or the text's.
 #[derive(Clone, Copy, Debug, PartialEq, Eq, Hash)]
 pub enum Room {
     /// Work.
@@ -23,9 +23,11 @@ pub enum Room {
     Q,
     /// The answer.
     Output,
+    /// The answer's JSON text.
+    Text,
 }
 
-pub(crate) const ROOMS: [Room; 7] = [
+pub(crate) const ROOMS: [Room; 8] = [
     Room::W,
     Room::P,
     Room::S,
@@ -33,12 +35,16 @@ pub(crate) const ROOMS: [Room; 7] = [
     Room::R,
     Room::Q,
     Room::Output,
+    Room::Text,
 ];
 
 impl Room {
     /// The number of the refusal that names this room.
     pub fn refusal(self) -> u8 {
-        self as u8 + 3
+        match self {
+            Room::Text => 11,
+            room => room as u8 + 3,
+        }
     }
 
     /// The room that a refusal names.
@@ -50,7 +56,7 @@ impl Room {
     /// Bytes of one unit: an address, a symbol, a row, a record or a byte.
     pub(crate) fn unit(self) -> usize {
         match self {
-            Room::W | Room::Output => 1,
+            Room::W | Room::Output | Room::Text => 1,
             Room::P | Room::Q => 2,
             Room::S => 9,
             Room::T | Room::R => 32,
@@ -62,7 +68,8 @@ impl Room {
         MOST_UNITS.saturating_mul(self.unit())
     }
 
-    /// What a room has before anything asks for more; W is lent by the code's length.
+    /// What a room has before anything asks for more; W is lent by the code's length, and the text's
+    /// to calls that write one.
     pub(crate) fn start(self) -> usize {
         match self {
             Room::W => 0,
@@ -82,6 +89,7 @@ impl fmt::Display for Room {
             Room::R => "R (records)",
             Room::Q => "Q (recorded paths)",
             Room::Output => "out (the answer)",
+            Room::Text => "text (the answer's JSON)",
         })
     }
 }

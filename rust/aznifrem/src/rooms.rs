@@ -12,10 +12,12 @@ fn work(code_length: usize) -> usize {
     64 * code_length + 256
 }
 
-/// Parts of the rest, the larger the more often a room was refused; none for W, whose need is known.
-fn shares(rest: usize, refused: &[usize; ROOMS.len()]) -> [usize; ROOMS.len()] {
+/// Parts of the rest, the larger the more often a room was refused; none for W, whose need is known,
+/// and none for a text that is not asked for.
+fn shares(rest: usize, refused: &[usize; ROOMS.len()], texted: bool) -> [usize; ROOMS.len()] {
     let weight = |room: Room| match room {
         Room::W => 0,
+        Room::Text if !texted => 0,
         _ => 1 + 4 * refused[room as usize] as u128,
     };
     let weights = ROOMS.map(weight);
@@ -32,6 +34,8 @@ pub(crate) struct Rooms {
     needed: [usize; ROOMS.len()],
     /// Once the ceiling is met and shared: how often each room was refused since.
     shared: Option<[usize; ROOMS.len()]>,
+    /// Whether the text is asked for.
+    texted: bool,
     pub ceiling: usize,
     pub allocations: u64,
 }
@@ -49,9 +53,10 @@ impl Rooms {
         self.held.iter().map(Vec::len).sum()
     }
 
-    /// Before a call: every room at its start at least, and W as this code needs it. If the ceiling
-    /// is too low for that, the call says so, after what it has to say first.
-    pub fn ready(&mut self, code_length: usize) -> Result<(), Error> {
+    /// Before a call, with a text or without: every room at its start at least, and W as this code
+    /// needs it. If the ceiling is too low for that, the call says so, after what it has to say first.
+    pub fn ready(&mut self, code_length: usize, texted: bool) -> Result<(), Error> {
+        self.texted = texted;
         if self.shared.take().is_some() {
             self.held = Default::default();
         }
@@ -60,7 +65,7 @@ impl Rooms {
         for room in ROOMS {
             let start = room.start().min(self.ceiling / 8);
             let lent = self.lent_to(room);
-            if lent < start || lent > KEPT {
+            if self.lends(room) && (lent < start || lent > KEPT) {
                 self.allocate(room, start)?;
             }
         }
@@ -103,7 +108,7 @@ impl Rooms {
         };
         let times = self.shared.get_or_insert_default();
         times[refused as usize] += 1;
-        let shares = shares(rest, times);
+        let shares = shares(rest, times, self.texted);
         let sizes = ROOMS.map(|room| {
             let bytes = self.needed[room as usize].saturating_add(shares[room as usize]);
             (bytes - bytes % room.unit()).min(room.most())
@@ -121,6 +126,11 @@ impl Rooms {
         changed
             .into_iter()
             .try_for_each(|room| self.allocate(room, sizes[room as usize]))
+    }
+
+    /// Whether a call that may refuse by this room is made.
+    pub fn lends(&self, room: Room) -> bool {
+        self.texted || room != Room::Text
     }
 
     fn lent_to(&self, room: Room) -> usize {
@@ -152,24 +162,26 @@ impl Rooms {
         Ok(())
     }
 
-    /// All rooms, W only as far as this code needs it, so that no more is wiped.
-    pub fn lent(&mut self, code_length: usize) -> Lent<'_> {
-        let [w, p, s, t, r, q, out] = &mut self.held;
+    /// All rooms and the text's, W only as far as this code needs it, so that no more is wiped.
+    pub fn lent(&mut self, code_length: usize) -> (Lent<'_>, &mut [u8]) {
+        let [w, p, s, t, r, q, out, text] = &mut self.held;
         let work = work(code_length).min(w.len());
-        Lent {
-            w: &mut w[..work],
+        let w = &mut w[..work];
+        let lent = Lent {
+            w,
             p,
             s,
             t,
             r,
             q,
             out,
-        }
+        };
+        (lent, text)
     }
 
-    /// The first bytes of the output.
-    pub fn written(&self, count: usize) -> Option<&[u8]> {
-        self.held[Room::Output as usize].get(..count)
+    /// The first bytes of the output, or of the text.
+    pub fn written(&self, room: Room, count: usize) -> Option<&[u8]> {
+        self.held[room as usize].get(..count)
     }
 }
 
@@ -180,14 +192,14 @@ mod tests {
     #[test]
     fn the_rest_is_shared_by_refusals() {
         assert_eq!(
-            shares(60, &[3, 0, 0, 0, 0, 0, 0]),
-            [0, 10, 10, 10, 10, 10, 10]
+            shares(60, &[3, 0, 0, 0, 0, 0, 0, 0], false),
+            [0, 10, 10, 10, 10, 10, 10, 0]
         );
         assert_eq!(
-            shares(100, &[0, 0, 1, 0, 0, 0, 0]),
-            [0, 10, 50, 10, 10, 10, 10]
+            shares(110, &[0, 0, 1, 0, 0, 0, 0, 0], true),
+            [0, 10, 50, 10, 10, 10, 10, 10]
         );
-        let most = shares(usize::MAX, &[0, 9, 0, 0, 0, 0, 0]);
+        let most = shares(usize::MAX, &[0, 9, 0, 0, 0, 0, 0, 0], true);
         assert!(
             most.iter()
                 .try_fold(0_usize, |sum, share| sum.checked_add(*share))

@@ -1,4 +1,4 @@
-//! The C header and the C example: compiled, linked, run. On x86-64 by the system's `cc`, elsewhere by the tools of Rattle's kit and under
+//! The C header and the C examples: compiled, linked, run. On x86-64 by the system's `cc`, elsewhere by the tools of Rattle's kit and under
 //! its emulator.
 
 use std::path::{Path, PathBuf};
@@ -11,17 +11,24 @@ const PRINTED: &str = "0c0000000100090003000100000002000000
 0c0000000800070005000200000007000000
 ";
 
+const JSON: &str = concat!(
+    r#"[{"id":0,"start":0,"end":4,"type":"Jump","data":{"to":7}},"#,
+    r#"{"id":5,"start":5,"end":6,"type":"Terminate","data":{"success":true}},"#,
+    r#"{"id":7,"start":7,"end":8,"type":"Jump","data":{"to":5}}]"#,
+    "\n"
+);
+
 fn here() -> &'static Path {
     Path::new(env!("CARGO_MANIFEST_DIR"))
 }
 
 #[cfg(target_arch = "x86_64")]
-fn built(program: &Path) -> Command {
+fn built(example: &str, program: &Path) -> Command {
     let compiled = Command::new("cc")
         .args(["-std=c11", "-Wall", "-Wextra", "-Wpedantic"])
         .args(["-Werror", "-O1", "-I"])
         .arg(here().join("include"))
-        .arg(here().join("examples/map.c"))
+        .arg(here().join("examples").join(example))
         .arg("-L")
         .arg(env!("AZNIFREM_LINKED"))
         .args(["-laznifrem", "-o"])
@@ -41,21 +48,30 @@ mod emulator;
 mod kit;
 
 #[cfg(not(target_arch = "x86_64"))]
-fn built(program: &Path) -> Command {
+fn built(example: &str, program: &Path) -> Command {
     let kit = kit::Kit::found(std::env::consts::ARCH).expect("the kit is there");
     let headers = [here().join("relay/headers"), here().join("include")];
     let object = program.with_extension("o");
-    let compiled = kit.compile(&here().join("examples/map.c"), &headers, &object);
+    let compiled = kit.compile(&here().join("examples").join(example), &headers, &object);
     compiled.expect("it compiles");
     let library = Path::new(env!("AZNIFREM_LINKED")).join("libaznifrem.a");
     kit.link(&[&object, &library], program).expect("it links");
     emulator::emulated(&kit.tools(), program)
 }
 
+fn prints(example: &str, text: &str) {
+    let program: PathBuf = Path::new(env!("CARGO_TARGET_TMPDIR")).join(format!("{example}.built"));
+    let run = built(example, &program).output().expect("it runs");
+    assert!(run.status.success());
+    assert_eq!(String::from_utf8_lossy(&run.stdout), text);
+}
+
 #[test]
 fn the_c_example_prints_the_session() {
-    let program: PathBuf = Path::new(env!("CARGO_TARGET_TMPDIR")).join("map-in-c");
-    let run = built(&program).output().expect("it runs");
-    assert!(run.status.success());
-    assert_eq!(String::from_utf8_lossy(&run.stdout), PRINTED);
+    prints("map.c", PRINTED);
+}
+
+#[test]
+fn the_c_example_with_a_text_prints_it() {
+    prints("json.c", JSON);
 }

@@ -1,4 +1,4 @@
-//! Contracts: the library's call, the binding's map and the Rust, one after the other.
+//! Contracts: the library's call, the binding's map or text and the Rust, one after the other.
 
 use std::hint::black_box;
 use std::time::{Duration, Instant};
@@ -16,28 +16,46 @@ pub struct Class {
     pub name: &'static str,
     bytes: usize,
     style: Style,
+    /// Whether both sides also make the JSON text of the blocks.
+    texted: bool,
 }
 
-pub const CLASSES: [Class; 4] = [
+pub const CLASSES: [Class; 6] = [
     Class {
         name: "1k",
         bytes: 1_000,
         style: Style::Plain,
+        texted: false,
     },
     Class {
         name: "6k",
         bytes: 6_000,
         style: Style::Plain,
+        texted: false,
     },
     Class {
         name: "24k",
         bytes: 24_576,
         style: Style::Plain,
+        texted: false,
     },
     Class {
         name: "24k of calls",
         bytes: 24_576,
         style: Style::Calls,
+        texted: false,
+    },
+    Class {
+        name: "6k, and text",
+        bytes: 6_000,
+        style: Style::Plain,
+        texted: true,
+    },
+    Class {
+        name: "24k, and text",
+        bytes: 24_576,
+        style: Style::Plain,
+        texted: true,
     },
 ];
 
@@ -70,7 +88,7 @@ impl Class {
         let mut random = Random::new(seed.wrapping_add(self.bytes as u64));
         let draw = |_| sized(&mut random, self.bytes, self.style);
         let codes: Vec<Vec<u8>> = (0..count).map(draw).collect();
-        let mut rooms = Rooms::new();
+        let mut rooms = Rooms::new(self.texted);
         let mut mapper = Mapper::new();
         for (at, code) in codes.iter().enumerate() {
             answered(code, &mut rooms, &mut mapper, CEILING)
@@ -82,7 +100,7 @@ impl Class {
         let peaks = codes.iter().map(heap).collect();
         let times = codes
             .iter()
-            .map(|code| timed(code, &mut rooms, &mut mapper))
+            .map(|code| self.timed(code, &mut rooms, &mut mapper))
             .collect();
         Ok(Measured {
             times,
@@ -90,6 +108,29 @@ impl Class {
             lent,
             peaks,
         })
+    }
+
+    /// The three in turn, over and over: what disturbs one disturbs the others as well.
+    fn timed(&self, code: &[u8], rooms: &mut Rooms, mapper: &mut Mapper) -> Times {
+        let (mut call, mut map, mut rust) = (Vec::new(), Vec::new(), Vec::new());
+        let begun = Instant::now();
+        while call.len() < FEWEST_TURNS
+            || (call.len() < MOST_TURNS && begun.elapsed() < TIME_A_CODE)
+        {
+            call.push(time(|| rooms.call(code)));
+            if self.texted {
+                rust.push(time(|| agree::json::text(oracle::blocks(code).values())));
+                map.push(time(|| mapper.json(code, HIGHEST_LIMIT).map(str::len)));
+            } else {
+                rust.push(time(|| oracle::blocks(code)));
+                map.push(time(|| mapper.map(code, HIGHEST_LIMIT)));
+            }
+        }
+        Times {
+            call: median(&call),
+            map: median(&map),
+            rust: median(&rust),
+        }
     }
 }
 
@@ -105,25 +146,15 @@ fn answered(
         .map_err(|number| format!("the call is refused {number} within {ceiling} bytes"))?;
     let map = mapper.map(code, HIGHEST_LIMIT);
     let map = map.map_err(|error| error.to_string())?;
-    // Times of another map would say nothing.
-    assert_eq!(map.blocks.len(), oracle::blocks(code).len());
+    // Times of another map, or of another text, would say nothing.
+    let theirs = oracle::blocks(code);
+    assert_eq!(map.blocks.len(), theirs.len());
+    let text = mapper.json(code, HIGHEST_LIMIT);
+    assert_eq!(
+        text.as_deref(),
+        Ok(agree::json::text(theirs.values()).as_str())
+    );
     Ok(())
-}
-
-/// The three in turn, over and over: what disturbs one disturbs the others as well.
-fn timed(code: &[u8], rooms: &mut Rooms, mapper: &mut Mapper) -> Times {
-    let (mut call, mut map, mut rust) = (Vec::new(), Vec::new(), Vec::new());
-    let begun = Instant::now();
-    while call.len() < FEWEST_TURNS || (call.len() < MOST_TURNS && begun.elapsed() < TIME_A_CODE) {
-        call.push(time(|| rooms.call(code)));
-        rust.push(time(|| oracle::blocks(code)));
-        map.push(time(|| mapper.map(code, HIGHEST_LIMIT)));
-    }
-    Times {
-        call: median(&call),
-        map: median(&map),
-        rust: median(&rust),
-    }
 }
 
 /// Milliseconds of a run; its result is dropped within them, as a caller would have to.
@@ -209,7 +240,7 @@ mod tests {
     #[test]
     fn a_contract_that_is_refused_is_said_to_be() {
         let code = codes::worst::diamonds(9);
-        let within = |ceiling| answered(&code, &mut Rooms::new(), &mut Mapper::new(), ceiling);
+        let within = |ceiling| answered(&code, &mut Rooms::new(true), &mut Mapper::new(), ceiling);
         assert_eq!(within(1 << 30), Ok(()));
         let sentence = within(1 << 10).expect_err("a kibibyte is too little");
         assert!(sentence.starts_with("the call is refused "), "{sentence}");

@@ -157,7 +157,7 @@ fn note(measured: &mut Measured, line: &str) {
 /// The child's work: a line as soon as something is known, since it may be stopped.
 pub fn child(case: usize, which: &str, ceiling: usize) {
     let code = CASES[case].code();
-    let mut rooms = Rooms::new();
+    let mut rooms = Rooms::new(false);
     let both = which == "both";
     if both {
         if let Err(number) = rooms.grow_for(&code, ceiling) {

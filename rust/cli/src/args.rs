@@ -23,6 +23,8 @@ What comes out (the first is the default):
   --lines           each entry of the map as hexadecimal digits on a line; with two contracts or
                     more, a line == PATH before each one's
   --summary         the map for a reader
+  --json            the blocks as JSON, as serde makes it of evmole's, on a line; with --to it is a
+                    file NAME.json beside NAME.map, both of one call, and is not printed
   --to FOLDER       each map as a file NAME.map in this folder, to be stored; nothing is printed
                     unless --lines or --summary is there too. A folder that holds a .map file
                     already is refused: give a fresh one each time, so that no old map stays
@@ -57,11 +59,12 @@ pub enum Form {
     Binary,
 }
 
-/// What is printed of a map.
+/// What is printed of a map; JSON is stored where maps are.
 #[derive(Clone, Copy, Debug, PartialEq, Eq)]
 pub enum Print {
     Lines,
     Summary,
+    Json,
 }
 
 #[derive(Clone, Debug, PartialEq, Eq)]
@@ -165,6 +168,7 @@ fn option(
         "--to" => options.to = Some(value()?.into()),
         "--lines" => options.print = Some(Print::Lines),
         "--summary" => options.print = Some(Print::Summary),
+        "--json" => options.print = Some(Print::Json),
         "--hex" => options.form = Form::Hex,
         "--binary" => options.form = Form::Binary,
         "--quiet" => options.quiet = true,

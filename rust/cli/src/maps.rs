@@ -115,20 +115,50 @@ impl Job<'_> {
     /// Maps and stores one contract, and gives what is to be printed of it.
     fn one(&mut self, contract: &Named) -> Result<String, String> {
         let code = input::code(&contract.path, self.options.form)?;
+        if self.options.print == Some(Print::Json) {
+            return self.json(contract, &code);
+        }
         let entries = self.mapper.entries(&code, self.options.limit);
         let entries = entries.map_err(refusal)?;
         if let Some(folder) = &self.options.to {
-            store(folder, &contract.name, entries, &mut self.stored)?;
+            store(folder, &contract.name, "map", entries, &mut self.stored)?;
         }
         let title = contract.path.display().to_string();
         match self.options.print {
-            None => Ok(String::new()),
-            Some(Print::Lines) if self.many => Ok(format!("== {title}\n{}", lines(entries))),
-            Some(Print::Lines) => Ok(lines(entries)),
+            None | Some(Print::Json) => Ok(String::new()),
+            Some(Print::Lines) => Ok(titled(self.many, &title, &lines(entries))),
             Some(Print::Summary) => Map::from_bytes(entries)
                 .map(|map| summary::text(&title, &map))
                 .map_err(|error| Error::Unreadable(error).to_string()),
         }
+    }
+
+    /// The text and the map of one call: stored beside each other, or the text to be printed.
+    fn json(&mut self, contract: &Named, code: &[u8]) -> Result<String, String> {
+        let both = self.mapper.both(code, self.options.limit);
+        let (entries, text) = both.map_err(refusal)?;
+        let Some(folder) = &self.options.to else {
+            let title = contract.path.display().to_string();
+            return Ok(titled(self.many, &title, &format!("{text}\n")));
+        };
+        store(folder, &contract.name, "map", entries, &mut self.stored)?;
+        store(
+            folder,
+            &contract.name,
+            "json",
+            text.as_bytes(),
+            &mut self.stored,
+        )?;
+        Ok(String::new())
+    }
+}
+
+/// With a line of the contract's path before it, where there are more.
+fn titled(many: bool, title: &str, text: &str) -> String {
+    if many {
+        format!("== {title}\n{text}")
+    } else {
+        text.into()
     }
 }
 
@@ -161,15 +191,17 @@ fn lines(mut entries: &[u8]) -> String {
     text
 }
 
-/// Writes a map to the archive, beside its place first, so that no half of one is ever there.
+/// Writes a map or a text to the archive, beside its place first, so that no half of one is ever
+/// there.
 fn store(
     folder: &Path,
     name: &Path,
-    entries: &[u8],
+    ending: &str,
+    bytes: &[u8],
     stored: &mut HashSet<PathBuf>,
 ) -> Result<(), String> {
     let mut file = folder.join(name).into_os_string();
-    file.push(".map");
+    file.push(format!(".{ending}"));
     let file = PathBuf::from(file);
     if !stored.insert(file.clone()) {
         return Err(format!(
@@ -181,7 +213,7 @@ fn store(
     if let Some(parent) = file.parent() {
         fs::create_dir_all(parent).map_err(unwritable)?;
     }
-    let beside = file.with_extension("map.part");
-    fs::write(&beside, entries).map_err(unwritable)?;
+    let beside = file.with_extension(format!("{ending}.part"));
+    fs::write(&beside, bytes).map_err(unwritable)?;
     fs::rename(&beside, &file).map_err(unwritable)
 }

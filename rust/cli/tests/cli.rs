@@ -54,6 +54,40 @@ fn the_summary_can_be_read() {
     assert!(out.contains("dynamic 1, unresolved 1;"), "{out}");
 }
 
+const JSON: &str = r#"[{"id":0,"start":0,"end":4,"type":"Jump","data":{"to":7}},{"id":5,"start":5,"end":6,"type":"Terminate","data":{"success":true}},{"id":7,"start":7,"end":8,"type":"Jump","data":{"to":5}}]"#;
+
+#[test]
+fn the_blocks_are_printed_as_json() {
+    let given = all(&run_with(RETURN, &["--json", "-"]));
+    assert_eq!(given, (0, format!("{JSON}\n"), String::new()));
+    let here = folder("json-printed");
+    put(&here, "code/a.hex", RETURN);
+    put(&here, "code/b.hex", "");
+    let (exit, out, _) = all(&run(&here, &["--json", "code"]));
+    let expected = format!("== code/a.hex\n{JSON}\n== code/b.hex\n[]\n");
+    assert_eq!((exit, out), (0, expected));
+}
+
+#[test]
+fn json_is_stored_beside_the_map() {
+    let here = folder("json-stored");
+    put(&here, "code/deep/a.hex", RETURN);
+    put(&here, "code/b.hex", "00".repeat(24_577));
+    let (exit, out, said) = all(&run(&here, &["--json", "--to", "page", "code"]));
+    assert_eq!((exit, out.as_str()), (1, ""));
+    assert!(said.contains("refused 1"), "{said}");
+    let stored = |name: &str| fs::read(here.join("page").join(name));
+    assert_eq!(
+        stored("deep/a.hex.json").expect("it is stored"),
+        JSON.as_bytes()
+    );
+    assert!(stored("b.hex.json").is_err() && stored("b.hex.map").is_err());
+    let plain = all(&run(&here, &["--to", "maps", "code/deep"]));
+    assert_eq!(plain.0, 0);
+    let alone = fs::read(here.join("maps/a.hex.map")).expect("it is stored");
+    assert_eq!(stored("deep/a.hex.map").expect("it is stored"), alone);
+}
+
 #[test]
 fn a_folder_of_both_forms_is_mapped_in_order() {
     let here = folder("both-forms");

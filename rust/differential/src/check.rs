@@ -1,15 +1,19 @@
 //! Everything that is held against each other on one code.
 
+use std::collections::BTreeMap;
+
 use agree::{ENOUGH, has_other_row};
 use aznifrem::{Block, BlockType, DynamicJump, Map};
 use codes::Random;
 use model::{Answer, HIGHEST_LIMIT, LONGEST_CODE, Lent, Refusal, rooms};
 use oracle::control_flow_graph as rust;
 
+use crate::json;
 use crate::lend::{self, Given};
-use crate::mismatch::{Mismatch, mismatch};
+use crate::mismatch::{Mismatch, different, mismatch};
+use crate::nearby::{longer, short};
 use crate::panics::caught;
-use crate::port::Port;
+use crate::port::{JsonPort, Port};
 
 /// What came of one code.
 #[derive(Clone, Copy, Debug, PartialEq, Eq)]
@@ -27,9 +31,16 @@ pub enum Verdict {
 #[derive(Clone, Copy)]
 pub struct Checker {
     pub port: Port,
+    pub json: JsonPort,
 }
 
 impl Checker {
+    /// The proved library.
+    pub const LIBRARY: Checker = Checker {
+        port: aznifrem::call,
+        json: aznifrem::call_json,
+    };
+
     /// All calls on one code; the seed chooses rooms and limits beyond the plain call.
     pub fn check(&self, code: &[u8], seed: u64) -> Result<Verdict, Mismatch> {
         // The model, the library and the binding may panic: that is told with the code as well.
@@ -50,12 +61,15 @@ impl Checker {
         };
         let exact = map.needs.lent(code.len());
         let given = self.call(code, HIGHEST_LIMIT, &exact, random)?;
-        let verdict = if has_other_row(code) {
-            Verdict::OutsideTheDomain
+        let (verdict, text) = if has_other_row(code) {
+            let text = agree::json::of_model(&map.blocks);
+            (Verdict::OutsideTheDomain, text)
         } else {
-            same_blocks(code, &given.written)?;
-            Verdict::Same
+            let theirs = caught("panic of the Rust", || oracle::blocks(code))?;
+            same_blocks(&theirs, &given.written)?;
+            (Verdict::Same, agree::json::text(theirs.values()))
         };
+        json::calls(self.json, code, &map, &text, random)?;
         self.call(code, HIGHEST_LIMIT, &short(&exact, random), random)?;
         let lower = random.below(map.energy as usize + 2) as u64;
         self.call(code, lower, &longer(&exact, random), random)?;
@@ -120,56 +134,10 @@ impl Checker {
     }
 }
 
-fn different(ours: &[u8], expected: &[u8]) -> String {
-    let same = ours.iter().zip(expected).take_while(|(a, b)| a == b);
-    format!(
-        "byte {} of the answer is not the model's: {} against {}",
-        same.count(),
-        codes::to_hex(ours),
-        codes::to_hex(expected)
-    )
-}
-
-/// Rooms with one of them short: by a byte, by a unit, by half or by all.
-fn short(exact: &Lent, random: &mut Random) -> Lent {
-    let mut lent = *exact;
-    let rooms = [
-        (&mut lent.w, 1),
-        (&mut lent.p, rooms::P_UNIT),
-        (&mut lent.s, rooms::S_UNIT),
-        (&mut lent.t, rooms::T_UNIT),
-        (&mut lent.r, rooms::R_UNIT),
-        (&mut lent.q, rooms::Q_UNIT),
-        (&mut lent.out, 1),
-    ];
-    let count = rooms.len();
-    let Some((room, unit)) = rooms.into_iter().nth(random.below(count)) else {
-        return *exact;
-    };
-    let less = [1, unit, *room / 2, *room];
-    *room = room.saturating_sub(random.pick(&less));
-    lent
-}
-
-/// Rooms with up to 40 bytes more of each.
-fn longer(exact: &Lent, random: &mut Random) -> Lent {
-    let mut more = |bytes: u64| bytes + random.below(41) as u64;
-    Lent {
-        w: more(exact.w),
-        p: more(exact.p),
-        s: more(exact.s),
-        t: more(exact.t),
-        r: more(exact.r),
-        q: more(exact.q),
-        out: more(exact.out),
-    }
-}
-
 /// Every block, type, path and destination in order: the library's entries and the Rust's map.
-fn same_blocks(code: &[u8], written: &[u8]) -> Result<(), Mismatch> {
+fn same_blocks(theirs: &BTreeMap<usize, rust::Block>, written: &[u8]) -> Result<(), Mismatch> {
     let map = Map::from_bytes(written)
         .map_err(|fault| mismatch("unreadable", format!("the answer is no map: {fault}")))?;
-    let theirs = caught("panic of the Rust", || oracle::blocks(code))?;
     let ours: Vec<&Block> = map.blocks.values().collect();
     let theirs: Vec<Block> = theirs.values().map(translated).collect();
     for at in 0..ours.len().max(theirs.len()) {
@@ -213,12 +181,14 @@ fn translated(block: &rust::Block) -> Block {
 
 #[cfg(test)]
 mod tests {
+    use std::collections::BTreeMap;
+
     use super::same_blocks;
     use model::{HIGHEST_LIMIT, Lent, answer};
 
     fn against_the_rust(code: &[u8]) -> Result<(), String> {
         let answer = answer(&Lent::ALL, HIGHEST_LIMIT, code);
-        same_blocks(code, answer.written()).map_err(|found| found.kind.into())
+        same_blocks(&oracle::blocks(code), answer.written()).map_err(|found| found.kind.into())
     }
 
     #[test]
@@ -230,7 +200,7 @@ mod tests {
 
     #[test]
     fn bytes_that_are_no_map_are_found() {
-        let found = same_blocks(&[], &[1, 2, 3]).expect_err("they are no map");
+        let found = same_blocks(&BTreeMap::new(), &[1, 2, 3]).expect_err("they are no map");
         assert_eq!(found.kind, "unreadable");
     }
 }

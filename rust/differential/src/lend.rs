@@ -3,7 +3,7 @@
 use aznifrem::Lent;
 use codes::Random;
 
-use crate::port::Port;
+use crate::port::{JsonPort, Port};
 
 const FENCE: usize = 64;
 
@@ -73,6 +73,18 @@ impl Room {
         }
     }
 
+    /// Its first bytes, so many; the others are untouched.
+    fn taken(&self, count: u64) -> Result<Vec<u8>, String> {
+        let count = usize::try_from(count).unwrap_or(usize::MAX);
+        let Some(bytes) = self.inside().get(..count) else {
+            return Err(format!(
+                "{count} bytes are said to be written to {} and do not fit",
+                self.name
+            ));
+        };
+        self.untouched(count).map(|()| bytes.to_vec())
+    }
+
     fn wiped(&self) -> Result<(), String> {
         match self.inside().iter().position(|byte| *byte != 0) {
             Some(at) => Err(format!("byte {at} of {} is not wiped", self.name)),
@@ -83,10 +95,12 @@ impl Room {
 
 /// What a call gave.
 pub struct Given {
-    /// As the entry gives it: a refusal's number, or the bytes written.
+    /// As the library gives it: a refusal's number, or the bytes written.
     pub number: u64,
     /// The bytes written, none if refused.
     pub written: Vec<u8>,
+    /// The text, of a call that writes one.
+    pub text: Vec<u8>,
 }
 
 /// Calls the port in rooms of these sizes; an error if a byte is not as it must be afterwards.
@@ -97,39 +111,73 @@ pub fn call(
     lent: &model::Lent,
     random: &mut Random,
 ) -> Result<Given, String> {
+    fenced(code, rooms(lent, 0, random), |rooms, _| {
+        let number = port(code, limit, rooms);
+        (number, [if number <= 9 { 0 } else { number }, 0])
+    })
+}
+
+/// The same with a text room of this size.
+pub fn call_json(
+    port: JsonPort,
+    code: &[u8],
+    limit: u64,
+    (lent, text): (&model::Lent, u64),
+    random: &mut Random,
+) -> Result<Given, String> {
+    fenced(code, rooms(lent, text, random), |rooms, text| {
+        let number = port(code, limit, rooms, text);
+        let counts = if number <= 11 {
+            [0, 0]
+        } else {
+            [number % (1 << 32), number >> 32]
+        };
+        (number, counts)
+    })
+}
+
+/// W to Q, the output and the text's.
+fn rooms(lent: &model::Lent, text: u64, random: &mut Random) -> Vec<Room> {
     let work = [("W", lent.w), ("P", lent.p), ("S", lent.s), ("T", lent.t)];
     let rest = [("R", lent.r), ("Q", lent.q), ("the output", lent.out)];
-    let mut rooms: Vec<Room> = work
-        .into_iter()
+    work.into_iter()
         .chain(rest)
+        .chain([("the text", text)])
         .map(|(name, length)| Room::new(name, length, random))
-        .collect();
+        .collect()
+}
+
+/// Makes the call, which gives its number and the bytes said to be written to the last two rooms.
+fn fenced(
+    code: &[u8],
+    mut rooms: Vec<Room>,
+    call: impl FnOnce(&mut Lent, &mut [u8]) -> (u64, [u64; 2]),
+) -> Result<Given, String> {
     let before = code.to_vec();
-    let number = called(port, code, limit, &mut rooms);
+    let (number, counts) = called(&mut rooms, call);
     if code != before {
         return Err("the code is written to".into());
     }
     rooms.iter().try_for_each(Room::fences)?;
-    let (out, six) = rooms.split_last().expect("there are seven");
+    let (six, last) = rooms.split_at(6);
     if (1..=3).contains(&number) {
         six.iter().try_for_each(|room| room.untouched(0))?;
     } else {
         six.iter().try_for_each(Room::wiped)?;
     }
-    let count = if number <= 9 { 0 } else { number as usize };
-    let Some(written) = out.inside().get(..count) else {
-        return Err(format!(
-            "{number} bytes are said to be written and do not fit"
-        ));
-    };
-    out.untouched(count)?;
-    let written = written.to_vec();
-    Ok(Given { number, written })
+    Ok(Given {
+        number,
+        written: last[0].taken(counts[0])?,
+        text: last[1].taken(counts[1])?,
+    })
 }
 
-fn called(port: Port, code: &[u8], limit: u64, rooms: &mut [Room]) -> u64 {
-    let [w, p, s, t, r, q, out] = rooms else {
-        unreachable!("there are seven rooms");
+fn called(
+    rooms: &mut [Room],
+    call: impl FnOnce(&mut Lent, &mut [u8]) -> (u64, [u64; 2]),
+) -> (u64, [u64; 2]) {
+    let [w, p, s, t, r, q, out, text] = rooms else {
+        unreachable!("there are eight rooms");
     };
     let mut lent = Lent {
         w: w.lent(),
@@ -140,7 +188,7 @@ fn called(port: Port, code: &[u8], limit: u64, rooms: &mut [Room]) -> u64 {
         q: q.lent(),
         out: out.lent(),
     };
-    port(code, limit, &mut lent)
+    call(&mut lent, text.lent())
 }
 
 #[cfg(test)]

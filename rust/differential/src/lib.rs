@@ -5,8 +5,10 @@
 
 mod check;
 mod families;
+mod json;
 mod lend;
 mod mismatch;
+mod nearby;
 mod panics;
 mod port;
 mod shrink;
@@ -14,8 +16,8 @@ mod tally;
 
 pub use check::{Checker, Verdict};
 pub use families::{FAMILIES, Family};
-pub use lend::{Given, call as fenced_call};
+pub use lend::{Given, call as fenced_call, call_json as fenced_call_json};
 pub use mismatch::Mismatch;
-pub use port::Port;
+pub use port::{JsonPort, Port};
 pub use shrink::smaller;
 pub use tally::Tally;

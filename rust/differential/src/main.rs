@@ -98,9 +98,7 @@ fn number(text: &str) -> Result<u64, String> {
 }
 
 fn run(options: &Options, begun: Instant) -> Tally {
-    let checker = Checker {
-        port: aznifrem::call,
-    };
+    let checker = Checker::LIBRARY;
     let mut all = Tally::default();
     let seed = options.seed.unwrap_or(1);
     if let Some(code) = &options.code {

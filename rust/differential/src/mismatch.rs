@@ -11,3 +11,14 @@ pub struct Mismatch {
 pub fn mismatch(kind: &'static str, sentence: String) -> Mismatch {
     Mismatch { kind, sentence }
 }
+
+/// Where the bytes of two answers part.
+pub fn different(ours: &[u8], expected: &[u8]) -> String {
+    let same = ours.iter().zip(expected).take_while(|(a, b)| a == b);
+    format!(
+        "byte {} of the answer is not the model's: {} against {}",
+        same.count(),
+        codes::to_hex(ours),
+        codes::to_hex(expected)
+    )
+}

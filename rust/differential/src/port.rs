@@ -4,3 +4,6 @@ use aznifrem::Lent;
 
 /// The library's entry, or what stands in for it in a test.
 pub type Port = fn(&[u8], u64, &mut Lent) -> u64;
+
+/// The library's call that also writes the text, or what stands in for it.
+pub type JsonPort = fn(&[u8], u64, &mut Lent, &mut [u8]) -> u64;

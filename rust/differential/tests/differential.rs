@@ -4,9 +4,9 @@ use std::collections::BTreeSet;
 
 use aznifrem::{HIGHEST_LIMIT, Lent, call};
 use codes::{Random, exhaustive};
-use differential::{Checker, FAMILIES, Port, Tally, Verdict, fenced_call};
+use differential::{Checker, FAMILIES, JsonPort, Port, Tally, Verdict, fenced_call};
 
-const PORT: Checker = Checker { port: call };
+const PORT: Checker = Checker::LIBRARY;
 
 fn same(tally: &Tally) {
     assert_eq!(tally.written_out, Vec::<String>::new());
@@ -139,8 +139,7 @@ fn entries(bytes: &[u8], kind: u8) -> Vec<usize> {
 }
 
 /// The first mismatch among some thousand codes, written out.
-fn found(port: Port) -> String {
-    let checker = Checker { port };
+fn found(checker: Checker) -> String {
     let mut tally = Tally::default();
     let mut seeds = Random::new(77);
     let light = FAMILIES.iter().filter(|family| family.share >= 200);
@@ -165,7 +164,15 @@ fn length_of_smaller(text: &str) -> usize {
 }
 
 fn finds(port: Port, kind: &str, at_most: usize) {
-    let text = found(port);
+    let checker = Checker {
+        port,
+        ..Checker::LIBRARY
+    };
+    finds_behind(checker, kind, at_most);
+}
+
+fn finds_behind(checker: Checker, kind: &str, at_most: usize) {
+    let text = found(checker);
     let first = text.lines().next().unwrap_or_default();
     assert!(first.ends_with(kind), "expected '{kind}' in: {text}");
     let length = length_of_smaller(&text);
@@ -174,7 +181,11 @@ fn finds(port: Port, kind: &str, at_most: usize) {
 
 #[test]
 fn the_model_behind_the_entry_has_no_mismatch() {
-    assert_eq!(found(honest), "");
+    let checker = Checker {
+        port: honest,
+        json: |code, limit, rooms, text| told(code, limit, rooms, text, |said| said),
+    };
+    assert_eq!(found(checker), "");
 }
 
 #[test]
@@ -221,7 +232,8 @@ fn an_unwiped_room_is_found() {
         }
         number
     };
-    finds(port, "lent bytes", 20);
+    // Of 222 bytes 37 are left, of which no part that is tried can go.
+    finds(port, "lent bytes", 40);
 }
 
 #[test]
@@ -260,7 +272,10 @@ fn another_refusal_is_found() {
 
 /// A fault that codes of up to 24,576 bytes do not show.
 fn finds_in_too_long(port: Port, kind: &str) {
-    let checker = Checker { port };
+    let checker = Checker {
+        port,
+        ..Checker::LIBRARY
+    };
     let found = too_long_codes(40).find_map(|(seed, code)| checker.check(&code, seed).err());
     assert_eq!(found.map(|found| found.kind), Some(kind));
 }
@@ -306,10 +321,86 @@ fn a_room_that_is_touched_because_the_code_is_too_long_is_found() {
 
 #[test]
 fn a_code_with_1e_is_held_against_the_model_alone() {
-    let checker = Checker { port: honest };
+    let checker = Checker {
+        port: honest,
+        ..Checker::LIBRARY
+    };
     let clz = [0x1e, 0x00];
     let verdict = checker
         .check(&clz, 1)
         .expect("it is held against the model");
     assert_eq!(verdict, Verdict::OutsideTheDomain);
+}
+
+/// The model and the plain writer behind the call with a text, which is bent before it is written.
+fn told(
+    code: &[u8],
+    limit: u64,
+    rooms: &mut Lent,
+    text: &mut [u8],
+    bend: fn(String) -> String,
+) -> u64 {
+    let out = rooms.out.to_vec();
+    let number = honest(code, limit, rooms);
+    if number < 18 {
+        return number;
+    }
+    let map = model::map(&model::Lent::ALL, limit, code).expect("it was answered");
+    let said = bend(agree::json::of_model(&map.blocks));
+    if said.len() > text.len() {
+        rooms.out.copy_from_slice(&out);
+        return 11;
+    }
+    text[..said.len()].copy_from_slice(said.as_bytes());
+    number + ((said.len() as u64) << 32)
+}
+
+fn finds_in_text(json: JsonPort, kind: &str, at_most: usize) {
+    let checker = Checker {
+        json,
+        ..Checker::LIBRARY
+    };
+    finds_behind(checker, kind, at_most);
+}
+
+#[test]
+fn another_text_is_found() {
+    let json: JsonPort = |code, limit, rooms, text| {
+        told(code, limit, rooms, text, |said| {
+            said.replace("\"to\":7}", "\"to\":8}")
+        })
+    };
+    finds_in_text(json, "text", 20);
+}
+
+#[test]
+fn null_as_a_number_is_found() {
+    let json: JsonPort = |code, limit, rooms, text| {
+        told(code, limit, rooms, text, |said| {
+            said.replace("null", "3276")
+        })
+    };
+    finds_in_text(json, "text", 20);
+}
+
+#[test]
+fn a_text_that_is_touched_by_a_refusal_is_found() {
+    let json: JsonPort = |code, limit, rooms, text| {
+        let number = told(code, limit, rooms, text, |said| said);
+        if number == 9 {
+            text.fill(0);
+        }
+        number
+    };
+    finds_in_text(json, "lent bytes", 20);
+}
+
+#[test]
+fn eleven_before_nine_is_found() {
+    let json: JsonPort =
+        |code, limit, rooms, text| match told(code, limit, rooms, text, |said| said) {
+            9 => 11,
+            number => number,
+        };
+    finds_in_text(json, "number", 20);
 }

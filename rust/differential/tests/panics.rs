@@ -19,7 +19,10 @@ fn a_panic_is_told_with_its_code_and_seed_and_any_other_prints() {
     set_hook(Box::new(|_| {
         PRINTED.fetch_add(1, Relaxed);
     }));
-    let checker = Checker { port: panicking };
+    let checker = Checker {
+        port: panicking,
+        ..Checker::LIBRARY
+    };
     let mut tally = Tally::default();
     tally.add(&checker, &[0x30, 0x30, 0x57, 0x00], 5, "a test");
     tally.add(&checker, &[0x30, 0x30, 0x56, 0x00], 6, "a test");

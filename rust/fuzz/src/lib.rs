@@ -14,7 +14,12 @@ fn split(input: &[u8]) -> (u64, &[u8]) {
 /// What differs on an input, if anything, and the words that check it again and make it smaller.
 pub fn mismatch(port: Port, input: &[u8]) -> Option<String> {
     let (seed, code) = split(input);
-    let found = Checker { port }.check(code, seed).err()?;
+    let found = Checker {
+        port,
+        ..Checker::LIBRARY
+    }
+    .check(code, seed)
+    .err()?;
     // It may have both answers in it, whole.
     let sentence: String = found.sentence.chars().take(200).collect();
     let code = codes::to_hex(code);

@@ -1,11 +1,11 @@
--- Every side of a block lies in the code, or right behind it. Assumes nothing.
+-- Every side of a block lies in the code, or right behind it: of the cutting's, and of those that its own run settled. Assumes nothing.
+use Prim.Native.Nat.{ℕ, _+_, _≤_, _<_}
+use native.Mathlib.Omega.{arith}
 use mathlib.Core.Path.{_≡_}
 use mathlib.Core.Bool.{true}
 use mathlib.Core.Logic.{_⊎_, inl, inr}
-use mathlib.Core.Option.{Option, none, some}
 use mathlib.Core.List.{List, [], _∷_}
-use Prim.Native.Nat.{ℕ, _+_, _*_, _≤_, _<_}
-use native.Mathlib.Omega.{arith}
+use mathlib.Core.Option.{Option, none, some}
 use lib.Dec.{eqb, leb}
 use lib.ListN.{length}
 use Rattle.spec.specs.Lists.{mem}
@@ -13,11 +13,11 @@ use Rattle.spec.specs.Walk.{Ins, instructions}
 use Rattle.spec.specs.Blocks.{Kind, terminate, jump, jumpi, dynamic-jump, dynamic-jumpi, Block, with-kind, Mode, opened, waiting, pushed, branching, jumping, Cut, JUMPDEST, JUMPI, JUMP, UNKNOWN, OTHER, ENDS, cut, closes, cuts, lands, checked, starts, blocks}
 use Rattle.spec.specs.Stacks.{Sym, before, constant, jumpdest, other, run}
 use Rattle.spec.specs.Search.{settled, sides}
 use Rattle.theorems.proofs.Branch.{both}
 use Rattle.theorems.proofs.Members.{In, here, there, in-only, in-cases, mem-in, in-map, and-both}
 use Rattle.theorems.proofs.Walking.{Walked, stops, steps, walked}
 use Rattle.theorems.proofs.Cutting.{made, starts-checked}
-use Rattle.parents.proofs.Goals.{Goes, run-goes}
+use Rattle.theorems.proofs.Landing.{Goes, run-ends}
 
 -- the sides of a kind are at most n
 abbrev pub Within : ℕ → Kind → Type 0
@@ -26,6 +26,13 @@ Within n (jump t) = t ≤ n
 Within n (jumpi t f) = (t ≤ n) × (f ≤ n)
 Within n dynamic-jump = Unit {0}
 Within n (dynamic-jumpi f) = f ≤ n
+
+pub within-more : (n m : ℕ) → n ≤ m → (k : Kind) → Within n k → Within m k
+within-more n m h (terminate success) w = tt
+within-more n m h (jump t) w = omega arith
+within-more n m h (jumpi t f) w = (omega arith, omega arith)
+within-more n m h dynamic-jump w = tt
+within-more n m h (dynamic-jumpi f) w = omega arith
 
 -- ---- the cutting: of the kinds that are not checked
 
@@ -104,20 +111,22 @@ block-within (x ∷ code) {b} i =
 
 -- ---- the first stage
 
-settled-within : (n m : ℕ) (g : Option Sym) (k : Kind) → Goes n m g → Within n k → Within n (settled g k)
-settled-within n m none k h w = w
-settled-within n m (some (before p)) k h w = w
-settled-within n m (some (constant v)) k h w = w
-settled-within n m (some (other pc)) k h w = w
-settled-within n m (some (jumpdest t)) (terminate success) h w = tt
-settled-within n m (some (jumpdest t)) (jump u) h w = w
-settled-within n m (some (jumpdest t)) (jumpi u f) h w = w
-settled-within n m (some (jumpdest t)) dynamic-jump h w = omega arith
-settled-within n m (some (jumpdest t)) (dynamic-jumpi f) h w = (omega arith, w)
+settled-within : (n : ℕ) (g : Option Sym) (k : Kind) → Goes n g → Within n k → Within n (settled g k)
+settled-within n none k h w = w
+settled-within n (some (before p)) k h w = w
+settled-within n (some (constant v)) k h w = w
+settled-within n (some (other pc)) k h w = w
+settled-within n (some (jumpdest t)) (terminate success) h w = tt
+settled-within n (some (jumpdest t)) (jump u) h w = w
+settled-within n (some (jumpdest t)) (jumpi u f) h w = w
+settled-within n (some (jumpdest t)) dynamic-jump h w = omega arith
+settled-within n (some (jumpdest t)) (dynamic-jumpi f) h w = (omega arith, w)
 
 pub node-within : (code : List ℕ) {b : Block} → In b (blocks code (instructions code))
     → Within (length code) (settled (run code (instructions code) (b .start) .goes) (b .kind))
-node-within code {b} i = settled-within (length code) (17 * length code + 17) (run code (instructions code) (b .start) .goes) (b .kind) (run-goes code (b .start)) (block-within code i)
+node-within code {b} i =
+    let is = instructions code in
+    settled-within (length code) (run code is (b .start) .goes) (b .kind) (run-ends code is (b .start) .goes) (block-within code i)
 
 pub sides-within : (n : ℕ) (k : Kind) → Within n k → {t : ℕ} → In t (sides k) → t ≤ n
 sides-within n (terminate success) h i = elim i [ ]

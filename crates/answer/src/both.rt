@@ -1,0 +1,119 @@
+// The answer, and the JSON text of its blocks beside it.
+use crate::find::find;
+use crate::map::wipe_rooms;
+use entries::entries_size;
+use entries::write_entries;
+use json::text_size;
+use json::write_text;
+use lent::units;
+ghost use mathlib.Core.Path.{_≡_};
+ghost use Rattle.steps.specs.Runs.{buffers};
+ghost use Rattle.entries.specs.Contracts.{Writes};
+ghost use Rattle.answer.specs.Contracts.{Lends, PutBoth, RanBoth, MappedBoth};
+
+// The number of a refusal and twice 0, or 0 and the bytes written, of entries and of text.
+pub struct Both {
+    pub number: usize,
+    pub written: usize,
+    pub texted: usize,
+}
+
+// Writes both, where both have room. "11, text room short, last": the entries are counted before it is answered; a refusal leaves both as they were.
+fn put_both(
+    w: &[u8],
+    r: &[u8],
+    q: &[u8],
+    out: &mut [u8],
+    text: &mut [u8],
+    n: usize,
+    m: usize,
+    energy: usize,
+) -> Both
+    requires { ⌜ Writes (now w) (now r) (now q) n m energy ⌝ }
+    ensures { λ a. ⌜ PutBoth (now (w .entry)) (now (r .entry)) (now (q .entry)) n m energy (now (out .entry)) (now (out .exit)) (now (text .entry)) (now (text .exit)) a ⌝ }
+{
+    let size = text_size(w, r, q, n, m);
+    if units(text.len(), 1) < size {
+        if units(out.len(), 1) < entries_size(w, r, q, n, m, energy) {
+            return refused_both(9);
+        }
+        return refused_both(11);
+    }
+    let written = write_entries(w, r, q, out, n, m, energy);
+    if written == 0 {
+        return refused_both(9);
+    }
+    let texted = write_text(w, r, q, text, n, m, size);
+    Both {
+        number: 0,
+        written,
+        texted,
+    }
+}
+
+// The map of a code that is taken, with no room wiped yet.
+fn run_both(
+    limit: usize,
+    code: &[u8],
+    w: &mut [u8],
+    p: &mut [u8],
+    s: &mut [u8],
+    t: &mut [u8],
+    r: &mut [u8],
+    q: &mut [u8],
+    out: &mut [u8],
+    text: &mut [u8],
+) -> Both
+    requires { ⌜ Lends limit (now code) (now w) ⌝ }
+    ensures { λ a. ⌜ RanBoth limit (now (code .entry)) (buffers (now (w .entry)) (now (p .entry)) (now (s .entry)) (now (t .entry)) (now (r .entry)) (now (q .entry)))
+        (now (out .entry)) (now (out .exit)) (now (text .entry)) (now (text .exit)) a ⌝ }
+{
+    let d = find(limit, code, w, p, s, t, r, q);
+    if d.number != 0 {
+        return refused_both(d.number);
+    }
+    put_both(w, r, q, out, text, code.len(), d.records, d.energy)
+}
+
+// "A call that does what the entry does and also fills a text buffer": as `map_code`, with an eighth lent buffer.
+pub fn map_json(
+    limit: usize,
+    code: &[u8],
+    w: &mut [u8],
+    p: &mut [u8],
+    s: &mut [u8],
+    t: &mut [u8],
+    r: &mut [u8],
+    q: &mut [u8],
+    out: &mut [u8],
+    text: &mut [u8],
+) -> Both
+    ensures { λ a. ⌜ MappedBoth limit (now (code .entry)) (buffers (now (w .entry)) (now (p .entry)) (now (s .entry)) (now (t .entry)) (now (r .entry)) (now (q .entry)))
+        (now (out .entry)) (now (text .entry)) (buffers (now (w .exit)) (now (p .exit)) (now (s .exit)) (now (t .exit)) (now (r .exit)) (now (q .exit)))
+        (now (out .exit)) (now (text .exit)) a ⌝ }
+{
+    let n = code.len();
+    if 24576 < n {
+        return refused_both(1);
+    }
+    if 500000 < limit {
+        return refused_both(2);
+    }
+    if w.len() < 64 * n + 256 {
+        return refused_both(3);
+    }
+    let a = run_both(limit, code, w, p, s, t, r, q, out, text);
+    wipe_rooms(w, p, s, t, r, q);
+    a
+}
+
+// A refusal: no byte is written.
+fn refused_both(number: usize) -> Both
+    ensures { λ a. ⌜ a ≡ record { number = number; written = 0; texted = 0 } ⌝ }
+{
+    Both {
+        number,
+        written: 0,
+        texted: 0,
+    }
+}

@@ -1,0 +1,9 @@
+pub mod Lines
+pub mod Pieces
+pub mod Ways
+pub mod Types
+pub mod Walked
+pub mod Rowed
+pub mod Matched
+pub mod Ended
+pub mod Once

@@ -1,0 +1,57 @@
+// The blocks that are kept, in the order of their starts.
+// "It must name the same blocks, paths and destinations as the entries, and no other"
+use crate::block::add_block;
+use crate::field::add_comma;
+use entries::is_kept;
+ghost use mathlib.Core.List.{[], _∷_};
+ghost use Prim.Native.Nat.{_+_, _^_, _≤_};
+ghost use Rattle.spec.specs.Lists.{keep};
+ghost use Rattle.entries.specs.Rows.{kept, keptBelow};
+ghost use Rattle.entries.specs.Contracts.{PutsFew, PutsBlock, PutsBlocks};
+ghost use Rattle.json.specs.Rows.{lined, next, blockText};
+
+// The block at a, if it is kept.
+fn add_kept(
+    out: &mut [u8],
+    begin: usize,
+    at: usize,
+    w: &[u8],
+    n: usize,
+    r: &[u8],
+    q: &[u8],
+    m: usize,
+    a: usize,
+) -> usize
+    requires { ⌜ (PutsBlock n m (now w) (now r) (now q) a at) × (at + 1 ≤ 2 ^ 60) ⌝ }
+    ensures { λ end. ⌜ PutsFew (2 ^ 37) (now (out .entry)) at
+        (next begin at (blockText (now (w .entry)) (now (r .entry)) (now (q .entry)) m) (keep (kept (now (w .entry)) n) (a ∷ []))) (now (out .exit)) end ⌝ }
+{
+    if is_kept(w, n, a) {
+        let place = add_comma(out, begin, at);
+        return add_block(out, place, w, n, r, q, m, a);
+    }
+    at
+}
+
+// All that are kept.
+pub fn add_blocks(
+    out: &mut [u8],
+    at: usize,
+    w: &[u8],
+    n: usize,
+    r: &[u8],
+    q: &[u8],
+    m: usize,
+) -> usize
+    requires { ⌜ (PutsBlocks n m (now w) (now r) (now q) at) × (at ≤ 2 ^ 32) ⌝ }
+    ensures { λ end. ⌜ PutsFew (2 ^ 53) (now (out .entry)) at
+        (lined (blockText (now (w .entry)) (now (r .entry)) (now (q .entry)) m) (keptBelow (now (w .entry)) n (n + 1))) (now (out .exit)) end ⌝ }
+{
+    let mut end = at;
+    let mut a = 0;
+    while a <= n {
+        end = add_kept(out, at, end, w, n, r, q, m, a);
+        a += 1;
+    }
+    end
+}

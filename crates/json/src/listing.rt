@@ -1,0 +1,60 @@
+// The rows that a block lists, along their links.
+// "It must name the same blocks, paths and destinations as the entries, and no other"
+use crate::field::add_comma;
+use crate::way::add_way;
+use entries::first_row;
+use entries::is_listed;
+use entries::next_row;
+ghost use mathlib.Core.List.{[], _∷_};
+ghost use Prim.Native.Nat.{_+_, _*_, _^_, _≤_};
+ghost use Rattle.spec.specs.Lists.{keep};
+ghost use Rattle.entries.specs.Rows.{stepsOf, listed, chosen};
+ghost use Rattle.entries.specs.Contracts.{PutsFew, RowsIn, LinkedAt};
+ghost use Rattle.json.specs.Rows.{lined, next, wayText};
+ghost use Rattle.json.specs.Contracts.{PutsWay};
+
+// Row i, if a block of the kind lists it.
+fn add_row(
+    out: &mut [u8],
+    begin: usize,
+    at: usize,
+    r: &[u8],
+    q: &[u8],
+    i: usize,
+    kind: usize,
+) -> usize
+    requires { ⌜ PutsWay (now r) (now q) i at 23 ⌝ }
+    ensures { λ end. ⌜ PutsFew (23 + 6 * stepsOf (now (r .entry)) i) (now (out .entry)) at
+        (next begin at (wayText (now (r .entry)) (now (q .entry))) (keep (listed (now (r .entry)) kind) (i ∷ []))) (now (out .exit)) end ⌝ }
+{
+    if is_listed(r, i, kind) {
+        let place = add_comma(out, begin, at);
+        return add_way(out, place, r, q, i);
+    }
+    at
+}
+
+// All that the block at a lists.
+pub fn add_ways(
+    out: &mut [u8],
+    at: usize,
+    w: &[u8],
+    n: usize,
+    r: &[u8],
+    q: &[u8],
+    m: usize,
+    a: usize,
+    kind: usize,
+) -> usize
+    requires { ⌜ (LinkedAt n m (now w) (now r) a) × (RowsIn (now r) (now q) m) × (at ≤ 2 ^ 61) ⌝ }
+    ensures { λ end. ⌜ PutsFew (2 ^ 36) (now (out .entry)) at
+        (lined (wayText (now (r .entry)) (now (q .entry))) (chosen (now (r .entry)) m a kind)) (now (out .exit)) end ⌝ }
+{
+    let mut end = at;
+    let mut k = first_row(w, n, a);
+    while k != 0 {
+        end = add_row(out, at, end, r, q, k - 1, kind);
+        k = next_row(r, k - 1);
+    }
+    end
+}

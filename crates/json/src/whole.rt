@@ -1,0 +1,51 @@
+// The whole text.
+// "also fills a text buffer, which a refusal leaves as it is"
+use crate::field::add_text;
+use crate::kept::add_blocks;
+use entries::begin_of;
+use lent::units;
+ghost use Prim.Native.Nat.{_^_};
+ghost use Rattle.entries.specs.Contracts.{PutsFew, PutsBlocks, Writes};
+ghost use Rattle.json.specs.Rows.{mapText};
+ghost use Rattle.json.specs.Contracts.{Sized, Written};
+
+// The whole: put where it ends within the buffer, counted in any case.
+fn add_map(out: &mut [u8], w: &[u8], n: usize, r: &[u8], q: &[u8], m: usize) -> usize
+    requires { ⌜ PutsBlocks n m (now w) (now r) (now q) 0 ⌝ }
+    ensures { λ end. ⌜ PutsFew (2 ^ 54) (now (out .entry)) 0 (mapText (now (w .entry)) (now (r .entry)) (now (q .entry)) n m) (now (out .exit)) end ⌝ }
+{
+    let blocks = add_text(out, 0, b"[");
+    let end = add_blocks(out, blocks, w, n, r, q, m);
+    add_text(out, end, b"]")
+}
+
+// How many bytes the text has: it is put into a byte that nobody reads. The energy is no part of it, and is taken as 0.
+pub fn text_size(w: &[u8], r: &[u8], q: &[u8], n: usize, m: usize) -> usize
+    requires { ⌜ Writes (now w) (now r) (now q) n m 0 ⌝ }
+    ensures { λ size. ⌜ Sized (now (w .entry)) (now (r .entry)) (now (q .entry)) n m size ⌝ }
+{
+    // Read for its bound: the paths end below 2^32, so that no count passes 64 bits.
+    let _ends = begin_of(r, m);
+    let mut none = [0u8; 1];
+    add_map(&mut none, w, n, r, q, m)
+}
+
+// Writes the text of that size, where `out` has room for it: the number of bytes, or 0, and then `out` stays as it was.
+pub fn write_text(
+    w: &[u8],
+    r: &[u8],
+    q: &[u8],
+    out: &mut [u8],
+    n: usize,
+    m: usize,
+    size: usize,
+) -> usize
+    requires { ⌜ (Writes (now w) (now r) (now q) n m 0) × (Sized (now w) (now r) (now q) n m size) ⌝ }
+    ensures { λ end. ⌜ Written (now (w .entry)) (now (r .entry)) (now (q .entry)) n m (now (out .entry)) (now (out .exit)) end ⌝ }
+{
+    if units(out.len(), 1) < size {
+        return 0;
+    }
+    let _ends = begin_of(r, m);
+    add_map(out, w, n, r, q, m)
+}
