@@ -4,5 +4,6 @@ pub mod Steps
 pub mod Arguments
 pub mod Packed
 pub mod Table
+pub mod Once
 mod Spells
 mod Held

@@ -9,3 +9,4 @@ pub mod Chains
 pub mod Ends
 pub mod Knows
 pub mod Rises
+pub mod Once
