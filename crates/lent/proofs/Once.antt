@@ -76,8 +76,8 @@ module _ {l m : List ℕ} where
   same-rows i k (suc n) h = rw mul-suc (same-then (same-rows i k n (λ a g. h a (omega arith))) (h n (omega arith)) refl)
 
   -- a part and all after it, or what is past a gap; all of the list
-  pub same-whole : {k : ℕ} → Same l m 0 k → drop k l ≡ drop k m → l ≡ m
-  same-whole {k} p e = by-halves k l m (p .is) e
+  pub same-whole : (k : ℕ) → Same l m 0 k → drop k l ≡ drop k m → l ≡ m
+  same-whole k p e = by-halves k l m (p .is) e
 
   pub same-outside : (j : ℕ) {i k : ℕ} → Same l m 0 i → drop j l ≡ drop j m → j ≡ i + k → length l ≡ length m → Outside i k l m
   same-outside j p e h long = record { before = p .is; after = rw h at e; long = long }

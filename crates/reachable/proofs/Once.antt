@@ -62,21 +62,22 @@ one-reaches {n} {w} {v} {u} b d p q =
 -- ---- pruning: so in W; R is the same in every byte
 
 module _ {n m : ℕ} {w r v s u t : List ℕ} (p : Pruned n m w r v s) (q : Pruned n m w r u t) where
-  pruned-w : Bytes v → Bytes u → Outside (40 * (n + 1)) (2 * (n + 1)) v u
-  pruned-w b d =
-      let same : (x : ℕ) → mem x (flagged v n) ≡ mem x (flagged u n) = λ x. p .reached x ∙ sym (q .reached x) in
-      let long : length v ≡ length u = p .long ∙ sym (q .long) in
-      let heads : (x : ℕ) → x ≤ n → Same v u (20 * (n + 1 + x) + 4) 14 =
-      λ x h.
-      let first : Same v u (20 * (n + 1 + x) + 4) 4 = same-num b d long 4 (20 * (n + 1 + x) + 4) (p .places .heads x h ∙ sym (q .places .heads x h)) in
-      let second : Same v u (20 * (n + 1 + x) + 8) 4 = same-num b d long 4 (20 * (n + 1 + x) + 8) (p .witnesses .heads x h ∙ sym (q .witnesses .heads x h)) in
-      same-then (same-then first second (omega arith)) (same-both (20 * (n + 1 + x) + 12) 6 (p .fields x h) (q .fields x h)) (omega arith) in
-      but-worklist b d long (p .rows ∙ sym (q .rows))
-      (λ x h. p .fresh .marks x h ∙ ap (λ (is : Bool). if is 1 0) (same x) ∙ sym (q .fresh .marks x h))
-      heads
-      (λ x h. p .fresh .flags x h ∙ ap (λ (is : Bool). if is 1 0) (same x) ∙ sym (q .fresh .flags x h))
-      (λ x h. same-both (20 * (n + 1 + x) + 19) 1 (p .spare x h) (q .spare x h))
-      (p .beyond ∙ sym (q .beyond))
+  pruned-same : (x : ℕ) → _≡_ {A = ℕ} (if (mem x (flagged v n)) 1 0) (if (mem x (flagged u n)) 1 0)
+  pruned-same x = ap (λ (is : Bool). if is 1 0) (p .reached x ∙ sym (q .reached x))
+
+  module _ (b : Bytes v) (d : Bytes u) where
+    pruned-heads : (x : ℕ) → x ≤ n → Same v u (20 * (n + 1 + x) + 4) 14
+    pruned-heads x h =
+        let long : length v ≡ length u = p .long ∙ sym (q .long) in
+        let first : Same v u (20 * (n + 1 + x) + 4) 4 = same-num b d long 4 (20 * (n + 1 + x) + 4) (p .places .heads x h ∙ sym (q .places .heads x h)) in
+        let second : Same v u (20 * (n + 1 + x) + 8) 4 = same-num b d long 4 (20 * (n + 1 + x) + 8) (p .witnesses .heads x h ∙ sym (q .witnesses .heads x h)) in
+        same-then (same-then first second (omega arith)) (same-both (20 * (n + 1 + x) + 12) 6 (p .fields x h) (q .fields x h)) (omega arith)
+
+    pruned-w : Outside (40 * (n + 1)) (2 * (n + 1)) v u
+    pruned-w =
+        but-worklist b d (p .long ∙ sym (q .long)) (p .rows ∙ sym (q .rows)) (λ x h. p .fresh .marks x h ∙ pruned-same x ∙ sym (q .fresh .marks x h)) pruned-heads
+        (λ x h. p .fresh .flags x h ∙ pruned-same x ∙ sym (q .fresh .flags x h)) (λ x h. same-both (20 * (n + 1 + x) + 19) 1 (p .spare x h) (q .spare x h))
+        (p .beyond ∙ sym (q .beyond))
 
   pruned-row : Bytes s → Bytes t → (i : ℕ) → i < m → Same s t (32 * i) 32
   pruned-row b d i h =
@@ -88,5 +89,5 @@ module _ {n m : ℕ} {w r v s u t : List ℕ} (p : Pruned n m w r v s) (q : Prun
   pub one-pruned : Bytes v → Bytes u → Bytes s → Bytes t → Outside (40 * (n + 1)) (2 * (n + 1)) v u × (s ≡ t)
   one-pruned b d e f = (
     pruned-w b d,
-    same-whole (same-rows 0 32 m (λ i h. same-as (pruned-row e f i h) (omega arith) refl)) (p .stay .beyond ∙ sym (q .stay .beyond)),
+    same-whole (32 * m) (same-rows 0 32 m (λ i h. same-as (pruned-row e f i h) (omega arith) refl)) (p .stay .beyond ∙ sym (q .stay .beyond)),
   )

@@ -13,3 +13,4 @@ pub mod Seeks
 pub mod Shelves
 pub mod Turns
 pub mod Uses
+pub mod Once
