@@ -38,7 +38,7 @@ use Rattle.tables.proofs.Frames.{ends-same, kept-same}
 use Rattle.tables.proofs.Counted.{recs-length}
 use Rattle.tables.proofs.Shelves.{shelf-same}
 
-one-answer : {a b : Answer} → a .code ≡ b .code → a .counts ≡ b .counts → a ≡ b
+pub one-answer : {a b : Answer} → a .code ≡ b .code → a .counts ≡ b .counts → a ≡ b
 one-answer p q = λ i. record { code = p i; counts = q i }
 
 pub one-stamped : {s : List ℕ} {x : Seen} {a b : ℕ} → Stamped s x a → Stamped s x b → a ≡ b
