@@ -2,3 +2,4 @@ pub mod Numbers
 pub mod Running
 pub mod Mapping
 pub mod Calls
+pub mod Once

@@ -18,13 +18,13 @@ use Rattle.state.proofs.Once.{one-symbol, one-lies}
 use Rattle.reachable.specs.Marks.{markAt}
 use Rattle.tables.specs.Addrs.{addrs}
 use Rattle.tables.specs.Tables as tables
-use Rattle.tables.specs.Tables.{recs, counted, Tables}
+use Rattle.tables.specs.Tables.{recs, counted}
 use Rattle.tables.specs.Recording.{shortOf, recorded?}
 use Rattle.tables.specs.declared.Counts.{Counts}
 use Rattle.tables.specs.declared.Answer.{Answer}
 use Rattle.tables.specs.declared.row.Seen.{Seen}
 use Rattle.tables.proofs.Chains.{keyed}
-use Rattle.tables.proofs.Once.{AllBytes, Made, one-answer, one-made, one-memorized, addrs-same}
+use Rattle.tables.proofs.Once.{AllBytes, AllLong, one-answer, one-tables, one-more, one-memorized, addrs-same}
 use Rattle.steps.specs.Lands.{remarked, Noted}
 use Rattle.steps.specs.Meets.{answerOf, Met}
 use Rattle.steps.specs.Paths.{Grown, Counted}
@@ -36,18 +36,12 @@ use Rattle.steps.specs.declared.state_of.Taken.{Taken}
 
 -- ---- what is found
 
-pub one-noted : {p : List ℕ} {np start : ℕ} {k : Plan} {m m′ m″ : tables.Mem} {c : Counts} {x : Found} {a e : Answer} → Tables (k .n) (k .buckets) (k .rooms) m c
-    → AllBytes m′ → AllBytes m″ → Noted p np k m c start x m′ a → Noted p np k m c start x m″ e → (a ≡ e) × (m′ ≡ m″)
-one-noted {p} {np} {start} {k} {m} {m′} {m″} {c} {x} {a} {e} old b d f g = go (keyed (a .code) 0) (recorded? x (addrs p 0 np) (recs (k .rooms) m c)) refl
+pub one-noted : {p : List ℕ} {np start : ℕ} {k : Plan} {m m′ m″ : tables.Mem} {c : Counts} {x : Found} {a e : Answer} → AllBytes m′ → AllBytes m″
+    → Noted p np k m c start x m′ a → Noted p np k m c start x m″ e → (a ≡ e) × (m′ ≡ m″)
+one-noted {p} {np} {start} {k} {m} {m′} {m″} {c} {x} {a} {e} b d f g = go (keyed (a .code) 0) (recorded? x (addrs p 0 np) (recs (k .rooms) m c)) refl
   where
     code : a .code ≡ e .code
     code = f .tells ∙ sym (g .tells)
-
-    made : {v : tables.Mem} {y : Answer} → Noted p np k m c start x v y → y .code ≡ 0 → recorded? x (addrs p 0 np) (recs (k .rooms) m c) ≡ false
-        → Made (k .n) (k .buckets) (k .rooms) m c np start x (addrs p 0 np) v
-    made {v} {y} h z o =
-        let counts : y .counts ≡ counted c np (kept x) = h .counts z ∙ if-false _ _ _ o in
-        record { holds = rw counts at (h .holds z ∙ if-false _ _ _ o); tables = rw counts at (h .tables); stays = rw counts at (h .around .stays) }
 
     marks : a .counts ≡ e .counts → (y : ℕ) → y ≤ k .n → markAt (m′ .w) (k .n) y ≡ markAt (m″ .w) (k .n) y
     marks z y h =
@@ -60,13 +54,23 @@ one-noted {p} {np} {start} {k} {m} {m′} {m″} {c} {x} {a} {e} old b d f g = g
     go (inl z) false o =
         let y : e .code ≡ 0 = sym code ∙ z in
         let counts : a .counts ≡ e .counts = f .counts z ∙ sym (g .counts y) in
-        let long : length (m′ .w) ≡ length (m″ .w) = f .around .longW ∙ sym (g .around .longW) in
-        (one-answer code counts,
-        one-made old b d (made f z o) (made g y o) long (f .around .front ∙ sym (g .around .front))
-        (λ a h. same-as (same-num (b .w) (d .w) long 4 (20 * (k .n + 1 + a)) (marks counts a h)) (omega arith) refl)
-        (λ a h. same-both (20 * (k .n + 1) + 20 * a + 12) 8 (f .around .rests a h) (g .around .rests a h))
-        (same-both (40 * (k .n + 1)) (2 * (k .n + 1)) (f .around .work) (g .around .work))
-        (f .around .back ∙ sym (g .around .back)))
+        let made : a .counts ≡ counted c np (kept x) = f .counts z ∙ if-false _ _ _ o in
+        let long : AllLong m′ m″ =
+        record {
+          w = f .around .longW ∙ sym (g .around .longW);
+          r = f .around .stays .longR ∙ sym (g .around .stays .longR);
+          q = f .around .stays .longQ ∙ sym (g .around .stays .longQ);
+          s = f .around .stays .longS ∙ sym (g .around .stays .longS);
+        } in
+        let one = one-tables b d long (f .tables) (rw (sym counts) at (g .tables)) (f .holds z ∙ sym (rw (sym counts) at (g .holds y))) in (
+          one-answer code counts,
+          one-more (ap (λ (o : Counts). o .records) made) (omega (arith, f .tables .within .fitsS)) one (f .around .stays) (rw (sym counts) at (g .around .stays))
+              (f .around .front ∙ sym (g .around .front))
+              (λ a h. same-as (same-num (b .w) (d .w) (long .w) 4 (20 * (k .n + 1 + a)) (marks counts a h)) (omega arith) refl)
+              (λ a h. same-both (20 * (k .n + 1) + 20 * a + 12) 8 (f .around .rests a h) (g .around .rests a h))
+              (same-both (40 * (k .n + 1)) (2 * (k .n + 1)) (f .around .work) (g .around .work))
+              (f .around .back ∙ sym (g .around .back)) b d,
+        )
     go (inr z) o h =
         let y : e .code ≡ 0 → ⊥ = λ h. z (code ∙ h) in
         (one-answer code (f .refused z .1 ∙ sym (g .refused y .1)), f .refused z .0 ∙ sym (g .refused y .0))
@@ -114,12 +118,12 @@ pub one-counted : {n np : ℕ} {w p u v : List ℕ} → Bytes u → Bytes v → 
 one-counted {n} {np} {w} {p} {u} {v} b d f g =
     let long : length u ≡ length v = f .only .long ∙ sym (g .only .long) in
     let address : (a : ℕ) → a < n + 1 → Same u v (20 * (n + 1) + 20 * a) 20 =
-        λ a h.
-        let before : Same u v (20 * (n + 1 + a)) 12 = same-both (20 * (n + 1 + a)) 12 (f .only .before a (omega arith)) (g .only .before a (omega arith)) in
-        let count : Same u v (20 * (n + 1 + a) + 12) 4 =
-            same-num b d long 4 (20 * (n + 1 + a) + 12) (f .counts .counts a (omega arith) ∙ sym (g .counts .counts a (omega arith))) in
-        let after : Same u v (20 * (n + 1 + a) + 16) 4 = same-both (20 * (n + 1 + a) + 16) 4 (f .only .after a (omega arith)) (g .only .after a (omega arith)) in
-        same-as (same-then (same-then before count refl) after refl) (omega arith) refl in
+    λ a h.
+    let before : Same u v (20 * (n + 1 + a)) 12 = same-both (20 * (n + 1 + a)) 12 (f .only .before a (omega arith)) (g .only .before a (omega arith)) in
+    let count : Same u v (20 * (n + 1 + a) + 12) 4 =
+    same-num b d long 4 (20 * (n + 1 + a) + 12) (f .counts .counts a (omega arith) ∙ sym (g .counts .counts a (omega arith))) in
+    let after : Same u v (20 * (n + 1 + a) + 16) 4 = same-both (20 * (n + 1 + a) + 16) 4 (f .only .after a (omega arith)) (g .only .after a (omega arith)) in
+    same-as (same-then (same-then before count refl) after refl) (omega arith) refl in
     let rows : Same u v 0 (20 * (n + 1)) = record { is = f .only .front ∙ sym (g .only .front) } in
     let front : Same u v 0 (40 * (n + 1)) = same-as (same-then rows (same-rows (20 * (n + 1)) 20 (n + 1) address) (omega arith)) refl (omega arith) in
     same-whole (40 * (n + 1)) front (f .only .back ∙ sym (g .only .back))
@@ -148,7 +152,8 @@ module _ {code w s w′ w″ s′ s″ : List ℕ} {k : Plan} {c : Counts} {l : 
   pub one-took : roomOf code ≤ k .end → (x ≡ y) × (s′ ≡ s″) × Outside (k .end - roomOf code) (roomOf code) w′ w″
   one-took room =
       let symbol : x .symbol ≡ y .symbol = one-symbol (f .symbol-is) (g .symbol-is) in
-      let front : Same w′ w″ 0 (k .end - roomOf code) = record { is = f .front ∙ sym (g .front) } in
-      ((λ i. record { code = took-code i; cells = took-cells i; symbol = symbol i }),
-      took-s,
-      same-outside (k .end) front (f .back ∙ sym (g .back)) (omega arith) (f .longW ∙ sym (g .longW)))
+      let front : Same w′ w″ 0 (k .end - roomOf code) = record { is = f .front ∙ sym (g .front) } in (
+        (λ i. record { code = took-code i; cells = took-cells i; symbol = symbol i }),
+        took-s,
+        same-outside (k .end) front (f .back ∙ sym (g .back)) (omega arith) (f .longW ∙ sym (g .longW)),
+      )

@@ -1,21 +1,20 @@
 -- The contracts leave no choice: two results of one call are the same, byte for byte. Assumes nothing.
-use mathlib.Core.Path.{_≡_, refl, sym, ap, subst, _∙_}
+use mathlib.Core.Path.{_≡_, refl, sym, ap, _∙_}
 use mathlib.Core.Logic.{_⊎_, inl, inr}
 use mathlib.Core.Bool.{Bool, true, false}
 use mathlib.Core.List.{List, [], _∷_, _++_}
 use Prim.Native.Nat.{ℕ, zero, suc, _+_, _-_, _*_, _%_, _≤_, _<_}
-use native.Mathlib.Numerals.{add-one}
 use native.Mathlib.Decide.{decLt}
 use native.Mathlib.Omega.{arith}
 use lib.Dec.{eqb}
 use lib.ListN.{length, take, drop}
+use lib.Seq.{take-append-le, take-all}
 use borrow.Author.Tests.{eq-eqb, ne-eqb}
-use Rattle.spec.specs.Lists.{if}
-use Rattle.spec.specs.Stacks.{Stack, cells}
+use Rattle.spec.specs.Lists.{if, total}
 use Rattle.spec.specs.Search.{Found, nowhere, found, Rec, kept}
 use Rattle.theorems.proofs.Branch.{if-true, if-false}
 use Rattle.lent.specs.Bytes.{numAt}
-use Rattle.lent.proofs.Parts.{by-halves}
+use Rattle.lent.proofs.Parts.{drop-more}
 use Rattle.lent.proofs.Once.{Bytes, Same, same-num, same-both, same-as, same-then, same-rows, same-whole, same-all}
 use Rattle.state.specs.Cells.{stackAt, State, Lies}
 use Rattle.state.proofs.Syms.{split}
@@ -23,7 +22,6 @@ use Rattle.state.proofs.Once.{one-lies}
 use Rattle.tables.specs.Addrs.{addrs, pathSum}
 use Rattle.tables.specs.Chains.{newest, following}
 use Rattle.tables.specs.Records.{none, startAt, toAt, nextAt, linkAt, sumAt, endOf, keptOf, bucketAt, firstAt, lastAt, headAt, pathAt, foundAt, recAt, recsOf}
-use Rattle.tables.specs.Links.{Beyond}
 use Rattle.tables.specs.Tables.{Mem, recs, Goes, leads-nowhere, leads, Tables, counted, Stays}
 use Rattle.tables.specs.Recording.{recorded?, Recorded}
 use Rattle.tables.specs.Rows.{topAt, stampAt, shelfAt, Stamped, Pushed}
@@ -34,8 +32,8 @@ use Rattle.tables.specs.declared.Answer.{Answer}
 use Rattle.tables.specs.declared.row.Seen.{Seen}
 use Rattle.tables.proofs.Chains.{keyed, newest-same, following-same}
 use Rattle.tables.proofs.Links.{bucket-same}
-use Rattle.tables.proofs.Frames.{ends-same, kept-same}
-use Rattle.tables.proofs.Counted.{recs-length}
+use Rattle.tables.proofs.Frames.{kept-rises, kept-grow}
+use Rattle.tables.proofs.Counted.{recs-length, recs-addresses, recs-kept-cells}
 use Rattle.tables.proofs.Shelves.{shelf-same}
 
 pub one-answer : {a b : Answer} → a .code ≡ b .code → a .counts ≡ b .counts → a ≡ b
@@ -139,12 +137,7 @@ one-memorized {u} {v} {a} {e} b d p q = go (keyed (a .code) 0)
         let y : e .code ≡ 0 → ⊥ = λ h. z (code ∙ h) in
         (one-answer code (p .refused z .1 ∙ sym (q .refused y .1)), p .refused z .0 ∙ sym (q .refused y .0))
 
--- ---- a record more: what both ways to record say of R, Q, S and the links
-
-pub record Made (n buckets : ℕ) (k : Rooms) (m : Mem) (c : Counts) (np start : ℕ) (x : Found) (path : List ℕ) (m′ : Mem) : Type 0 where
-  pub holds : recs k m′ (counted c np (kept x)) ≡ recs k m c ++ record { start = start; to = x; path = path } ∷ []
-  pub tables : Tables n buckets k m′ (counted c np (kept x))
-  pub stays : Stays k c (counted c np (kept x)) (m .r) (m .q) (m .s) (m′ .r) (m′ .q) (m′ .s)
+-- ---- tables with the same records: the bytes that these stand in, and the links
 
 abbrev target : Found → ℕ
 target nowhere = none
@@ -166,187 +159,143 @@ module _ (r s : List ℕ) (room i : ℕ) {x : Found} (e : foundAt r s room i ≡
       go (inl h) = h ∙ ap target (goes-nowhere h)
       go (inr h) = ap target (goes-found h)
 
-module _ {n buckets np start : ℕ} {k : Rooms} {m m′ : Mem} {c : Counts} {x : Found} {path : List ℕ} (old : Tables n buckets k m c)
-    (p : Made n buckets k m c np start x path m′) where
-  new : recAt (m′ .r) (m′ .q) (m′ .s) (k .s) (c .records) ≡ record { start = start; to = x; path = path }
+recs-take : (r q s : List ℕ) (room m i : ℕ) → i ≤ m → take i (recsOf r q s room m) ≡ recsOf r q s room i
+unfolding recsOf
+recs-take r q s room zero i h = let z : i ≡ 0 = omega arith in rw z
+recs-take r q s room (suc m) i h = go (decLt i (suc m)) (recs-take r q s room m i)
+  where
+    go : Dec (i < suc m) → (i ≤ m → take i (recsOf r q s room m) ≡ recsOf r q s room i)
+        → take i (recsOf r q s room m ++ recAt r q s room m ∷ []) ≡ recsOf r q s room i
+    go (yes l) ih = take-append-le i (recsOf r q s room m) (recAt r q s room m ∷ []) (omega (arith, recs-length r q s room m)) ∙ ih (omega arith)
+    go (no l) ih =
+        let e : i ≡ suc m = omega arith in
+        rw e (take-all (suc m) (recsOf r q s room m ++ recAt r q s room m ∷ []) (omega (arith, recs-length r q s room (suc m))))
+
+kept-zero : (r : List ℕ) → keptOf r 0 ≡ 0
+unfolding keptOf
+kept-zero r = refl
+
+module _ {n buckets : ℕ} {k : Rooms} {m m′ : Mem} {c : Counts} (p : Tables n buckets k m c) (q : Tables n buckets k m′ c) (same : recs k m c ≡ recs k m′ c) where
+  upto : (i : ℕ) → i ≤ c .records → recsOf (m .r) (m .q) (m .s) (k .s) i ≡ recsOf (m′ .r) (m′ .q) (m′ .s) (k .s) i
+  upto i h = sym (recs-take (m .r) (m .q) (m .s) (k .s) (c .records) i h) ∙ ap (take i) same ∙ recs-take (m′ .r) (m′ .q) (m′ .s) (k .s) (c .records) i h
+
+  rec : (i : ℕ) → i < c .records → recAt (m .r) (m .q) (m .s) (k .s) i ≡ recAt (m′ .r) (m′ .q) (m′ .s) (k .s) i
   unfolding recsOf
-  new =
-      let whole : recsOf (m′ .r) (m′ .q) (m′ .s) (k .s) (suc (c .records)) ≡ recs k m c ++ record { start = start; to = x; path = path } ∷ [] = rw add-one at (p .holds) in
-      let long : length (recsOf (m′ .r) (m′ .q) (m′ .s) (k .s) (c .records)) ≡ length (recs k m c) =
-      recs-length (m′ .r) (m′ .q) (m′ .s) (k .s) (c .records) ∙ sym (recs-length (m .r) (m .q) (m .s) (k .s) (c .records)) in
-      let last = split (recsOf (m′ .r) (m′ .q) (m′ .s) (k .s) (c .records)) (recAt (m′ .r) (m′ .q) (m′ .s) (k .s) (c .records) ∷ []) (recs k m c)
-      (record { start = start; to = x; path = path } ∷ []) long whole .1 in
+  rec i h =
+      let long : length (recsOf (m .r) (m .q) (m .s) (k .s) i) ≡ length (recsOf (m′ .r) (m′ .q) (m′ .s) (k .s) i) =
+      recs-length (m .r) (m .q) (m .s) (k .s) i ∙ sym (recs-length (m′ .r) (m′ .q) (m′ .s) (k .s) i) in
+      let last = split (recsOf (m .r) (m .q) (m .s) (k .s) i) (recAt (m .r) (m .q) (m .s) (k .s) i ∷ []) (recsOf (m′ .r) (m′ .q) (m′ .s) (k .s) i)
+      (recAt (m′ .r) (m′ .q) (m′ .s) (k .s) i ∷ []) long (upto (suc i) h) .1 in
       cc last
 
-  new-start : startAt (m′ .r) (c .records) ≡ start
+  starts : (i : ℕ) → i < c .records → startAt (m .r) i ≡ startAt (m′ .r) i
   unfolding recAt
-  new-start = ap (λ (y : Rec). y .start) new
+  starts i h = ap (λ (y : Rec). y .start) (rec i h)
 
-  new-found : foundAt (m′ .r) (m′ .s) (k .s) (c .records) ≡ x
+  founds : (i : ℕ) → i < c .records → foundAt (m .r) (m .s) (k .s) i ≡ foundAt (m′ .r) (m′ .s) (k .s) i
   unfolding recAt
-  new-found = ap (λ (y : Rec). y .to) new
+  founds i h = ap (λ (y : Rec). y .to) (rec i h)
 
-  new-path : pathAt (m′ .r) (m′ .q) (c .records) ≡ path
+  paths : (i : ℕ) → i < c .records → pathAt (m .r) (m .q) i ≡ pathAt (m′ .r) (m′ .q) i
   unfolding recAt
-  new-path = ap (λ (y : Rec). y .path) new
+  paths i h = ap (λ (y : Rec). y .path) (rec i h)
 
-  new-end : endOf (m′ .r) (suc (c .records)) ≡ c .addresses + np
-  new-end = rw add-one at (p .tables .ends)
+  tos : (i : ℕ) → i < c .records → toAt (m .r) i ≡ toAt (m′ .r) i
+  tos i h = goes-to (m .r) (m .s) (k .s) i (founds i h) ∙ sym (goes-to (m′ .r) (m′ .s) (k .s) i refl)
 
-  old-end : endOf (m′ .r) (c .records) ≡ c .addresses
-  old-end = ends-same (p .stays .rows) (c .records) (omega arith) ∙ old .ends
+  sums : (i : ℕ) → i < c .records → sumAt (m .r) i ≡ sumAt (m′ .r) i
+  sums i h = p .rows i h .sum ∙ ap pathSum (paths i h) ∙ sym (q .rows i h .sum)
 
-  new-kept : keptOf (m′ .r) (suc (c .records)) ≡ c .kept + kept x
-  new-kept = rw add-one at (p .tables .kept)
+  ends : (i : ℕ) → i ≤ c .records → endOf (m .r) i ≡ endOf (m′ .r) i
+  ends i h =
+      sym (recs-addresses (m .r) (m .q) (m .s) (k .s) {m = i} (λ j l. p .rows j (omega arith))) ∙ ap (total (λ (x : Rec). length (x .path))) (upto i h)
+      ∙ recs-addresses (m′ .r) (m′ .q) (m′ .s) (k .s) {m = i} (λ j l. q .rows j (omega arith))
 
-  old-kept : keptOf (m′ .r) (c .records) ≡ c .kept
-  old-kept = kept-same (p .stays .rows) (c .records) (omega arith) ∙ old .kept
+  kepts : (i : ℕ) → i ≤ c .records → keptOf (m .r) i ≡ keptOf (m′ .r) i
+  kepts i h =
+      sym (recs-kept-cells (m .r) (m .q) (m .s) (k .s) (p .few) {m = i} (λ j l. p .goes j (omega arith))) ∙ ap (total (λ (x : Rec). kept (x .to))) (upto i h)
+      ∙ recs-kept-cells (m′ .r) (m′ .q) (m′ .s) (k .s) (q .few) {m = i} (λ j l. q .goes j (omega arith))
 
-  new-addrs : addrs (m′ .q) (c .addresses) np ≡ path
-  unfolding pathAt
-  new-addrs =
-      let size : c .addresses + np - c .addresses ≡ np = omega arith in
-      let h : addrs (m′ .q) (endOf (m′ .r) (c .records)) (endOf (m′ .r) (suc (c .records)) - endOf (m′ .r) (c .records)) ≡ path = new-path in
-      rw (new-end, old-end, size) at h
+  shelf : (i : ℕ) → i < c .records → bucketAt buckets (m .r) i ≡ bucketAt buckets (m′ .r) i
+  shelf i h = bucket-same buckets (m′ .r) (m .r) i (sums i h)
 
-  new-sum : sumAt (m′ .r) (c .records) ≡ pathSum path
-  new-sum = p .tables .rows (c .records) (omega arith) .sum ∙ ap pathSum new-path
-
-  new-state : (u : ℕ) (s : Stack) → x ≡ found u s → Lies (m′ .s) (9 * (k .s - (c .kept + kept x))) (kept x) s
-  new-state u s e = go (p .tables .goes (c .records) (omega arith))
+  nexts : (i : ℕ) → i < c .records → nextAt (m .r) i ≡ nextAt (m′ .r) i
+  nexts i l = go (decLt n (toAt (m .r) i))
     where
-      go : Goes n (k .s) (m′ .r) (m′ .s) (c .records) → Lies (m′ .s) (9 * (k .s - (c .kept + kept x))) (kept x) s
-      go (leads-nowhere h z) =
-          let f : nowhere ≡ found u s = goes-nowhere (m′ .r) (m′ .s) (k .s) (c .records) new-found h ∙ e in
-          absurd (let z : _≡_ {A = ℕ} 0 1 = cc in omega arith)
-      go (leads h t) =
-          let f = goes-found (m′ .r) (m′ .s) (k .s) (c .records) new-found (omega (arith, old .few)) ∙ e in
-          let size : c .kept + kept x - c .kept ≡ kept x = omega arith in
-          let stack : stackAt (m′ .s) (9 * (k .s - keptOf (m′ .r) (suc (c .records)))) (keptOf (m′ .r) (suc (c .records)) - keptOf (m′ .r) (c .records)) ≡ s = cc f in
-          record { state = rw (new-kept, old-kept, size) at t; is = rw (new-kept, old-kept, size) at stack }
-
-module _ {n buckets np start : ℕ} {k : Rooms} {m m′ m″ : Mem} {c : Counts} {x : Found} {path : List ℕ} (old : Tables n buckets k m c)
-    (p : Made n buckets k m c np start x path m′) (q : Made n buckets k m c np start x path m″) where
-  made-q : Bytes (m′ .q) → Bytes (m″ .q) → m′ .q ≡ m″ .q
-  made-q b d =
-      let front : Same (m′ .q) (m″ .q) 0 (2 * c .addresses) = record { is = p .stays .frontQ ∙ sym (q .stays .frontQ) } in
-      let path : Same (m′ .q) (m″ .q) (2 * c .addresses) (2 * np) =
-      addrs-same b d (p .stays .longQ ∙ sym (q .stays .longQ)) (c .addresses) np (new-addrs old p ∙ sym (new-addrs old q)) in
-      same-whole (2 * (c .addresses + np)) (same-as (same-then front path (omega arith)) refl (omega arith)) (p .stays .backQ ∙ sym (q .stays .backQ))
-
-  made-s : m′ .s ≡ m″ .s
-  made-s = go x refl
-    where
-      fits : c .kept + kept x ≤ k .s
-      fits = omega (arith, p .tables .within .fitsS)
-
-      front : Same (m′ .s) (m″ .s) 0 (9 * (k .s - (c .kept + kept x)))
-      front = record { is = p .stays .frontS ∙ sym (q .stays .frontS) }
-
-      go : (y : Found) → x ≡ y → m′ .s ≡ m″ .s
-      go nowhere e =
-          let size : kept x ≡ 0 = ap kept e in
-          same-whole (9 * (k .s - c .kept)) (same-as front refl (omega arith)) (p .stays .backS ∙ sym (q .stays .backS))
-      go (found u s) e =
-          same-whole (9 * (k .s - c .kept)) (same-as (same-then front (one-lies (new-state old p u s e) (new-state old q u s e)) (omega arith)) refl (omega (arith, fits))) (p .stays .backS ∙ sym (q .stays .backS))
-
-  -- ---- the fields of each record
-
-  tos : (i : ℕ) → i < c .records + 1 → toAt (m′ .r) i ≡ toAt (m″ .r) i
-  tos =
-      each (λ (i : ℕ). toAt (m′ .r) i) (λ (i : ℕ). toAt (m″ .r) i) (c .records) (λ i l. p .stays .rows i l .to ∙ sym (q .stays .rows i l .to))
-      (goes-to (m′ .r) (m′ .s) (k .s) (c .records) (new-found old p) ∙ sym (goes-to (m″ .r) (m″ .s) (k .s) (c .records) (new-found old q)))
-
-  sums : (i : ℕ) → i < c .records + 1 → sumAt (m′ .r) i ≡ sumAt (m″ .r) i
-  sums =
-      each (λ (i : ℕ). sumAt (m′ .r) i) (λ (i : ℕ). sumAt (m″ .r) i) (c .records) (λ i l. p .stays .rows i l .sum ∙ sym (q .stays .rows i l .sum))
-      (new-sum old p ∙ sym (new-sum old q))
-
-  buckets-same : (i : ℕ) → i < c .records + 1 → bucketAt buckets (m′ .r) i ≡ bucketAt buckets (m″ .r) i
-  buckets-same i l = bucket-same buckets (m″ .r) (m′ .r) i (sums i l)
-
-  starts : (i : ℕ) → i < c .records + 1 → startAt (m′ .r) i ≡ startAt (m″ .r) i
-  starts =
-      each (λ (i : ℕ). startAt (m′ .r) i) (λ (i : ℕ). startAt (m″ .r) i) (c .records) (λ i l. p .stays .rows i l .start ∙ sym (q .stays .rows i l .start))
-      (new-start old p ∙ sym (new-start old q))
-
-  ends : (i : ℕ) → i < c .records + 1 → numAt 4 (m′ .r) (32 * i + 4) ≡ numAt 4 (m″ .r) (32 * i + 4)
-  unfolding endOf
-  ends =
-      each (λ (i : ℕ). numAt 4 (m′ .r) (32 * i + 4)) (λ (i : ℕ). numAt 4 (m″ .r) (32 * i + 4)) (c .records)
-      (λ i l. p .stays .rows i l .ends ∙ sym (q .stays .rows i l .ends)) (new-end old p ∙ sym (new-end old q))
-
-  kepts : (i : ℕ) → i < c .records + 1 → numAt 4 (m′ .r) (32 * i + 8) ≡ numAt 4 (m″ .r) (32 * i + 8)
-  unfolding keptOf
-  kepts =
-      each (λ (i : ℕ). numAt 4 (m′ .r) (32 * i + 8)) (λ (i : ℕ). numAt 4 (m″ .r) (32 * i + 8)) (c .records)
-      (λ i l. p .stays .rows i l .kept ∙ sym (q .stays .rows i l .kept)) (new-kept old p ∙ sym (new-kept old q))
-
-  nexts : (i : ℕ) → i < c .records + 1 → nextAt (m′ .r) i ≡ nextAt (m″ .r) i
-  nexts i l = go (decLt n (toAt (m′ .r) i))
-    where
-      go : Dec (n < toAt (m′ .r) i) → nextAt (m′ .r) i ≡ nextAt (m″ .r) i
-      go (yes h) = p .tables .parents .stops i l h ∙ sym (q .tables .parents .stops i l (omega (arith, tos i l)))
+      go : Dec (n < toAt (m .r) i) → nextAt (m .r) i ≡ nextAt (m′ .r) i
+      go (yes h) = p .parents .stops i l h ∙ sym (q .parents .stops i l (omega (arith, tos i l)))
       go (no h) =
-          p .tables .parents .nexts i l (omega arith)
-          ∙ following-same (toAt (m″ .r)) (toAt (m′ .r)) (toAt (m′ .r) i) (suc i) (c .records + 1) tos
-          ∙ ap (λ (y : ℕ). following (toAt (m″ .r)) y (suc i) (c .records + 1)) (tos i l)
-          ∙ sym (q .tables .parents .nexts i l (omega (arith, tos i l)))
+          p .parents .nexts i l (omega arith)
+          ∙ following-same (toAt (m′ .r)) (toAt (m .r)) (toAt (m .r) i) (suc i) (c .records) tos
+          ∙ ap (λ (y : ℕ). following (toAt (m′ .r)) y (suc i) (c .records)) (tos i l)
+          ∙ sym (q .parents .nexts i l (omega (arith, tos i l)))
 
-  chain : (i : ℕ) → i < c .records + 1 → linkAt (m′ .r) i ≡ linkAt (m″ .r) i
-  chain i l =
-      p .tables .chains .chained .links i l
-      ∙ newest-same (bucketAt buckets (m″ .r)) (bucketAt buckets (m′ .r)) (bucketAt buckets (m′ .r) i) i (λ j h. buckets-same j (omega arith))
-      ∙ ap (λ (y : ℕ). newest (bucketAt buckets (m″ .r)) y i) (buckets-same i l)
-      ∙ sym (q .tables .chains .chained .links i l)
+  links : (i : ℕ) → i < c .records → linkAt (m .r) i ≡ linkAt (m′ .r) i
+  links i l =
+      p .chains .chained .links i l
+      ∙ newest-same (bucketAt buckets (m′ .r)) (bucketAt buckets (m .r)) (bucketAt buckets (m .r) i) i (λ j h. shelf j (omega arith))
+      ∙ ap (λ (y : ℕ). newest (bucketAt buckets (m′ .r)) y i) (shelf i l)
+      ∙ sym (q .chains .chained .links i l)
 
-  module _ (b : Bytes (m′ .r)) (d : Bytes (m″ .r)) where
-    long-r : length (m′ .r) ≡ length (m″ .r)
-    long-r = p .stays .longR ∙ sym (q .stays .longR)
+  -- the rows of R but for their free bytes
+  module _ (b : Bytes (m .r)) (d : Bytes (m′ .r)) (long : length (m .r) ≡ length (m′ .r)) where
+    row-bytes : (i : ℕ) → i < c .records → Same (m .r) (m′ .r) (32 * i) 24
+    unfolding endOf keptOf
+    row-bytes i l =
+        let at : (o : ℕ) → numAt 4 (m .r) (32 * i + o) ≡ numAt 4 (m′ .r) (32 * i + o) → Same (m .r) (m′ .r) (32 * i + o) 4 = λ o e. same-num b d long 4 (32 * i + o) e in
+        let front : Same (m .r) (m′ .r) (32 * i) 4 = same-then (same-num b d long 2 (32 * i) (starts i l)) (same-num b d long 2 (32 * i + 2) (tos i l)) refl in
+        let half : Same (m .r) (m′ .r) (32 * i) 12 = same-then (same-then front (at 4 (ends (suc i) l)) refl) (at 8 (kepts (suc i) l)) refl in
+        same-then (same-then (same-then half (at 12 (nexts i l)) refl) (at 16 (links i l)) refl) (at 20 (sums i l)) refl
 
-    says : (i : ℕ) → i < c .records + 1 → Same (m′ .r) (m″ .r) (32 * i) 24
-    says i l =
-        let at : (o : ℕ) → numAt 4 (m′ .r) (32 * i + o) ≡ numAt 4 (m″ .r) (32 * i + o) → Same (m′ .r) (m″ .r) (32 * i + o) 4 = λ o e. same-num b d long-r 4 (32 * i + o) e in
-        let front : Same (m′ .r) (m″ .r) (32 * i) 4 = same-then (same-num b d long-r 2 (32 * i) (starts i l)) (same-num b d long-r 2 (32 * i + 2) (tos i l)) refl in
-        let half : Same (m′ .r) (m″ .r) (32 * i) 12 = same-then (same-then front (at 4 (ends i l)) refl) (at 8 (kepts i l)) refl in
-        same-then (same-then (same-then half (at 12 (nexts i l)) refl) (at 16 (chain i l)) refl) (at 20 (sums i l)) refl
+  -- the addresses of Q in use
+  module _ (b : Bytes (m .q)) (d : Bytes (m′ .q)) (long : length (m .q) ≡ length (m′ .q)) where
+    path-bytes : (i : ℕ) → i ≤ c .records → Same (m .q) (m′ .q) 0 (2 * endOf (m .r) i)
+    unfolding endOf pathAt
+    path-bytes zero h = record { is = refl }
+    path-bytes (suc i) h =
+        let path : addrs (m .q) (endOf (m .r) i) (endOf (m .r) (suc i) - endOf (m .r) i) ≡ addrs (m′ .q) (endOf (m .r) i) (endOf (m .r) (suc i) - endOf (m .r) i) =
+        paths i h ∙ rw (ends (suc i) h, ends i (omega arith)) in
+        same-as (same-then (path-bytes i (omega arith)) (addrs-same b d long (endOf (m .r) i) (endOf (m .r) (suc i) - endOf (m .r) i) path) (omega arith)) refl
+        (omega (arith, p .rows i h .rises))
 
-    row : (i : ℕ) → i < c .records → Same (m′ .r) (m″ .r) (0 + 32 * i) 32
-    row i l =
-        let free : Same (m′ .r) (m″ .r) (32 * i + 24) 8 = same-num b d long-r 8 (32 * i + 24) (p .stays .rows i l .free ∙ sym (q .stays .rows i l .free)) in
-        same-as (same-then (says i (omega arith)) free refl) (omega arith) refl
+  -- the kept cells of S
+  state-bytes : (i : ℕ) → i < c .records → Same (m .s) (m′ .s) (9 * (k .s - keptOf (m .r) (suc i))) (9 * (keptOf (m .r) (suc i) - keptOf (m .r) i))
+  state-bytes i h = go (p .goes i h) (q .goes i h)
+    where
+      go : Goes n (k .s) (m .r) (m .s) i → Goes n (k .s) (m′ .r) (m′ .s) i
+          → Same (m .s) (m′ .s) (9 * (k .s - keptOf (m .r) (suc i))) (9 * (keptOf (m .r) (suc i) - keptOf (m .r) i))
+      go (leads-nowhere e z) g = let none : 9 * (keptOf (m .r) (suc i) - keptOf (m .r) i) ≡ 0 = omega arith in rw none (record { is = refl })
+      go (leads e t) (leads-nowhere f z) = absurd (omega (arith, tos i h, p .few))
+      go (leads e t) (leads f u) =
+          let one = goes-found (m .r) (m .s) (k .s) i (founds i h) (omega (arith, p .few)) in
+          let two = goes-found (m′ .r) (m′ .s) (k .s) i refl (omega (arith, p .few)) in
+          let stack : stackAt (m .s) (9 * (k .s - keptOf (m .r) (suc i))) (keptOf (m .r) (suc i) - keptOf (m .r) i)
+          ≡ stackAt (m′ .s) (9 * (k .s - keptOf (m′ .r) (suc i))) (keptOf (m′ .r) (suc i) - keptOf (m′ .r) i) = cc (one, two) in
+          let other : Lies (m′ .s) (9 * (k .s - keptOf (m′ .r) (suc i))) (keptOf (m′ .r) (suc i) - keptOf (m′ .r) i)
+          (stackAt (m .s) (9 * (k .s - keptOf (m .r) (suc i))) (keptOf (m .r) (suc i) - keptOf (m .r) i)) = record { state = u; is = sym stack } in
+          one-lies (record { state = t; is = refl }) (rw (← kepts (suc i) h, ← kepts i (omega arith)) at other)
 
-    made-r : m′ .r ≡ m″ .r
-    made-r = same-whole (32 * c .records + 24) (same-then (same-rows 0 32 (c .records) row) (says (c .records) (omega arith)) (omega arith)) (p .stays .tail ∙ sym (q .stays .tail))
+  kept-bytes : (i : ℕ) → i ≤ c .records → Same (m .s) (m′ .s) (9 * (k .s - keptOf (m .r) i)) (9 * keptOf (m .r) i)
+  kept-bytes zero h = let none : keptOf (m .r) 0 ≡ 0 = kept-zero (m .r) in rw none (record { is = refl })
+  kept-bytes (suc i) h =
+      let rises : keptOf (m .r) i ≤ keptOf (m .r) (suc i) = kept-rises i (p .goes i h) in
+      let most : keptOf (m .r) (suc i) ≤ k .s = omega (arith, kept-grow (p .goes) (c .records) (suc i) h (omega arith), p .kept, p .within .fitsS) in
+      same-as (same-then (state-bytes i h) (kept-bytes i (omega arith)) (omega arith)) refl (omega arith)
 
-  -- ---- W: the first and the last found parent of each address, and the heads of the buckets; the rest of it is given
+  -- the first and the last found parent of each address in W, and the heads of the buckets
+  module _ (b : Bytes (m .w)) (d : Bytes (m′ .w)) (long : length (m .w) ≡ length (m′ .w)) where
+    parent-bytes : (a : ℕ) → a ≤ n → Same (m .w) (m′ .w) (20 * (n + 1) + 20 * a + 4) 8
+    parent-bytes a h =
+        let first : firstAt (m .w) n a ≡ firstAt (m′ .w) n a =
+        p .parents .firsts a h ∙ following-same (toAt (m′ .r)) (toAt (m .r)) a 0 (c .records) tos ∙ sym (q .parents .firsts a h) in
+        let last : lastAt (m .w) n a ≡ lastAt (m′ .w) n a =
+        p .parents .lasts a h ∙ newest-same (toAt (m′ .r)) (toAt (m .r)) a (c .records) tos ∙ sym (q .parents .lasts a h) in
+        same-then (same-num b d long 4 (20 * (n + 1) + 20 * a + 4) first) (same-num b d long 4 (20 * (n + 1) + 20 * a + 8) last) (omega arith)
 
-  module _ (b : Bytes (m′ .w)) (d : Bytes (m″ .w)) (long : length (m′ .w) ≡ length (m″ .w)) (front : take (20 * (n + 1)) (m′ .w) ≡ take (20 * (n + 1)) (m″ .w))
-      (marks : (a : ℕ) → a ≤ n → Same (m′ .w) (m″ .w) (20 * (n + 1) + 20 * a) 4) (rests : (a : ℕ) → a ≤ n → Same (m′ .w) (m″ .w) (20 * (n + 1) + 20 * a + 12) 8)
-      (work : Same (m′ .w) (m″ .w) (40 * (n + 1)) (2 * (n + 1)))
-      (back : drop (42 * (n + 1) + 4 * buckets) (m′ .w) ≡ drop (42 * (n + 1) + 4 * buckets) (m″ .w)) where
-    address : (a : ℕ) → a < n + 1 → Same (m′ .w) (m″ .w) (20 * (n + 1) + 20 * a) 20
-    address a h =
-        let first : firstAt (m′ .w) n a ≡ firstAt (m″ .w) n a =
-        p .tables .parents .firsts a (omega arith) ∙ following-same (toAt (m″ .r)) (toAt (m′ .r)) a 0 (c .records + 1) tos ∙ sym (q .tables .parents .firsts a (omega arith)) in
-        let last : lastAt (m′ .w) n a ≡ lastAt (m″ .w) n a =
-        p .tables .parents .lasts a (omega arith) ∙ newest-same (toAt (m″ .r)) (toAt (m′ .r)) a (c .records + 1) tos ∙ sym (q .tables .parents .lasts a (omega arith)) in
-        let at : (o : ℕ) → numAt 4 (m′ .w) (20 * (n + 1) + 20 * a + o) ≡ numAt 4 (m″ .w) (20 * (n + 1) + 20 * a + o) → Same (m′ .w) (m″ .w) (20 * (n + 1) + 20 * a + o) 4 =
-        λ o e. same-num b d long 4 (20 * (n + 1) + 20 * a + o) e in
-        same-then (same-then (same-then (marks a (omega arith)) (at 4 first) refl) (at 8 last) refl) (rests a (omega arith)) refl
-
-    bucket : (h : ℕ) → h < buckets → Same (m′ .w) (m″ .w) (42 * (n + 1) + 4 * h) 4
-    bucket h l =
+    bucket-bytes : (h : ℕ) → h < buckets → Same (m .w) (m′ .w) (42 * (n + 1) + 4 * h) 4
+    bucket-bytes h l =
         same-num b d long 4 (42 * (n + 1) + 4 * h)
-        (p .tables .chains .chained .heads h l ∙ newest-same (bucketAt buckets (m″ .r)) (bucketAt buckets (m′ .r)) h (c .records + 1) buckets-same
-        ∙ sym (q .tables .chains .chained .heads h l))
-
-    made-w : m′ .w ≡ m″ .w
-    made-w =
-        let rows : Same (m′ .w) (m″ .w) 0 (20 * (n + 1)) = record { is = front } in
-        let upto : Same (m′ .w) (m″ .w) 0 (40 * (n + 1)) = same-as (same-then rows (same-rows (20 * (n + 1)) 20 (n + 1) address) (omega arith)) refl (omega arith) in
-        let list : Same (m′ .w) (m″ .w) 0 (42 * (n + 1)) = same-as (same-then upto work (omega arith)) refl (omega arith) in
-        same-whole (42 * (n + 1) + 4 * buckets) (same-then list (same-rows (42 * (n + 1)) 4 buckets bucket) (omega arith)) back
+        (p .chains .chained .heads h l ∙ newest-same (bucketAt buckets (m′ .r)) (bucketAt buckets (m .r)) h (c .records) shelf ∙ sym (q .chains .chained .heads h l))
 
 -- every buffer holds bytes
 pub record AllBytes (m : Mem) : Type 0 where
@@ -355,47 +304,102 @@ pub record AllBytes (m : Mem) : Type 0 where
   pub q : Bytes (m .q)
   pub s : Bytes (m .s)
 
--- all four, where W is the same but for what a record changes in it
-pub one-made : {n buckets np start : ℕ} {k : Rooms} {m m′ m″ : Mem} {c : Counts} {x : Found} {path : List ℕ} → Tables n buckets k m c
-    → AllBytes m′ → AllBytes m″ → Made n buckets k m c np start x path m′ → Made n buckets k m c np start x path m″
-    → length (m′ .w) ≡ length (m″ .w) → take (20 * (n + 1)) (m′ .w) ≡ take (20 * (n + 1)) (m″ .w)
-    → ((a : ℕ) → a ≤ n → Same (m′ .w) (m″ .w) (20 * (n + 1) + 20 * a) 4) → ((a : ℕ) → a ≤ n → Same (m′ .w) (m″ .w) (20 * (n + 1) + 20 * a + 12) 8)
-    → Same (m′ .w) (m″ .w) (40 * (n + 1)) (2 * (n + 1)) → drop (42 * (n + 1) + 4 * buckets) (m′ .w) ≡ drop (42 * (n + 1) + 4 * buckets) (m″ .w)
-    → m′ ≡ m″
-one-made old b d p q long front marks rests work back =
-    let same-w = made-w old p q (b .w) (d .w) long front marks rests work back in
-    let same-r = made-r old p q (b .r) (d .r) in
-    let same-q = made-q old p q (b .q) (d .q) in
-    let same-s = made-s old p q in
-    λ i. record { w = same-w i; r = same-r i; q = same-q i; s = same-s i }
+-- every buffer is as long
+pub record AllLong (m m′ : Mem) : Type 0 where
+  pub w : length (m .w) ≡ length (m′ .w)
+  pub r : length (m .r) ≡ length (m′ .r)
+  pub q : length (m .q) ≡ length (m′ .q)
+  pub s : length (m .s) ≡ length (m′ .s)
+
+-- all that the records stand in, and their links, is the same
+pub record OneTables (n buckets : ℕ) (k : Rooms) (c : Counts) (m m′ : Mem) : Type 0 where
+  pub rows : (i : ℕ) → i < c .records → Same (m .r) (m′ .r) (32 * i) 24
+  pub paths : Same (m .q) (m′ .q) 0 (2 * c .addresses)
+  pub states : Same (m .s) (m′ .s) (9 * (k .s - c .kept)) (9 * c .kept)
+  pub parents : (a : ℕ) → a ≤ n → Same (m .w) (m′ .w) (20 * (n + 1) + 20 * a + 4) 8
+  pub heads : Same (m .w) (m′ .w) (42 * (n + 1)) (4 * buckets)
+
+pub one-tables : {n buckets : ℕ} {k : Rooms} {m m′ : Mem} {c : Counts} → AllBytes m → AllBytes m′ → AllLong m m′ → Tables n buckets k m c → Tables n buckets k m′ c
+    → recs k m c ≡ recs k m′ c → OneTables n buckets k c m m′
+one-tables {n} {buckets} {k} {m} {m′} {c} b d long p q same =
+    record {
+      rows = row-bytes p q same (b .r) (d .r) (long .r);
+      paths = rw (p .ends) at (path-bytes p q same (b .q) (d .q) (long .q) (c .records) (omega arith));
+      states = rw (p .kept) at (kept-bytes p q same (c .records) (omega arith));
+      parents = parent-bytes p q same (b .w) (d .w) (long .w);
+      heads = same-rows (42 * (n + 1)) 4 buckets (bucket-bytes p q same (b .w) (d .w) (long .w));
+    }
+
+-- ---- a record more: where W is the same but for what a record changes in it, all four are the same
+
+module _ {n buckets : ℕ} {k : Rooms} {r₀ q₀ s₀ : List ℕ} {m′ m″ : Mem} {c d : Counts} (grew : d .records ≡ c .records + 1) (most : d .kept ≤ k .s)
+    (one : OneTables n buckets k d m′ m″) (p : Stays k c d r₀ q₀ s₀ (m′ .r) (m′ .q) (m′ .s)) (q : Stays k c d r₀ q₀ s₀ (m″ .r) (m″ .q) (m″ .s)) where
+  more-r : Bytes (m′ .r) → Bytes (m″ .r) → m′ .r ≡ m″ .r
+  more-r a b =
+      let row : (i : ℕ) → i < c .records → Same (m′ .r) (m″ .r) (0 + 32 * i) 32 =
+      λ i l.
+      let free : Same (m′ .r) (m″ .r) (32 * i + 24) 8 = same-num a b (p .longR ∙ sym (q .longR)) 8 (32 * i + 24) (p .rows i l .free ∙ sym (q .rows i l .free)) in
+      same-as (same-then (one .rows i (omega arith)) free refl) (omega arith) refl in
+      same-whole (32 * c .records + 24) (same-then (same-rows 0 32 (c .records) row) (one .rows (c .records) (omega arith)) (omega arith)) (p .tail ∙ sym (q .tail))
+
+  more-q : m′ .q ≡ m″ .q
+  more-q = same-whole (2 * d .addresses) (one .paths) (p .backQ ∙ sym (q .backQ))
+
+  more-s : m′ .s ≡ m″ .s
+  more-s =
+      let front : Same (m′ .s) (m″ .s) 0 (9 * (k .s - d .kept)) = record { is = p .frontS ∙ sym (q .frontS) } in
+      let back : drop (9 * (k .s - c .kept)) (m′ .s) ≡ drop (9 * (k .s - c .kept)) (m″ .s) = p .backS ∙ sym (q .backS) in
+      same-whole (9 * k .s) (same-as (same-then front (one .states) (omega arith)) refl (omega arith)) (drop-more (m′ .s) (m″ .s) (9 * (k .s - c .kept)) back (9 * k .s) (omega arith))
+
+  module _ (front : take (20 * (n + 1)) (m′ .w) ≡ take (20 * (n + 1)) (m″ .w)) (marks : (a : ℕ) → a ≤ n → Same (m′ .w) (m″ .w) (20 * (n + 1) + 20 * a) 4)
+      (rests : (a : ℕ) → a ≤ n → Same (m′ .w) (m″ .w) (20 * (n + 1) + 20 * a + 12) 8) (work : Same (m′ .w) (m″ .w) (40 * (n + 1)) (2 * (n + 1)))
+      (back : drop (42 * (n + 1) + 4 * buckets) (m′ .w) ≡ drop (42 * (n + 1) + 4 * buckets) (m″ .w)) where
+    more-w : m′ .w ≡ m″ .w
+    more-w =
+        let address : (a : ℕ) → a < n + 1 → Same (m′ .w) (m″ .w) (20 * (n + 1) + 20 * a) 20 =
+        λ a h. same-then (same-then (marks a (omega arith)) (one .parents a (omega arith)) refl) (rests a (omega arith)) refl in
+        let rows : Same (m′ .w) (m″ .w) 0 (20 * (n + 1)) = record { is = front } in
+        let upto : Same (m′ .w) (m″ .w) 0 (40 * (n + 1)) = same-as (same-then rows (same-rows (20 * (n + 1)) 20 (n + 1) address) (omega arith)) refl (omega arith) in
+        let list : Same (m′ .w) (m″ .w) 0 (42 * (n + 1)) = same-as (same-then upto work (omega arith)) refl (omega arith) in
+        same-whole (42 * (n + 1) + 4 * buckets) (same-then list (one .heads) (omega arith)) back
+
+    pub one-more : AllBytes m′ → AllBytes m″ → m′ ≡ m″
+    one-more a b =
+        let same-r = more-r (a .r) (b .r) in
+        λ i. record { w = more-w i; r = same-r i; q = more-q i; s = more-s i }
 
 -- ---- recording
 
-pub one-recorded : {p : List ℕ} {np n buckets start : ℕ} {k : Rooms} {m m′ m″ : Mem} {c : Counts} {x : Found} {a e : Answer} → Tables n buckets k m c
-    → AllBytes m′ → AllBytes m″ → Recorded p np n buckets k m c start x m′ a → Recorded p np n buckets k m c start x m″ e → (a ≡ e) × (m′ ≡ m″)
-one-recorded {p} {np} {n} {buckets} {start} {k} {m} {m′} {m″} {c} {x} {a} {e} old b d f g = go (keyed (a .code) 0) (recorded? x (addrs p 0 np) (recs k m c)) refl
+pub one-recorded : {p : List ℕ} {np n buckets start : ℕ} {k : Rooms} {m m′ m″ : Mem} {c : Counts} {x : Found} {a e : Answer} → AllBytes m′ → AllBytes m″
+    → Recorded p np n buckets k m c start x m′ a → Recorded p np n buckets k m c start x m″ e → (a ≡ e) × (m′ ≡ m″)
+one-recorded {p} {np} {n} {buckets} {start} {k} {m} {m′} {m″} {c} {x} {a} {e} b d f g = go (keyed (a .code) 0) (recorded? x (addrs p 0 np) (recs k m c)) refl
   where
     code : a .code ≡ e .code
     code = f .tells ∙ sym (g .tells)
-
-    made : {v : Mem} {y : Answer} → Recorded p np n buckets k m c start x v y → y .code ≡ 0 → recorded? x (addrs p 0 np) (recs k m c) ≡ false
-        → Made n buckets k m c np start x (addrs p 0 np) v
-    made {v} {y} h z o =
-        let counts : y .counts ≡ counted c np (kept x) = h .counts z ∙ if-false _ _ _ o in
-        record { holds = rw counts at (h .holds z ∙ if-false _ _ _ o); tables = rw counts at (h .tables); stays = rw counts at (h .stays) }
 
     go : (a .code ≡ 0) ⊎ (a .code ≡ 0 → ⊥) → (o : Bool) → recorded? x (addrs p 0 np) (recs k m c) ≡ o → (a ≡ e) × (m′ ≡ m″)
     go (inl z) true o =
         let y : e .code ≡ 0 = sym code ∙ z in
         (one-answer code (f .counts z ∙ sym (g .counts y)), f .known o ∙ sym (g .known o))
     go (inl z) false o =
-        let y : e .code ≡ 0 = sym code ∙ z in (
-          one-answer code (f .counts z ∙ sym (g .counts y)),
-          one-made old b d (made f z o) (made g y o) (f .beyond .apart .long ∙ sym (g .beyond .apart .long)) (f .beyond .apart .front ∙ sym (g .beyond .apart .front))
+        let y : e .code ≡ 0 = sym code ∙ z in
+        let counts : a .counts ≡ e .counts = f .counts z ∙ sym (g .counts y) in
+        let made : a .counts ≡ counted c np (kept x) = f .counts z ∙ if-false _ _ _ o in
+        let long : AllLong m′ m″ =
+        record {
+          w = f .beyond .apart .long ∙ sym (g .beyond .apart .long);
+          r = f .stays .longR ∙ sym (g .stays .longR);
+          q = f .stays .longQ ∙ sym (g .stays .longQ);
+          s = f .stays .longS ∙ sym (g .stays .longS);
+        } in
+        let one = one-tables b d long (f .tables) (rw (sym counts) at (g .tables)) (f .holds z ∙ sym (rw (sym counts) at (g .holds y))) in (
+          one-answer code counts,
+          one-more (ap (λ (o : Counts). o .records) made) (omega (arith, f .tables .within .fitsS)) one (f .stays) (rw (sym counts) at (g .stays))
+              (f .beyond .apart .front ∙ sym (g .beyond .apart .front))
               (λ a h. same-both (20 * (n + 1) + 20 * a) 4 (f .beyond .apart .marks a h) (g .beyond .apart .marks a h))
               (λ a h. same-both (20 * (n + 1) + 20 * a + 12) 8 (f .beyond .apart .rests a h) (g .beyond .apart .rests a h))
               (same-both (40 * (n + 1)) (2 * (n + 1)) (f .beyond .work) (g .beyond .work))
-              (f .beyond .back ∙ sym (g .beyond .back)),
+              (f .beyond .back ∙ sym (g .beyond .back)) b d,
         )
     go (inr z) o h =
         let y : e .code ≡ 0 → ⊥ = λ h. z (code ∙ h) in
