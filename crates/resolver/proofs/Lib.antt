@@ -22,3 +22,4 @@ pub mod Settling
 pub mod Renewing
 pub mod Rolling
 pub mod Beginning
+pub mod Once
