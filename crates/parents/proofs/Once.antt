@@ -1,7 +1,7 @@
 -- The contracts leave no choice: two results of one call are the same; of `prepare`, all but what the runs leave in their part of W. Assumes nothing.
 use mathlib.Core.Path.{_≡_, refl, sym, _∙_}
 use mathlib.Core.List.{List, [], _∷_}
-use Prim.Native.Nat.{ℕ, _+_, _-_, _*_, _≤_}
+use Prim.Native.Nat.{ℕ, _+_, _-_, _*_}
 use native.Mathlib.Omega.{arith}
 use lib.ListN.{length}
 use Rattle.lent.proofs.Once.{Same, Outside, same-both, same-as, same-then, same-rows, same-outside}

@@ -2,13 +2,12 @@
 use mathlib.Core.Path.{_≡_, refl, sym, ap, _∙_}
 use mathlib.Core.Bool.{Bool}
 use mathlib.Core.List.{List}
-use Prim.Native.Nat.{ℕ, suc, _+_, _*_, _≤_, _<_}
+use Prim.Native.Nat.{ℕ, _+_, _*_, _≤_, _<_}
 use native.Mathlib.Omega.{arith}
 use lib.ListN.{length, take, drop}
 use Rattle.spec.specs.Lists.{if, mem}
 use Rattle.lent.proofs.Once.{Bytes, Same, Outside, one-stored, same-num, same-both, same-as, same-then, same-rows, same-whole, same-outside}
 use Rattle.reachable.specs.Marks.{markAt, flagAt, flagged, remark}
-use Rattle.reachable.specs.Links.{headAt, linkAt}
 use Rattle.reachable.specs.Contracts.{Begun, Marked, Expanded, Reaches}
 use Rattle.reachable.specs.Pruning.{Pruned}
 

@@ -2,23 +2,22 @@
 -- energy and counts, and the same bytes where the records, their links and W's rows stand. Assumes nothing.
 use mathlib.Core.Path.{_≡_, refl, sym, ap, _∙_}
 use mathlib.Core.Bool.{_||_}
-use mathlib.Core.List.{List, []}
+use mathlib.Core.List.{List}
 use Prim.Native.Nat.{ℕ, _+_, _*_, _≤_}
-use native.Mathlib.Omega.{arith}
 use lib.ListN.{length, take, drop}
 use Rattle.spec.specs.Lists.{mem, total}
 use Rattle.spec.specs.Search.{Rec, kept, begin, dests, reached-by}
 use Rattle.spec.specs.Answer.{prepared}
 use Rattle.spec.specs.Rooms.{Lent}
-use Rattle.lent.proofs.Once.{Bytes, Same, same-num}
+use Rattle.lent.proofs.Once.{Same, same-num}
 use Rattle.tables.specs.declared.Counts.{Counts}
 use Rattle.tables.proofs.Counted.{recs-length, recs-addresses, recs-kept-cells}
 use Rattle.tables.proofs.Once.{AllBytes, AllLong, OneTables, one-tables}
 use Rattle.reachable.specs.Marks.{flagged, markedBy}
-use Rattle.steps.specs.Paths.{countAt, occurs}
+use Rattle.steps.specs.Paths.{countAt}
 use Rattle.steps.specs.Runs.{Mem, tabled, recsIn}
 use Rattle.steps.specs.declared.Run.{Run}
-use Rattle.resolver.specs.Turns.{Idle, last-since, plan, Searched}
+use Rattle.resolver.specs.Turns.{last-since, plan, Searched}
 
 -- what two results share where the number is 0
 pub record OneSearch (code : List ℕ) (limit head : ℕ) (m m′ m″ : Mem) (d e : Run) : Type 0 where

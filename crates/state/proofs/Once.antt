@@ -1,9 +1,9 @@
 -- The contracts leave no choice: two results of one call are the same; of a run, all but what it leaves in its part of W beside the state's own cells.
 -- Assumes nothing.
 use mathlib.Core.Path.{_≡_, refl, sym, ap, _∙_}
-use mathlib.Core.Option.{Option, none, some}
+use mathlib.Core.Option.{Option}
 use mathlib.Core.List.{List}
-use Prim.Native.Nat.{ℕ, _+_, _-_, _*_, _≤_}
+use Prim.Native.Nat.{ℕ, _+_, _-_, _*_}
 use native.Mathlib.Omega.{arith}
 use Rattle.spec.specs.Stacks.{Sym, before, constant, jumpdest, other, Stack}
 use Rattle.lent.proofs.Once.{Same, Outside, one-stored, same-both}

@@ -3,15 +3,14 @@ use mathlib.Core.Path.{_≡_, refl, sym, ap, _∙_}
 use mathlib.Core.Logic.{_⊎_, inl, inr}
 use mathlib.Core.Bool.{Bool, true, false, _&&_}
 use mathlib.Core.List.{List, [], _∷_}
-use Prim.Native.Nat.{ℕ, suc, _+_, _-_, _*_, _≤_, _<_}
+use Prim.Native.Nat.{ℕ, _+_, _-_, _*_, _≤_, _<_}
 use native.Mathlib.Omega.{arith}
 use lib.Dec.{ltb}
-use lib.ListN.{length, take, drop}
+use lib.ListN.{length}
 use Rattle.spec.specs.Lists.{mem}
 use Rattle.spec.specs.Stacks.{Stack}
 use Rattle.spec.specs.Search.{Found, kept, dest, S}
 use Rattle.theorems.proofs.Branch.{if-false}
-use Rattle.lent.specs.Bytes.{numAt}
 use Rattle.lent.proofs.Once.{Bytes, Same, Outside, same-num, same-both, same-as, same-then, same-rows, same-whole, same-outside}
 use Rattle.state.specs.Owns.{roomOf}
 use Rattle.state.proofs.Once.{one-symbol, one-lies}
@@ -26,9 +25,9 @@ use Rattle.tables.specs.declared.row.Seen.{Seen}
 use Rattle.tables.proofs.Chains.{keyed}
 use Rattle.tables.proofs.Once.{AllBytes, AllLong, one-answer, one-tables, one-more, one-memorized, addrs-same}
 use Rattle.steps.specs.Lands.{remarked, Noted}
-use Rattle.steps.specs.Meets.{answerOf, Met}
+use Rattle.steps.specs.Meets.{Met}
 use Rattle.steps.specs.Paths.{Grown, Counted}
-use Rattle.steps.specs.States.{Composing, Took}
+use Rattle.steps.specs.States.{Took}
 use Rattle.steps.specs.declared.Plan.{Plan}
 use Rattle.steps.specs.declared.Level.{Level}
 use Rattle.steps.specs.declared.meet.Meeting.{Meeting}

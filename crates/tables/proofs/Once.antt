@@ -6,25 +6,24 @@ use mathlib.Core.List.{List, [], _∷_, _++_}
 use Prim.Native.Nat.{ℕ, zero, suc, _+_, _-_, _*_, _%_, _≤_, _<_}
 use native.Mathlib.Decide.{decLt}
 use native.Mathlib.Omega.{arith}
-use lib.Dec.{eqb}
 use lib.ListN.{length, take, drop}
 use lib.Seq.{take-append-le, take-all}
 use borrow.Author.Tests.{eq-eqb, ne-eqb}
-use Rattle.spec.specs.Lists.{if, total}
+use Rattle.spec.specs.Lists.{total}
 use Rattle.spec.specs.Search.{Found, nowhere, found, Rec, kept}
 use Rattle.theorems.proofs.Branch.{if-true, if-false}
 use Rattle.lent.specs.Bytes.{numAt}
 use Rattle.lent.proofs.Parts.{drop-more}
 use Rattle.lent.proofs.Once.{Bytes, Same, same-num, same-both, same-as, same-then, same-rows, same-whole, same-all}
-use Rattle.state.specs.Cells.{stackAt, State, Lies}
+use Rattle.state.specs.Cells.{stackAt, Lies}
 use Rattle.state.proofs.Syms.{split}
 use Rattle.state.proofs.Once.{one-lies}
 use Rattle.tables.specs.Addrs.{addrs, pathSum}
 use Rattle.tables.specs.Chains.{newest, following}
-use Rattle.tables.specs.Records.{none, startAt, toAt, nextAt, linkAt, sumAt, endOf, keptOf, bucketAt, firstAt, lastAt, headAt, pathAt, foundAt, recAt, recsOf}
+use Rattle.tables.specs.Records.{none, startAt, toAt, nextAt, linkAt, sumAt, endOf, keptOf, bucketAt, firstAt, lastAt, pathAt, foundAt, recAt, recsOf}
 use Rattle.tables.specs.Tables.{Mem, recs, Goes, leads-nowhere, leads, Tables, counted, Stays}
 use Rattle.tables.specs.Recording.{recorded?, Recorded}
-use Rattle.tables.specs.Rows.{topAt, stampAt, shelfAt, Stamped, Pushed}
+use Rattle.tables.specs.Rows.{topAt, shelfAt, Stamped, Pushed}
 use Rattle.tables.specs.Mets.{Memorized, Emptied}
 use Rattle.tables.specs.declared.Rooms.{Rooms}
 use Rattle.tables.specs.declared.Counts.{Counts}
