@@ -9,3 +9,4 @@ pub mod Asking
 pub mod Finished
 pub mod Paths
 pub mod Fitting
+pub mod Once

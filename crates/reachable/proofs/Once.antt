@@ -29,7 +29,7 @@ module _ {n : ℕ} {v u : List ℕ} (p : Bytes v) (q : Bytes u) (long : length v
       let flag : Same v u (20 * (n + 1 + x) + 18) 1 = same-num p q long 1 (20 * (n + 1 + x) + 18) (flags x (omega arith)) in
       same-as (same-then (same-then (same-then mark (fields x (omega arith)) refl) flag (omega arith)) (spare x (omega arith)) (omega arith)) (omega arith) refl
 
-  but-worklist : Outside (40 * (n + 1)) (2 * (n + 1)) v u
+  pub but-worklist : Outside (40 * (n + 1)) (2 * (n + 1)) v u
   but-worklist =
       let front : Same v u 0 (20 * (n + 1)) = record { is = rows } in
       let front : Same v u 0 (40 * (n + 1)) = same-as (same-then front (same-rows (20 * (n + 1)) 20 (n + 1) address) (omega arith)) refl (omega arith) in
