@@ -12,7 +12,7 @@ use Rattle.spec.specs.Rooms.{Lent}
 use Rattle.lent.proofs.Once.{Same, same-num}
 use Rattle.tables.specs.declared.Counts.{Counts}
 use Rattle.tables.proofs.Counted.{recs-length, recs-addresses, recs-kept-cells}
-use Rattle.tables.proofs.Once.{AllBytes, AllLong, OneTables, one-tables}
+use Rattle.tables.proofs.Alike.{AllBytes, AllLong, OneTables, one-tables}
 use Rattle.reachable.specs.Marks.{flagged, markedBy}
 use Rattle.steps.specs.Paths.{countAt}
 use Rattle.steps.specs.Runs.{Mem, tabled, recsIn}

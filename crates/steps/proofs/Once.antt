@@ -23,7 +23,8 @@ use Rattle.tables.specs.declared.Counts.{Counts}
 use Rattle.tables.specs.declared.Answer.{Answer}
 use Rattle.tables.specs.declared.row.Seen.{Seen}
 use Rattle.tables.proofs.Chains.{keyed}
-use Rattle.tables.proofs.Once.{AllBytes, AllLong, one-answer, one-tables, one-more, one-memorized, addrs-same}
+use Rattle.tables.proofs.Alike.{AllBytes, AllLong, one-tables, one-more, addrs-same}
+use Rattle.tables.proofs.Once.{one-answer, one-memorized}
 use Rattle.steps.specs.Lands.{remarked, Noted}
 use Rattle.steps.specs.Meets.{Met}
 use Rattle.steps.specs.Paths.{Grown, Counted}
