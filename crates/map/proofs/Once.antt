@@ -6,5 +6,5 @@ use Rattle.spec.specs.Program.{program}
 use Rattle.lent.specs.Bytes.{Stored}
 use Rattle.lent.proofs.Once.{one-stored}
 
-pub one-rendered : {text out u v : List ℕ} {a e : ℕ} → Stored a out 0 (program text) u → Stored e out 0 (program text) v → (a ≡ e) × (u ≡ v)
-one-rendered p q = one-stored p q
+pub one-rendered : (text : List ℕ) {out u v : List ℕ} {a e : ℕ} → Stored a out 0 (program text) u → Stored e out 0 (program text) v → (a ≡ e) × (u ≡ v)
+one-rendered text p q = one-stored p q
