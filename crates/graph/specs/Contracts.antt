@@ -5,7 +5,7 @@ use Prim.Native.Nat.{ℕ, _+_, _-_, _*_, _^_, _≤_, _<_}
 use lib.ListN.{length, take, drop}
 use Rattle.spec.specs.Search.{Node, Rec, dest}
 use Rattle.spec.specs.Answer.{prepared}
-use Rattle.theorems.proofs.Members.{In}
+use Rattle.theorems.specs.Lists.{In}
 use Rattle.lent.specs.Bytes.{numAt}
 use Rattle.initial.specs.Rows.{tagAt, rowBlocks, blocksAt}
 use Rattle.tables.specs.Records.{startAt, toAt, recsOf, Row}
