@@ -4,4 +4,4 @@ pub mod Told
 pub mod Mapping
 pub mod Calls
 pub mod JsonCalls
-pub mod JsonOnce
+pub mod Once

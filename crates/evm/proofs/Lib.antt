@@ -3,6 +3,7 @@ pub mod Walks
 pub mod Steps
 pub mod Arguments
 pub mod Table
+pub mod Once
 mod Listed
 mod Spells
 mod Held

@@ -1,5 +1,5 @@
 -- What is found at a place of the code, and what a caller learns of the walk from it. Assumes nothing.
-use mathlib.Core.Path.{_≡_, ap, sym}
+use mathlib.Core.Path.{_≡_, ap, sym, _∙_}
 use mathlib.Core.List.{List, [], _∷_}
 use Prim.Native.Nat.{ℕ, suc, _+_, _-_, _≤_, _<_}
 use native.Mathlib.Omega.{arith}
@@ -8,7 +8,7 @@ use lib.ListN.{length, getD, drop}
 use Rattle.spec.specs.Opcodes.{argument}
 use Rattle.spec.specs.Walk.{ins, walk}
 use Rattle.evm.specs.Rows.{SizeIs}
-use Rattle.evm.specs.Step.{stepOf, stepAt}
+use Rattle.evm.specs.Step.{stepOf, stepAt, nextOf, nextAt}
 use Rattle.evm.specs.declared.walk.Step.{Step}
 use Rattle.evm.specs.declared.walk.Step.the-variants.{Whole, End}
 use Rattle.evm.proofs.Walks.{next, walk-whole, walk-end}
@@ -56,6 +56,14 @@ module _ (code : List ℕ) (at : ℕ) where
             let t : to ≡ next code at = cc in
             record { here = p; byte = b; size = rw b t; inside = omega arith; walks = rw (b, t) (walk-whole code at h) }
         go (no h) = let f = none (omega arith) in let z : _≡_ {A = ℕ} 0 1 = cc in absurd (omega arith)
+
+    -- the ways out of next_at
+
+    pub next-whole : {pc op to : ℕ} → r ≡ Whole pc op to → to ≡ nextAt code at
+    next-whole w = ap (nextOf at) (sym w ∙ e)
+
+    pub next-none : r ≡ End → at ≡ nextAt code at
+    next-none w = ap (nextOf at) (sym w ∙ e)
 
     pub ended : r ≡ End → walk (drop at code) at 0 ≡ []
     ended w = go (decLe (next code at) (length code))

@@ -15,3 +15,11 @@ stepOf (i ∷ is) = Whole (i .pc) (i .op) (i .pc + suc (argument (i .op)))
 -- what stands at a place of the code
 unfoldable pub stepAt : List ℕ → ℕ → Step
 stepAt code at = stepOf (walk (drop at code) at 0)
+
+-- the place of the next one, if one stands there
+abbrev pub nextOf : ℕ → Step → ℕ
+nextOf at (Whole pc op next) = next
+nextOf at End = at
+
+abbrev pub nextAt : List ℕ → ℕ → ℕ
+nextAt code at = nextOf at (stepAt code at)

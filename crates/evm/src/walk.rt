@@ -3,7 +3,7 @@
 use crate::rows::size_of;
 ghost use mathlib.Core.Path.{_≡_};
 ghost use Rattle.evm.specs.Argument.{Follow, Spelled, Widened};
-ghost use Rattle.evm.specs.Step.{stepAt};
+ghost use Rattle.evm.specs.Step.{nextAt, stepAt};
 
 // A whole instruction, with the place of the next one; or none: the code ends, or ends before the instruction does.
 pub enum Step {
@@ -28,6 +28,16 @@ pub fn step_at(code: &[u8], at: usize) -> Step
         }
     } else {
         Step::End
+    }
+}
+
+// The place of the next instruction, if one stands at a place of the code, else the same place.
+pub fn next_at(code: &[u8], at: usize) -> usize
+    ensures { λ r. ⌜ r ≡ nextAt (now (code .entry)) at ⌝ }
+{
+    match step_at(code, at) {
+        Step::Whole { pc: _, op: _, next } => next,
+        Step::End => at,
     }
 }
 

@@ -1,9 +1,10 @@
 // The instruction walker: it holds the code that it walks and its place. The work is step_at, on a slice and a number.
 // "the instruction walker holds the code it walks and its place, after a plain slice-and-number core is proved"
 use crate::walk::Step;
+use crate::walk::next_at;
 use crate::walk::step_at;
 ghost use mathlib.Core.Path.{_≡_};
-ghost use Rattle.evm.specs.Step.{stepAt};
+ghost use Rattle.evm.specs.Step.{nextAt, stepAt};
 ghost use Rattle.evm.specs.Walker.{walkerAt};
 
 pub struct Walker<'a> {
@@ -24,6 +25,17 @@ impl<'a> Walker<'a> {
         ensures { λ r. ⌜ r ≡ stepAt (now (self .entry .code)) (self .entry .at) ⌝ }
     {
         step_at(self.code, self.at)
+    }
+
+    // The walker at the next instruction; where none stands it stays.
+    pub fn next(self) -> Walker<'a>
+        ensures { λ r. ⌜ r ≡ walkerAt (self .entry .code) (nextAt (now (self .entry .code)) (self .entry .at)) ⌝ }
+    {
+        let at = next_at(self.code, self.at);
+        Walker {
+            code: self.code,
+            at,
+        }
     }
 }
 

@@ -3,7 +3,7 @@ use mathlib.Core.Path.{_≡_, refl, sym, ap, subst, _∙_}
 use mathlib.Core.List.{List, map}
 use Prim.Native.Nat.{ℕ, zero, suc, _+_, _-_, _*_, _≤_, _<_}
 use native.Mathlib.Omega.{arith}
-use lib.ListN.{length}
+use lib.ListN.{length, take, drop}
 use Rattle.spec.specs.Blocks.{blocks}
 use Rattle.spec.specs.Stacks.{Stack}
 use Rattle.spec.specs.Search.{Rec, found}
@@ -11,17 +11,19 @@ use Rattle.spec.specs.Ending.{Final, finals}
 use Rattle.spec.specs.Answer.{prepared}
 use Rattle.theorems.proofs.Members.{In, here}
 use Rattle.lent.specs.Bytes.{numAt}
-use Rattle.initial.specs.Rows.{blocksAt}
+use Rattle.lent.proofs.Parts.{drop-more, part-prefix}
+use Rattle.lent.proofs.Numbers.{num-prefix}
+use Rattle.initial.specs.Rows.{tagAt, blocksAt}
 use Rattle.initial.proofs.Rows.{blocks-prefix}
-use Rattle.tables.specs.Records.{endOf, pathAt, recAt, recsOf}
+use Rattle.tables.specs.Records.{startAt, toAt, endOf, pathAt, recAt, recsOf}
 use Rattle.tables.proofs.Counted.{recs-length}
 use Rattle.reachable.specs.Pruning.{Pruned}
-use Rattle.reachable.proofs.Frames.{num-in}
+use Rattle.reachable.proofs.Frames.{num-in, part-in}
 use Rattle.reachable.proofs.Chaining.{chains-kept}
 use Rattle.reachable.proofs.Finals.{pruning-edges}
 use Rattle.graph.specs.Border.{endAt, EdgeOf, Finished}
-use Rattle.graph.specs.Notes.{noteOf, mergedBlock}
-use Rattle.graph.specs.Contracts.{Settled, Rewrote, Fits, Graphed}
+use Rattle.graph.specs.Notes.{noteOf, mergedBlock, mergedRow, edgeTo}
+use Rattle.graph.specs.Contracts.{Settled, EdgeFrom, Rewrote, Fits, Graphs, Graphed}
 use Rattle.graph.proofs.Finals.{note-of, finals-blocks}
 use Rattle.graph.proofs.Recs.{rec-in, in-rec, rec-at, rec-destination}
 use Rattle.graph.proofs.Edges.{RowOf, same-edges}
@@ -87,11 +89,48 @@ module _ {code s : List ℕ} {room m : ℕ} {w r q w₁ r₁ w₂ r₂ : List �
         few = rw long (omega (arith, f .few));
       }
 
-pub graphed : {n m : ℕ} {w r q w₁ r₁ w₂ r₂ : List ℕ} → Settled n m w r w₁ → Rewrote m w₁ r q r₁ → Pruned n m w₁ r₁ w₂ r₂ → Graphed n m w r q w₂ r₂
-graphed {m} {w} {r} {q} {w₁} {r₁} {w₂} {r₂} t e p = record {
+-- ---- the bytes, whatever code it is
+
+module _ {n m : ℕ} {w r q w₁ r₁ w₂ r₂ : List ℕ} (a : Graphs n m w r q) (t : Settled n m w r w₁) (e : Rewrote m w₁ r q r₁) (p : Pruned n m w₁ r₁ w₂ r₂) where
+  merged-row : (x : ℕ) → x ≤ n → take 20 (drop (20 * x) w₂) ≡ mergedRow n (noteOf r x m) w x
+  merged-row x h = part-prefix w₂ w₁ (20 * (n + 1)) (p .rows) 20 (20 * x) (omega arith) ∙ t .bytes x h
+
+  field : (i : ℕ) → i < m → (k o : ℕ) → o + k ≤ 8 → numAt k r₂ (32 * i + o) ≡ numAt k r₁ (32 * i + o)
+  field i h k o g = num-in r₂ r₁ 8 (32 * i) (p .stay .before i h) k (32 * i + o) (omega arith) (omega arith)
+
+  edge-from : (i : ℕ) → i < m → EdgeFrom w₂ r q i r₂
+  edge-from i h =
+      let x = e .rows i h in
+      let tag : tagAt w₂ (startAt r i) ≡ tagAt w₁ (startAt r i) =
+      num-prefix w₂ w₁ (20 * (n + 1)) (p .rows) 1 (20 * startAt r i) (omega (arith, start-lies (a .fits) i h)) in
+      record {
+        start = num-in r₂ r₁ 8 (32 * i) (p .stay .before i h) 2 (32 * i) (omega arith) (omega arith) ∙ x .start;
+        edge = field i h 2 2 (omega arith) ∙ x .edge ∙ ap (λ (y : ℕ). edgeTo y (toAt r i)) (sym tag);
+        last = field i h 2 4 (omega arith) ∙ x .last;
+        to = field i h 2 6 (omega arith) ∙ x .to;
+        end = num-in r₂ r₁ 16 (32 * i + 16) (p .stay .after i h) 4 (32 * i + 16) (omega arith) (omega arith) ∙ x .end;
+        rest = part-in r₂ r₁ 16 (32 * i + 16) (p .stay .after i h) 12 (32 * i + 20) (omega arith) (omega arith) ∙ x .rest;
+      }
+
+  past-worklist : drop (42 * (n + 1)) w₂ ≡ drop (42 * (n + 1)) w
+  past-worklist = p .beyond ∙ drop-more w₁ w (40 * (n + 1)) (t .beyond) (42 * (n + 1)) (omega arith)
+
+-- ---- together
+
+pub graphed : {n m : ℕ} {w r q w₁ r₁ w₂ r₂ : List ℕ} → Graphs n m w r q → Settled n m w r w₁ → Rewrote m w₁ r q r₁ → Pruned n m w₁ r₁ w₂ r₂ → Graphed n m w r q w₂ r₂
+graphed {n} {m} {w} {r} {q} {w₁} {r₁} {w₂} {r₂} a t e p = record {
   finished = λ code s room f.
       subst (λ (k : ℕ). Fits code s room k m w r q → Settled k m w r w₁ → Pruned k m w₁ r₁ w₂ r₂ → Finished code (recsOf r q s room m) w₂ r₂ q) (f .size)
       (λ g u v. finish g u e v) f t p;
+  rows = merged-row a t e p;
+  fresh = p .fresh;
+  edges = edge-from a t e p;
+  places = chains-kept r₂ w₂ r₂ (p .places) (λ i h. field a t e p i h 2 0 (omega arith)) (λ x h. refl) (λ i h. refl);
+  witnesses = chains-kept r₂ w₂ r₂ (p .witnesses) (λ i h. field a t e p i h 2 4 (omega arith)) (λ x h. refl) (λ i h. refl);
+  fields = p .fields;
+  spare = p .spare;
+  beyondW = past-worklist a t e p;
+  beyondR = p .stay .beyond ∙ e .beyond;
   longW = p .long ∙ t .long;
   longR = p .stay .long ∙ e .long;
 }

@@ -10,7 +10,7 @@ use borrow.Author.Tests.{eq-eqb, ne-eqb}
 use Rattle.spec.specs.Lists.{if, little}
 use Rattle.theorems.proofs.Branch.{both, if-true, if-false}
 use Rattle.lent.specs.Bytes.{Holds, Stored}
-use Rattle.lent.proofs.Stored.{kept-take, kept-num, read-back}
+use Rattle.lent.proofs.Stored.{kept-take, kept-drop, kept-num, read-back}
 use Rattle.tables.specs.Records.{none, startAt, toAt}
 use Rattle.reachable.specs.Contracts.{Room, Begun}
 use Rattle.reachable.proofs.Marks.{begun-num, begun-rows}
@@ -43,7 +43,7 @@ pub note-none : {n i to : ℕ} {w r : List ℕ} → Holds 2 r (32 * i + 2) to �
 unfolding stepped
 note-none {n} {i} {w} {r} h e = record {
   notes = λ a _. sym (both (λ (v : ℕ). v ≡ noteAt w n a) (eqb a (startAt r i)) (λ _. if-true _ _ _ (eq-eqb (toAt r i) none (sym (h .is) ∙ e))) (λ _. refl));
-  kept = record { rows = refl; long = refl };
+  kept = record { rows = refl; beyond = refl; long = refl };
 }
 
 pub note-one : {n i to a old v : ℕ} {w r w′ : List ℕ} → Starts n r i → Holds 2 r (32 * i + 2) to → (to ≡ 0x8000 → ⊥) → Holds 2 r (32 * i) a
@@ -51,7 +51,7 @@ pub note-one : {n i to a old v : ℕ} {w r w′ : List ℕ} → Starts n r i →
 unfolding stepped
 note-one {n} {i} {to} {a} {old} {v} {w} {r} {w′} s t ne h o e p = record {
   notes = λ x l. split x (ℕ-discrete x a);
-  kept = record { rows = kept-take p (20 * (n + 1)) (omega arith); long = p .kept };
+  kept = record { rows = kept-take p (20 * (n + 1)) (omega arith); beyond = kept-drop p (40 * (n + 1)) (omega (arith, h .is, s .start)); long = p .kept };
 }
   where
     there : toAt r i ≡ none → ⊥
@@ -89,7 +89,7 @@ module _ {n m : ℕ} {v r w₀ : List ℕ} (b : Begun n v w₀) where
   unfolding noteOf
   note-start = record {
     notes = λ a h. begun-num b 4 (20 * (n + 1 + a) + 4) (omega arith) (omega arith);
-    kept = record { rows = refl; long = refl };
+    kept = record { rows = refl; beyond = refl; long = refl };
     inside = omega arith;
   }
 
@@ -100,7 +100,14 @@ module _ {n m : ℕ} {v r w₀ : List ℕ} (b : Begun n v w₀) where
     pub note-done : m ≤ i → Noted n m v r w
     note-done h =
         let e : i ≡ m = omega (arith, g .inside) in
-        record { notes = rw e at (g .notes); kept = record { rows = g .kept .rows ∙ begun-rows b; long = g .kept .long ∙ b .wipes .kept } }
+        record {
+          notes = rw e at (g .notes);
+          kept = record {
+            rows = g .kept .rows ∙ begun-rows b;
+            beyond = g .kept .beyond ∙ kept-drop (b .wipes) (40 * (n + 1)) (omega arith);
+            long = g .kept .long ∙ b .wipes .kept;
+          };
+        }
 
 pub note-row : {n m i : ℕ} {w r : List ℕ} → Notes n m w r → i < m → Starts n r i
 note-row {i} a h = a .each i h
@@ -108,6 +115,6 @@ note-row {i} a h = a .each i h
 pub note-turn : {n m i : ℕ} {w₀ r w w′ : List ℕ} → Noting n m w₀ r w i → i < m → NotedRow n w r i w′ → Noting n m w₀ r w′ (i + 1)
 note-turn {i} {r} g h t = record {
   notes = λ a l. t .notes a l ∙ ap (stepped r i a) (g .notes a l) ∙ sym (note-next r a i);
-  kept = record { rows = t .kept .rows ∙ g .kept .rows; long = t .kept .long ∙ g .kept .long };
+  kept = record { rows = t .kept .rows ∙ g .kept .rows; beyond = t .kept .beyond ∙ g .kept .beyond; long = t .kept .long ∙ g .kept .long };
   inside = omega arith;
 }

@@ -9,9 +9,9 @@ use borrow.Author.Tests.{eq-eqb, ne-eqb}
 use Rattle.spec.specs.Lists.{little}
 use Rattle.theorems.proofs.Branch.{if-true, if-false}
 use Rattle.lent.specs.Bytes.{numAt, Holds, Stored}
-use Rattle.lent.proofs.Parts.{drop-more}
+use Rattle.lent.proofs.Parts.{drop-more, part-prefix, part-suffix}
 use Rattle.lent.proofs.Numbers.{num-prefix, num-suffix}
-use Rattle.lent.proofs.Stored.{kept-take, kept-drop, kept-num, read-back}
+use Rattle.lent.proofs.Stored.{kept-take, kept-drop, kept-part, kept-num, read-back}
 use Rattle.initial.specs.Rows.{tagAt}
 use Rattle.tables.specs.Records.{none, startAt}
 use Rattle.graph.specs.Notes.{edgeTo}
@@ -48,6 +48,8 @@ put-edge {i} ht hl ho he s₁ s₂ s₃ s₄ = record {
   witness = kept-num s₄ 2 (32 * i + 4) (λ _. omega arith) ∙ kept-num s₃ 2 (32 * i + 4) (λ _. omega arith) ∙ read-back s₂ hl;
   leads = kept-num s₄ 2 (32 * i + 6) (λ _. omega arith) ∙ read-back s₃ ho;
   ends = read-back s₄ he;
+  rest = kept-part s₄ 12 (32 * i + 20) (λ l. omega arith) ∙ kept-part s₃ 12 (32 * i + 20) (λ l. omega arith) ∙ kept-part s₂ 12 (32 * i + 20) (λ l. omega arith)
+      ∙ kept-part s₁ 12 (32 * i + 20) (λ l. omega arith);
   before = kept-take s₄ (32 * i) (omega arith) ∙ kept-take s₃ (32 * i) (omega arith) ∙ kept-take s₂ (32 * i) (omega arith) ∙ kept-take s₁ (32 * i) (omega arith);
   past = kept-drop s₄ (32 * (i + 1)) (omega arith) ∙ kept-drop s₃ (32 * (i + 1)) (omega arith) ∙ kept-drop s₂ (32 * (i + 1)) (omega arith)
       ∙ kept-drop s₁ (32 * (i + 1)) (omega arith);
@@ -63,6 +65,7 @@ rewrote-row ha ht he hl e p = record {
     last = p .witness ∙ hl .is ∙ rw (he .is);
     to = p .leads ∙ ht .is;
     end = p .ends ∙ he .is;
+    rest = p .rest;
   };
   before = p .before;
   past = p .past;
@@ -91,6 +94,7 @@ edge-kept {r} {r′} {j} {i} e h g =
       last = same 2 4 (omega arith) ∙ g .last;
       to = same 2 6 (omega arith) ∙ g .to;
       end = same 4 16 (omega arith) ∙ g .end;
+      rest = part-prefix r′ r (32 * i) e 12 (32 * j + 20) (omega arith) ∙ g .rest;
     }
 
 module _ {m i : ℕ} {w r₀ q r : List ℕ} (g : Rewriting m w r₀ q r i) where
@@ -124,6 +128,7 @@ module _ {m i : ℕ} {w r₀ q r : List ℕ} (g : Rewriting m w r₀ q r i) wher
         last = t .row .last ∙ rw (same 4 4);
         to = t .row .to ∙ same 2 2;
         end = t .row .end ∙ same 4 4;
+        rest = t .row .rest ∙ part-suffix r r₀ (32 * i) (g .back) 12 (32 * i + 20) (omega arith);
       }
 
       split : (j : ℕ) → j < i + 1 → Dec (j ≡ i) → EdgeFrom w r₀ q j r′
@@ -131,4 +136,6 @@ module _ {m i : ℕ} {w r₀ q r : List ℕ} (g : Rewriting m w r₀ q r i) wher
       split j l (no e) = edge-kept {i = i} (t .before) (omega arith) (g .rows j (omega arith))
 
   pub rewrite-done : m ≤ i → Rewrote m w r₀ q r
-  rewrite-done h = record { rows = λ j l. g .rows j (omega arith); long = g .long }
+  rewrite-done h =
+      let all : i ≡ m = omega (arith, g .inside) in
+      record { rows = λ j l. g .rows j (omega arith); beyond = rw all at (g .back); long = g .long }

@@ -2,16 +2,17 @@
 use mathlib.Core.Path.{_≡_}
 use mathlib.Core.List.{List, map}
 use Prim.Native.Nat.{ℕ, _+_, _-_, _*_, _^_, _≤_, _<_}
-use lib.ListN.{length, take, drop}
+use lib.ListN.{length, take, drop, replicate}
 use Rattle.spec.specs.Search.{Node, Rec, dest}
 use Rattle.spec.specs.Answer.{prepared}
-use Rattle.theorems.proofs.Members.{In}
+use Rattle.theorems.specs.Lists.{In}
 use Rattle.lent.specs.Bytes.{numAt}
 use Rattle.initial.specs.Rows.{tagAt, rowBlocks, blocksAt}
 use Rattle.tables.specs.Records.{startAt, toAt, recsOf, Row}
-use Rattle.reachable.specs.Contracts.{Room}
+use Rattle.reachable.specs.Contracts.{Room, Fresh}
+use Rattle.reachable.specs.Pruning.{Chains}
 use Rattle.graph.specs.Border.{Finished}
-use Rattle.graph.specs.Notes.{noteAt, stepped, noteOf, mergedBy, mergedBlock, edgeTo}
+use Rattle.graph.specs.Notes.{noteAt, stepped, noteOf, mergedBy, mergedBlock, mergedRow, edgeTo}
 
 -- ---- notes
 
@@ -20,9 +21,10 @@ pub record Starts (n : ℕ) (r : List ℕ) (i : ℕ) : Type 0 where
   pub inR : 32 * i + 32 ≤ length r
   pub start : startAt r i ≤ n
 
--- the rows of W stay
+-- the rows of W stay, and what is past the fields of the addresses
 pub record RowsKept (n : ℕ) (w w′ : List ℕ) : Type 0 where
   pub rows : take (20 * (n + 1)) w′ ≡ take (20 * (n + 1)) w
+  pub beyond : drop (40 * (n + 1)) w′ ≡ drop (40 * (n + 1)) w
   pub long : length w′ ≡ length w
 
 pub record NotedRow (n : ℕ) (w r : List ℕ) (i : ℕ) (w′ : List ℕ) : Type 0 where
@@ -41,6 +43,7 @@ pub record Noted (n m : ℕ) (w r w′ : List ℕ) : Type 0 where
 
 pub record MergedRow (n : ℕ) (w : List ℕ) (a : ℕ) (w′ : List ℕ) : Type 0 where
   pub same : rowBlocks w′ a ≡ map (mergedBy n (noteAt w n a)) (rowBlocks w a)
+  pub bytes : take 20 (drop (20 * a) w′) ≡ mergedRow n (noteAt w n a) w a
   pub before : take (20 * a) w′ ≡ take (20 * a) w
   pub past : drop (20 * (a + 1)) w′ ≡ drop (20 * (a + 1)) w
   pub long : length w′ ≡ length w
@@ -48,10 +51,14 @@ pub record MergedRow (n : ℕ) (w : List ℕ) (a : ℕ) (w′ : List ℕ) : Type
 -- every block is merged by the note that stands in W, and by that of the records
 pub record Merged (n : ℕ) (w w′ : List ℕ) : Type 0 where
   pub blocks : blocksAt w′ n ≡ map (mergedBlock n (noteAt w n)) (blocksAt w n)
+  pub bytes : (a : ℕ) → a ≤ n → take 20 (drop (20 * a) w′) ≡ mergedRow n (noteAt w n a) w a
+  pub beyond : drop (20 * (n + 1)) w′ ≡ drop (20 * (n + 1)) w
   pub long : length w′ ≡ length w
 
 pub record Settled (n m : ℕ) (w r w′ : List ℕ) : Type 0 where
   pub blocks : blocksAt w′ n ≡ map (mergedBlock n (λ (a : ℕ). noteOf r a m)) (blocksAt w n)
+  pub bytes : (a : ℕ) → a ≤ n → take 20 (drop (20 * a) w′) ≡ mergedRow n (noteOf r a m) w a
+  pub beyond : drop (40 * (n + 1)) w′ ≡ drop (40 * (n + 1)) w
   pub long : length w′ ≡ length w
 
 -- ---- the rows of edges
@@ -61,13 +68,14 @@ pub record EdgeIs (w : List ℕ) (a to v : ℕ) : Type 0 where
   pub is : v ≡ edgeTo (tagAt w a) to
   pub small : v < 65536
 
--- the fields of row i are stored, and its start stays
+-- the fields of row i are stored, and its start and its last twelve bytes stay
 pub record EdgePut (r : List ℕ) (i to last own end : ℕ) (r′ : List ℕ) : Type 0 where
   pub start : numAt 2 r′ (32 * i) ≡ startAt r i
   pub edge : numAt 2 r′ (32 * i + 2) ≡ to
   pub witness : numAt 2 r′ (32 * i + 4) ≡ last
   pub leads : numAt 2 r′ (32 * i + 6) ≡ own
   pub ends : numAt 4 r′ (32 * i + 16) ≡ end
+  pub rest : take 12 (drop (32 * i + 20) r′) ≡ take 12 (drop (32 * i + 20) r)
   pub before : take (32 * i) r′ ≡ take (32 * i) r
   pub past : drop (32 * (i + 1)) r′ ≡ drop (32 * (i + 1)) r
   pub long : length r′ ≡ length r
@@ -85,6 +93,7 @@ pub record EdgeFrom (w r q : List ℕ) (i : ℕ) (r′ : List ℕ) : Type 0 wher
   pub last : numAt 2 r′ (32 * i + 4) ≡ numAt 2 q (2 * (numAt 4 r (32 * i + 4) - 1))
   pub to : numAt 2 r′ (32 * i + 6) ≡ toAt r i
   pub end : numAt 4 r′ (32 * i + 16) ≡ numAt 4 r (32 * i + 4)
+  pub rest : take 12 (drop (32 * i + 20) r′) ≡ take 12 (drop (32 * i + 20) r)
 
 pub record RewroteRow (w r q : List ℕ) (i : ℕ) (r′ : List ℕ) : Type 0 where
   pub row : EdgeFrom w r q i r′
@@ -97,6 +106,7 @@ pub record Rewrites (m : ℕ) (w r q : List ℕ) : Type 0 where
 
 pub record Rewrote (m : ℕ) (w r q r′ : List ℕ) : Type 0 where
   pub rows : (i : ℕ) → i < m → EdgeFrom w r q i r′
+  pub beyond : drop (32 * m) r′ ≡ drop (32 * m) r
   pub long : length r′ ≡ length r
 
 -- ---- the whole
@@ -124,8 +134,17 @@ pub record Graphs (n m : ℕ) (w r q : List ℕ) : Type 0 where
   pub room : ℕ
   pub fits : Fits code states room n m w r q
 
--- and for each such, all is finished
+-- and for each such, all is finished. Of W the worklist is scratch; all else, and every byte of R, is said.
 pub record Graphed (n m : ℕ) (w r q w′ r′ : List ℕ) : Type 0 where
   pub finished : (code s : List ℕ) (room : ℕ) → Fits code s room n m w r q → Finished code (recsOf r q s room m) w′ r′ q
+  pub rows : (a : ℕ) → a ≤ n → take 20 (drop (20 * a) w′) ≡ mergedRow n (noteOf r a m) w a
+  pub fresh : Fresh n w′
+  pub edges : (i : ℕ) → i < m → EdgeFrom w′ r q i r′
+  pub places : Chains n m 0 r′ w′ r′ 0
+  pub witnesses : Chains n m 4 r′ w′ r′ 0
+  pub fields : (x : ℕ) → x ≤ n → take 6 (drop (20 * (n + 1 + x) + 12) w′) ≡ replicate 6 0
+  pub spare : (x : ℕ) → x ≤ n → take 1 (drop (20 * (n + 1 + x) + 19) w′) ≡ replicate 1 0
+  pub beyondW : drop (42 * (n + 1)) w′ ≡ drop (42 * (n + 1)) w
+  pub beyondR : drop (32 * m) r′ ≡ drop (32 * m) r
   pub longW : length w′ ≡ length w
   pub longR : length r′ ≡ length r

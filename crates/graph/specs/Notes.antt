@@ -1,11 +1,14 @@
 -- The note of an address: the one destination of its records and 1 more, 0 where they have none, `several` where they have more than one. It stands in W
 -- among the address's fields of others. Assumes nothing.
-use mathlib.Core.List.{List}
+use mathlib.Core.Bool.{not, _&&_}
+use mathlib.Core.List.{List, _++_}
 use Prim.Native.Nat.{ℕ, zero, suc, _+_, _-_, _*_}
 use lib.Dec.{eqb, leb}
+use lib.ListN.{take, drop}
 use Rattle.spec.specs.Lists.{if}
 use Rattle.spec.specs.Blocks.{Kind, terminate, jump, jumpi, dynamic-jump, dynamic-jumpi, Block, with-kind}
 use Rattle.lent.specs.Bytes.{numAt}
+use Rattle.initial.specs.Rows.{typed, tagAt, headOf}
 use Rattle.tables.specs.Records.{none, startAt, toAt}
 
 abbrev pub several : ℕ
@@ -44,6 +47,12 @@ mergedBy n note b = with-kind (mergedKind n note (b .kind)) b
 -- by the note of its start
 abbrev pub mergedBlock : ℕ → (ℕ → ℕ) → Block → Block
 mergedBlock n notes b = mergedBy n (notes (b .start)) b
+
+-- the twenty bytes of the row of a after that: the kind and the sides are new where the kind is DynamicJump and its note says one destination
+unfoldable pub mergedRow : ℕ → ℕ → List ℕ → ℕ → List ℕ
+mergedRow n note w a =
+    if (eqb (tagAt w a) 5 && not (eqb note 0) && leb note (n + 1)) (headOf (numAt 2 w (20 * a + 2)) (typed 3 (note - 1) 0) ++ take 12 (drop (20 * a + 8) w))
+    (take 20 (drop (20 * a) w))
 
 -- the destination that a row of edges has: the record's, if its block is still a DynamicJump
 unfoldable pub edgeTo : ℕ → ℕ → ℕ

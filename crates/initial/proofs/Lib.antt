@@ -1,9 +1,9 @@
--- Rows, Types, Writing, Later and Exact are what a crate above cites of the rows. The others serve the proofs of this one.
+-- Rows, Types, Writing, Later and Once are what a crate above cites of the rows. The others serve the proofs of this one.
 pub mod Rows
 pub mod Types
 pub mod Writing
 pub mod Later
-pub mod Exact
+pub mod Once
 mod Bytes
 mod Jumping
 mod Turning

@@ -58,7 +58,7 @@ pub fn cut_of(op: u8) -> Cut
     }
 }
 
-// Is the byte known? By its range, since to read evm's constant rows is to write all of them out first.
+// Is the byte known? By its range: of a row no more is needed here.
 fn known(op: u8) -> bool
     ensures { λ r. ⌜ r ≡ row op .known ⌝ }
 {

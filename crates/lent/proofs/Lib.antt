@@ -4,3 +4,4 @@ pub mod Numbers
 pub mod Stored
 pub mod Holds
 pub mod Runs
+pub mod Once

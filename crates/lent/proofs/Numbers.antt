@@ -33,7 +33,7 @@ little-add (suc j) k v = rw (suc-add, pow-succ', ← div-div-eq-div-mul v 256 (2
 -- ---- the number at a place
 
 -- its lowest byte, and the others
-num-step : (k : ℕ) (b : List ℕ) (at : ℕ) → numAt (suc k) b at ≡ getD b at 0 + numAt k b (at + 1) * 256
+pub num-step : (k : ℕ) (b : List ℕ) (at : ℕ) → numAt (suc k) b at ≡ getD b at 0 + numAt k b (at + 1) * 256
 unfolding numAt number
 num-step k [] zero = simp take-nil
 num-step k (x ∷ b) zero = refl

@@ -7,3 +7,4 @@ pub mod Cutting
 pub mod Telling
 pub mod Answering
 pub mod Rendering
+pub mod Once

@@ -17,6 +17,7 @@ use Rattle.theorems.proofs.Members.{In, here, there, in-keep, in-gather, in-map
 use Rattle.theorems.proofs.Cutting.{block-afresh}
 use Rattle.theorems.proofs.Sides.{node-within, sides-within}
 use Rattle.initial.proofs.Rows.{blocks-prefix}
+pub use Rattle.parents.specs.Links.{parentOf, Comes}
 use Rattle.parents.specs.Links.{Turn, turnOf, directTo, fromOf}
 use Rattle.parents.specs.Contracts.{Known}
 use Rattle.parents.proofs.Goals.{Goes, run-goes}
@@ -38,12 +39,9 @@ map-again f g [] h = refl
 map-again {A} f g (x ∷ xs) h = ap₂ {C = List A} (λ (y : A) (ys : List A). y ∷ ys) (sym (h x here)) (map-again f g xs (λ y i. h y (there i)))
 
 module _ (code : List ℕ) where
-  -- a taker by its start and position, and a parent of t by its start: each with its block's own stack
+  -- a taker by its start and position, with its block's own stack
   abbrev pub takerOf : Turn → Taker
   takerOf k = record { start = k .start; position = k .position; first = run code (instructions code) (k .start) .stack }
-
-  abbrev pub parentOf : ℕ → ℕ → Parent
-  parentOf t a = parent t (a ∷ []) (run code (instructions code) a .stack)
 
   -- a block of the code, and the node that is prepared of it
   record Prepares (r : Node) : Type 0 where
@@ -60,11 +58,7 @@ module _ (code : List ℕ) where
   from-node : {r : Node} → In r (prepared code) → r .own ≡ run code (instructions code) (r .block .start)
   from-node i = rw (prepares i .is)
 
-  -- the walk of the code comes to each start, as a run of the block asks
-  abbrev pub Comes : ℕ → Type 0
-  Comes a = from a (instructions code) ≡ walk (drop a code) a 0
-
-  pub node-comes : {r : Node} → In r (prepared code) → Comes (r .block .start)
+  pub node-comes : {r : Node} → In r (prepared code) → Comes code (r .block .start)
   node-comes i = let g = prepares i in rw (g .is) (block-afresh code (g .there))
 
   -- ---- the blocks that take turns
@@ -96,7 +90,7 @@ module _ (code : List ℕ) where
           same k (g .0 .own .stack) (g .2 .first)
           (ap (λ (o : Ran). o .stack) (from-node (g .1)) ∙ ap (λ (a : ℕ). run code (instructions code) a .stack) (sym (g .2 .start)))
 
-  pub taker-comes : {k : Taker} → In k (takers (prepared code)) → Comes (k .start)
+  pub taker-comes : {k : Taker} → In k (takers (prepared code)) → Comes code (k .start)
   taker-comes i = let g = taken i in rw (g .2 .start) (node-comes (g .1))
 
   pub taker-near : {k : Taker} → In k (takers (prepared code)) → k .position < 17 * length code + 17
@@ -126,16 +120,16 @@ module _ (code : List ℕ) where
       let b = prepares (d .there) in
       omega (arith, ap (λ (q : Parent). q .to) (d .is), sides-within (length code) (d .by .block .kind) (rw (b .is) (node-within code (b .there))) (d .has))
 
-  pub direct-comes : {p : Parent} → In p (direct (prepared code)) → Comes (fromOf p)
+  pub direct-comes : {p : Parent} → In p (direct (prepared code)) → Comes code (fromOf p)
   direct-comes i = let d = leads i in rw (d .is) (node-comes (d .there))
 
-  pub parents-again : (t : ℕ) → directTo t (prepared code) ≡ map (parentOf t) (map fromOf (directTo t (prepared code)))
-  parents-again t = map-again fromOf (parentOf t) (directTo t (prepared code)) made
+  pub parents-again : (t : ℕ) → directTo t (prepared code) ≡ map (parentOf code t) (map fromOf (directTo t (prepared code)))
+  parents-again t = map-again fromOf (parentOf code t) (directTo t (prepared code)) made
     where
-      same : (p : Parent) (u a : ℕ) (s : Stack) → p ≡ parent u (a ∷ []) s → t ≡ u → s ≡ run code (instructions code) a .stack → parentOf t (fromOf p) ≡ p
+      same : (p : Parent) (u a : ℕ) (s : Stack) → p ≡ parent u (a ∷ []) s → t ≡ u → s ≡ run code (instructions code) a .stack → parentOf code t (fromOf p) ≡ p
       same p u a s e f g = rw (e, f, g)
 
-      made : (p : Parent) → In p (directTo t (prepared code)) → parentOf t (fromOf p) ≡ p
+      made : (p : Parent) → In p (directTo t (prepared code)) → parentOf code t (fromOf p) ≡ p
       made p i =
           let k = in-keep (λ (q : Parent). eqb t (q .to)) (direct (prepared code)) i in
           let d = leads (k .1) in

@@ -8,3 +8,4 @@ pub mod Chains
 pub mod Ends
 pub mod Knows
 pub mod Rises
+pub mod Once

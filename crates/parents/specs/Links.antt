@@ -1,11 +1,15 @@
 -- The lists that are linked through the rows of W: the blocks that take turns, and the direct parents of each address. A link is 0 where nothing follows.
 -- Assumes nothing.
+use mathlib.Core.Path.{_≡_}
 use mathlib.Core.List.{List, [], _∷_}
 use Prim.Native.Nat.{ℕ, _+_, _-_, _*_, _/_, _%_, _≤_}
-use Rattle.spec.specs.Lists.{lastOf, keep}
-use Rattle.spec.specs.Search.{Node, Taker, Parent, direct}
-use Rattle.lent.specs.Bytes.{numAt}
 use lib.Dec.{eqb}
+use lib.ListN.{drop}
+use Rattle.spec.specs.Lists.{lastOf, keep}
+use Rattle.spec.specs.Walk.{walk, instructions, from}
+use Rattle.spec.specs.Stacks.{run}
+use Rattle.spec.specs.Search.{Node, Taker, Parent, parent, direct}
+use Rattle.lent.specs.Bytes.{numAt}
 
 -- ---- a row's fields past its block
 
@@ -59,3 +63,11 @@ directTo t rs = keep (λ (p : Parent). eqb t (p .to)) (direct rs)
 
 abbrev pub fromOf : Parent → ℕ
 fromOf p = lastOf (p .path)
+
+-- a parent of t by its start, with its block's own stack
+abbrev pub parentOf : List ℕ → ℕ → ℕ → Parent
+parentOf code t a = parent t (a ∷ []) (run code (instructions code) a .stack)
+
+-- the walk of the code comes to the start, as a run of the block asks
+abbrev pub Comes : List ℕ → ℕ → Type 0
+Comes code a = from a (instructions code) ≡ walk (drop a code) a 0

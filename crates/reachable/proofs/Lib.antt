@@ -16,3 +16,4 @@ pub mod Pruned
 pub mod Linked
 pub mod Within
 pub mod Finals
+pub mod Once

@@ -7,8 +7,8 @@ use Prim.Native.Nat.{ℕ, _+_, _*_, _-_, _≤_, _<_}
 use lib.ListN.{length, take, drop, replicate}
 use Rattle.spec.specs.Lists.{mem, little}
 use Rattle.spec.specs.Reach.{Edge, closure}
-use Rattle.theorems.proofs.Members.{In}
-use Rattle.theorems.proofs.Reached.{Reached}
+use Rattle.theorems.specs.Lists.{In}
+use Rattle.theorems.specs.Reached.{Reached}
 use Rattle.lent.specs.Bytes.{Stored}
 use Rattle.reachable.specs.Marks.{markAt, flagAt, flagged, entries}
 use Rattle.reachable.specs.Edges.{rowEdges}

@@ -10,8 +10,7 @@ use Rattle.spec.specs.Search as search
 use Rattle.spec.specs.Stacks.{Sym, before, constant, jumpdest, other, Stack}
 use Rattle.spec.specs.Search.{Found, nowhere, found, P, St, need, Turn, Parent, record-nowhere, follow, loops, level}
 use Rattle.spec.specs.Rooms.{Lent, shortage}
-use Rattle.theorems.proofs.Older.{clear}
-use Rattle.theorems.proofs.Growth.{Later}
+use Rattle.theorems.specs.Needs.{clear, Later}
 use Rattle.lent.specs.Bytes.{Holds}
 use Rattle.state.specs.Symbols.{symOf}
 use Rattle.state.specs.Cells.{stackAt, State}

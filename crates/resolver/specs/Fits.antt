@@ -14,9 +14,8 @@ use Rattle.tables.specs.Records.{toAt}
 use Rattle.tables.specs.Tables.{Tables}
 use Rattle.tables.specs.Mets.{Remembers, Packs}
 use Rattle.tables.specs.declared.Counts.{Counts}
-use Rattle.parents.specs.Links.{startOf}
+use Rattle.parents.specs.Links.{startOf, Comes}
 use Rattle.parents.specs.Contracts.{Known}
-use Rattle.parents.proofs.Knows.{Comes}
 use Rattle.reachable.specs.Marks.{flagged}
 use Rattle.reachable.specs.Contracts.{Room}
 use Rattle.steps.specs.Cursors.{pathCursor, stackCursor}

@@ -12,7 +12,7 @@ use Rattle.spec.specs.Search.{Node, Taker, takers, direct, Rec, dests, St, begi
 use Rattle.spec.specs.Reach.{closure}
 use Rattle.spec.specs.Answer.{prepared}
 use Rattle.spec.specs.Rooms.{Lent, units, shortage}
-use Rattle.theorems.proofs.Members.{In}
+use Rattle.theorems.specs.Lists.{In}
 use Rattle.lent.specs.Bytes.{Stored}
 use Rattle.state.specs.declared.run.Own.{Own}
 use Rattle.tables.specs.Records.{toAt, none}

@@ -6,3 +6,4 @@ pub mod Letters
 pub mod Sums
 pub mod Cases
 pub mod Lending
+pub mod Once

@@ -2,7 +2,7 @@
 use mathlib.Core.Path.{_≡_, refl, ap, subst}
 use mathlib.Core.Logic.{_⊎_, inl, inr}
 use mathlib.Core.Bool.{Bool, true, false, _&&_}
-use Prim.Native.Nat.{ℕ, zero, suc, _+_, _-_, _≤_, _<_}
+use Prim.Native.Nat.{ℕ, _-_, _≤_, _<_}
 use native.Mathlib.Omega.{arith}
 use native.Mathlib.Decide.{decLt}
 use lib.Dec.{T, leb, leb→le}
@@ -10,7 +10,7 @@ use borrow.Author.Tests.{le-leb, lt-leb, ne-eqb}
 use Rattle.spec.specs.Lists.{if, within}
 use Rattle.spec.specs.Opcodes.{Row, row}
 use Rattle.spec.specs.Stacks.{Does, pushes-value, pushes-pc, dups, swaps, ands, adds, jumps, jumpis, lands, halts, plain, does}
-use Rattle.evm.proofs.Table.{_both_, left, right}
+use Rattle.evm.proofs.Table.{_both_, left, right, every, every-at}
 
 module _ (b : ℕ) where
   pub does-value : 0x60 ≤ b → b < 0x64 → does b ≡ pushes-value
@@ -99,19 +99,6 @@ module _ (b : ℕ) (rest : ((((((Unit {0} × (b ≡ 0x58 → ⊥)) × (b ≡ 0x1
 
 -- ---- the words that they give, computed
 
-ranged : (ℕ → Bool) → ℕ → ℕ → Bool
-ranged f a zero = true
-ranged f a (suc n) = let later = ranged f (suc a) n in f a both later
-
-ranged-at : (f : ℕ → Bool) (n a b : ℕ) → T (ranged f a n) → a ≤ b → b < a + n → T (f b)
-unfolding ranged
-ranged-at f zero a b t h g = absurd (omega arith)
-ranged-at f (suc n) a b t h g = go (decLt a b) (λ l m. ranged-at f n (suc a) b (right (f a) (ranged f (suc a) n) t) l m)
-  where
-    go : Dec (a < b) → (suc a ≤ b → b < suc a + n → T (f b)) → T (f b)
-    go (yes l) later = later l (omega arith)
-    go (no l) later = subst (λ (k : ℕ). T (f k)) (let e : a ≡ b = omega arith in e) (left (f a) (ranged f (suc a) n) t)
-
 -- what is true of every byte: DUP and SWAP look fifteen or sixteen deep, and the others take seventeen words at most and give one at most
 tame : Does → Row → Bool
 tame pushes-value r = true
@@ -131,8 +118,8 @@ tames b = tame (does b) (row b)
 
 module _ (b : ℕ) (small : b < 0x100) where
   tamed : (d : Does) → does b ≡ d → T (tame d (row b))
-  unfolding ranged tames tame does row if _both_
-  tamed d e = subst (λ (x : Does). T (tame x (row b))) e (ranged-at tames 0x100 0 b tt (omega arith) small)
+  unfolding every tames tame does row if _both_
+  tamed d e = subst (λ (x : Does). T (tame x (row b))) e (every-at tames 0x100 0 b tt (omega arith) small)
 
   pub near-dups : {n : ℕ} → does b ≡ dups n → n ≤ 15
   unfolding tame

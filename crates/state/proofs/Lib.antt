@@ -6,6 +6,7 @@ pub mod Comparing
 pub mod Syms
 pub mod Cells
 pub mod Symbols
+pub mod Once
 mod Sums
 mod Puts
 mod Working

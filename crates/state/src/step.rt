@@ -11,7 +11,7 @@ ghost use mathlib.Core.Path.{_≡_};
 ghost use Prim.Native.Nat.{_+_, _-_, _≤_};
 ghost use lib.ListN.{drop};
 ghost use Rattle.spec.specs.Walk.{ins};
-ghost use Rattle.spec.specs.Stacks.{read, pops, push, from-value};
+ghost use Rattle.spec.specs.Stacks.{Stack, read, pops, push, from-value};
 ghost use Rattle.state.specs.Working.{stackOf, Ready, Near, Becomes};
 ghost use Rattle.state.specs.Steps.{leaps, next, spelt, Pushes, Steps, Turns};
 
@@ -85,8 +85,10 @@ fn push_pc(t: Top, w: &mut [u8], code: &[u8], pc: usize) -> Top
 
 // JUMP and JUMPI: to the top word; k words are taken.
 fn jumped(t: Top, w: &[u8], k: usize) -> Turn
-    requires { ⌜ Near (now w) t k ⌝ }
-    ensures { λ r. ⌜ Turns (now (w .entry)) t (leaps (pops k (stackOf (now (w .entry)) t)) (read (stackOf (now (w .entry)) t) 0)) (now (w .entry)) r ⌝ }
+    ghost { Stack }
+    requires { λ stack. ⌜ stackOf (now w) t ≡ stack ⌝ }
+    requires { λ stack. ⌜ Near (now w) t k ⌝ }
+    ensures { λ stack r. ⌜ Turns (now (w .entry)) t (leaps (pops k stack) (read stack 0)) (now (w .entry)) r ⌝ }
 {
     let to = t.read(w, 0);
     Turn::Jumps(t.pops(k), to)

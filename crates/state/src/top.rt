@@ -5,7 +5,7 @@ use crate::cell::get_cell;
 use crate::cell::put_cell;
 use crate::sym::StackSym;
 ghost use mathlib.Core.Path.{_≡_};
-ghost use Rattle.spec.specs.Stacks.{push, pops, read};
+ghost use Rattle.spec.specs.Stacks.{Stack, push, pops, read};
 ghost use Rattle.state.specs.Symbols.{symOf};
 ghost use Rattle.state.specs.Working.{stackOf, popped, Free, Near, Reads, Pops, Becomes};
 
@@ -62,8 +62,10 @@ impl Top {
 
     // The stack with the word at depth k once more on top.
     pub fn dup(self, w: &mut [u8], k: usize) -> Top
-        requires { ⌜ Near (now w) self k ⌝ }
-        ensures { λ r. ⌜ Becomes (now (w .entry)) self (push (read (stackOf (now (w .entry)) self) k) (stackOf (now (w .entry)) self)) (now (w .exit)) r ⌝ }
+        ghost { Stack }
+        requires { λ stack. ⌜ stackOf (now w) self ≡ stack ⌝ }
+        requires { λ stack. ⌜ Near (now w) self k ⌝ }
+        ensures { λ stack r. ⌜ Becomes (now (w .entry)) self (push (read stack k) stack) (now (w .exit)) r ⌝ }
     {
         let x = self.read(w, k);
         self.push(w, x)

@@ -13,3 +13,4 @@ pub mod Sound
 pub mod Takes
 pub mod Lands
 pub mod Meets
+pub mod Once

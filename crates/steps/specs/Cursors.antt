@@ -16,10 +16,8 @@ use Rattle.state.specs.Cells.{stackAt}
 use Rattle.tables.specs.Records as records
 use Rattle.tables.specs.Records.{endOf, keptOf, pathAt}
 use Rattle.parents.specs.Links as links
-use Rattle.parents.specs.Links.{startOf, Parents}
-use Rattle.parents.proofs.Knows.{parentOf, Comes}
-use Rattle.theorems.proofs.Members.{In}
-use Rattle.theorems.proofs.Lists.{Rising}
+use Rattle.parents.specs.Links.{startOf, Parents, parentOf, Comes}
+use Rattle.theorems.specs.Lists.{In, Rising}
 
 -- ---- the numbers
 

@@ -9,7 +9,7 @@ use lib.ListN.{length, take, drop}
 use Rattle.spec.specs.Lists.{if, mem}
 use Rattle.spec.specs.Search.{Found, Rec, dest, dests, kept, St, Turn}
 use Rattle.spec.specs.Rooms.{Lent, or-else, shortage}
-use Rattle.theorems.proofs.Older.{clear}
+use Rattle.theorems.specs.Needs.{clear}
 use Rattle.reachable.specs.Marks.{markAt, markedBy}
 use Rattle.reachable.specs.Contracts.{Room}
 use Rattle.tables.specs.Addrs.{addrs}

@@ -7,7 +7,7 @@ use lib.Dec.{eqb}
 use lib.ListN.{length, take, drop}
 use Rattle.spec.specs.Lists.{if}
 use Rattle.lent.specs.Bytes.{numAt}
-use Rattle.theorems.proofs.Members.{In}
+use Rattle.theorems.specs.Lists.{In}
 use Rattle.tables.specs.Addrs.{addrs}
 use Rattle.tables.specs.Records.{Row}
 use Rattle.parents.specs.Links.{startOf}

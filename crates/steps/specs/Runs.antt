@@ -4,7 +4,7 @@ use Prim.Native.Nat.{ℕ}
 use mathlib.Core.List.{List, []}
 use Rattle.spec.specs.Search.{Rec, St}
 use Rattle.spec.specs.Rooms.{Lent, shortage}
-use Rattle.theorems.proofs.Older.{clear}
+use Rattle.theorems.specs.Needs.{clear}
 use Rattle.tables.specs.Tables as tables
 use Rattle.tables.specs.Tables.{mem, recs}
 use Rattle.tables.specs.Recording.{Lends}

@@ -6,7 +6,7 @@ use lib.ListN.{length}
 use Rattle.spec.specs.Stacks.{jumpdest, Stack}
 use Rattle.spec.specs.Search.{found, Rec}
 use Rattle.state.specs.Cells.{reach}
-use Rattle.theorems.proofs.Members.{In}
+use Rattle.theorems.specs.Lists.{In}
 use Rattle.steps.specs.Paths.{Inside}
 
 -- the state of a path of m blocks reaches 2^19 words deep for each at most, and its Jumpdests lie in the code

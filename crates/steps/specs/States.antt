@@ -11,8 +11,7 @@ use Rattle.state.specs.Owns.{roomOf}
 use Rattle.tables.specs.Records.{keptOf}
 use Rattle.tables.specs.Recording.{shortOf}
 use Rattle.tables.specs.declared.Counts.{Counts}
-use Rattle.parents.specs.Links.{startOf}
-use Rattle.parents.proofs.Knows.{Comes}
+use Rattle.parents.specs.Links.{startOf, Comes}
 use Rattle.steps.specs.Cursors.{stackCursor}
 use Rattle.steps.specs.declared.Plan.{Plan}
 use Rattle.steps.specs.declared.Level.{Level}

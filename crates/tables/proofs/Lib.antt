@@ -13,3 +13,5 @@ pub mod Seeks
 pub mod Shelves
 pub mod Turns
 pub mod Uses
+pub mod Alike
+pub mod Once

@@ -7,7 +7,7 @@ use lib.Dec.{leb}
 use Rattle.spec.specs.Lists.{if, same, some?}
 use Rattle.spec.specs.Search.{Found, nowhere, found, Rec, is-at, is-nowhere, kept, Room, P, S, T, R, Q, Need, St, Turn, in-use, record-nowhere, record-found}
 use Rattle.spec.specs.Rooms.{Lent, room, refusal, or-else, shortage}
-use Rattle.theorems.proofs.Older.{clear}
+use Rattle.theorems.specs.Needs.{clear}
 use Rattle.tables.specs.Addrs.{addrs}
 use Rattle.tables.specs.Links.{Beyond}
 use Rattle.tables.specs.Tables.{Mem, recs, counted, Tables, Stays}

@@ -19,8 +19,8 @@ use Rattle.theorems.proofs.Branch.{both}
 use Rattle.theorems.proofs.Lists.{Rising, one-more, rising-from}
 use Rattle.theorems.proofs.Members.{In, in-keep, in-map}
 use Rattle.theorems.proofs.Cutting.{Made, made, starts-rise}
-use Rattle.theorems.proofs.Energy.{search-energy}
-use Rattle.theorems.proofs.Records.{History, search-history}
+use Rattle.theorems.proofs.Energy.{counted-in, energy-is-counted, search-energy}
+use Rattle.theorems.proofs.Records.{History, search-rounds, search-history}
 use Rattle.theorems.proofs.Demand3.{gave}
 
 -- where final blocks start
@@ -54,7 +54,7 @@ abbrev AllFound : Final → Type 0
 AllFound f = f .block .kind ≡ dynamic-jump → (r : Rec) → In r (f .entries) → is-nowhere (r .to) ≡ false
 
 -- `v.to.unwrap()`: entries without destination were dropped
-kept-found : (es : List Rec) {r : Rec} → In r (keep (λ (r : Rec). not (is-nowhere (r .to))) es) → is-nowhere (r .to) ≡ false
+pub kept-found : (es : List Rec) {r : Rec} → In r (keep (λ (r : Rec). not (is-nowhere (r .to))) es) → is-nowhere (r .to) ≡ false
 kept-found es {r} i = not-true (is-nowhere (r .to)) (in-keep (λ (r : Rec). not (is-nowhere (r .to))) es i .0)
 
 merged-found : (b : Block) (es : List Rec) (ts : List ℕ) → AllFound (merged b (keep (λ (r : Rec). not (is-nowhere (r .to))) es) ts)
@@ -108,6 +108,11 @@ rising-keep test {lo} (f ∷ fs) (one-more h r) =
 module _ (l : Lent) (limit : ℕ) (code : List ℕ) (a : Map) (e : answer l limit code ≡ answered a) where
   the-map : a ≡ mapped code (searched limit code)
   the-map = gave l limit code a e .is
+
+  -- "Energy used is the number of units counted in step 1"
+  pub answered-counted : a .energy ≡ counted-in (search-rounds limit (prepared code))
+  unfolding mapped searched
+  answered-counted = rw the-map (energy-is-counted limit (prepared code))
 
   -- "the total may pass the limit, by at most 256"
   pub answered-energy : a .energy ≤ limit + 256

@@ -12,7 +12,7 @@ use Rattle.spec.specs.Lists.{mem}
 use Rattle.spec.specs.Stacks.{Sym, before, constant, jumpdest, other, Stack}
 use Rattle.spec.specs.Search.{Node, Taker, Parent, St, begin, Turn, Level, record-nowhere, record-found, arrive, follow, loops, tries, level, turn, round, rounds, search}
 use Rattle.theorems.proofs.Branch.{both, and-right}
-use Rattle.theorems.proofs.Records.{Trace, nothing, then, counts, records, asks, remembers, forgets, Rounds, no-more, a-round, search-rounds}
+use Rattle.theorems.proofs.Records.{Trace, nothing, then, opens, counts, records, asks, remembers, forgets, Rounds, no-more, a-round, search-rounds}
 
 -- ---- the units counted
 
@@ -20,6 +20,7 @@ use Rattle.theorems.proofs.Records.{Trace, nothing, then, counts, recor
 abbrev pub counted : {ns : List Node} {reached : List ℕ} {s t : St} → Trace ns reached s t → ℕ
 counted nothing = 0
 counted (then a b) = counted a + counted b
+counted (opens o) = 0
 counted (counts o h) = 1
 counted (records h) = 0
 counted (asks r u) = 0
@@ -34,6 +35,7 @@ counted-in (a-round a b) = counted a + counted-in b
 energy-trace : {ns : List Node} {reached : List ℕ} {s t : St} (a : Trace ns reached s t) → t .energy ≡ s .energy + counted a
 energy-trace nothing = omega arith
 energy-trace (then a b) = omega (arith, energy-trace a, energy-trace b)
+energy-trace (opens o) = omega arith
 energy-trace (counts o h) = omega arith
 energy-trace (records h) = omega arith
 energy-trace (asks r u) = omega arith

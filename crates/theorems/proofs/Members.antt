@@ -8,12 +8,8 @@ use mathlib.Core.List.{List, [], _∷_, _++_, map, append-assoc}
 use lib.Dec.{eqb}
 use borrow.Author.Tests.{eqb-true, eq-eqb}
 use Rattle.spec.specs.Lists.{mem, keep, gather}
+pub use Rattle.theorems.specs.Lists.{In, here, there}
 use Rattle.theorems.proofs.Branch.{both}
-
--- by its place in the list, so that a clause can match on it; the library's `List·Memᴰ` carries an equation instead
-pub data In {A : Type 0} (x : A) : List A → Type 0 where
-  here : {xs : List A} → In x (x ∷ xs)
-  there : {y : A} {xs : List A} → In x xs → In x (y ∷ xs)
 
 -- ---- tests
 

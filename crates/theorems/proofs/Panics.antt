@@ -13,7 +13,7 @@ use Rattle.theorems.proofs.Each.{Each, each-map}
 use Rattle.theorems.proofs.Records.{Stored, Live, Parented, Opens, first-level, deeper-level, Recorded, arrives, is-lost, too-heavy, Came, search-history}
 use Rattle.theorems.proofs.Replay.{ReplaysRec, without, kept, parent-replays, record-replays}
 
--- `assert!(path_weight <= MAX_PATH_WEIGHT)`: the weight of every level
+-- `assert!(path_weight <= MAX_PATH_WEIGHT)`: the weight of every level that opens, with parents or with none (`opens` in Records)
 pub weight-within : {ns : List Node} {reached : List ℕ} {recs : List Rec} {start w : ℕ} {l : Level} → Opens ns reached recs start w l → w ≤ 256
 weight-within (first-level i e h) = omega arith
 weight-within (deeper-level o light h e) = light

@@ -1,5 +1,6 @@
 -- What a search does, one thing after the other, and why: a level opens at a taker's start, or behind a parent that read Before; a unit is counted for a
--- parent of a level; a record is made of one. Each step names only what was recorded before it. Assumes nothing.
+-- parent of a level; a record is made of one. Each step names only what was recorded before it. This is soundness: all that is done is as the rule says,
+-- and what is done of all that the rule allows is the definition's to say. Assumes nothing.
 use Prim.Native.Nat.{ℕ, zero, suc, _+_, _<_}
 use native.Mathlib.Omega.{arith}
 use mathlib.Core.Path.{_≡_, refl, sym, ap, subst, _∙_}
@@ -60,6 +61,8 @@ module _ (ns : List Node) (reached : List ℕ) (recs : List Rec) where
 pub data Trace (ns : List Node) (reached : List ℕ) : St → St → Type 0 where
   nothing : {s : St} → Trace ns reached s s
   then : {s t u : St} → Trace ns reached s t → Trace ns reached t u → Trace ns reached s u
+  -- a level opens, with parents or with none
+  opens : {s : St} {start w : ℕ} {l : Level} → Opens ns reached (s .recs) start w l → Trace ns reached s s
   -- step 1, for a parent of a level
   counts : {s : St} {start w : ℕ} {l : Level} {p : Parent} → Opens ns reached (s .recs) start w l → Parented ns reached (s .recs) l p → Trace ns reached s (spend s)
   records : {s : St} {r : Rec} → Recorded ns reached (s .recs) r → Trace ns reached s (add r s)
@@ -96,6 +99,7 @@ module _ (ns : List Node) (reached : List ℕ) (recs more : List Rec) where
 pub trace-grows : {ns : List Node} {reached : List ℕ} {s t : St} → Trace ns reached s t → Grows s t
 trace-grows (nothing {s}) = grows-refl s s refl
 trace-grows (then a b) = grows-trans (trace-grows a) (trace-grows b)
+trace-grows (opens {s} o) = grows-refl s s refl
 trace-grows (counts {s} o h) = grows-refl s _ refl
 trace-grows (records {r} h) = record { new = r ∷ []; is = refl }
 trace-grows (asks {s} r u) = grows-refl s _ refl
@@ -189,9 +193,10 @@ module _ (ns : List Node) (reached : List ℕ) where
   does-level : (limit : ℕ) (c : Turn) → Fixed c → (n w : ℕ) → w + n ≡ 256 → Deeper c w (level limit c n)
   unfolding level
   does-level limit c k zero w e l s o =
-      does-tries limit c w l _ (λ p t o h. does-nowhere c _ t (too-heavy (subst (λ (x : ℕ). Opens ns reached (t .recs) (c .start) x l) (omega arith) o) h)) _ s o (parents-are c l s k)
+      then (opens o)
+      (does-tries limit c w l _ (λ p t o h. does-nowhere c _ t (too-heavy (subst (λ (x : ℕ). Opens ns reached (t .recs) (c .start) x l) (omega arith) o) h)) _ s o (parents-are c l s k))
   does-level limit c k (suc n) w e l s o =
-      does-tries limit c w l _ (λ p. does-follow c _ w (omega arith) (does-level limit c k n (suc w) (omega arith)) l p) _ s o (parents-are c l s k)
+      then (opens o) (does-tries limit c w l _ (λ p. does-follow c _ w (omega arith) (does-level limit c k n (suc w) (omega arith)) l p) _ s o (parents-are c l s k))
 
   does-turn : (limit : ℕ) (k : Taker) (s : St) → In k (takers ns) → mem (k .start) reached ≡ true → Does s (turn limit (turn-of (direct ns) reached k) (k .position) s)
   unfolding turn
@@ -238,6 +243,7 @@ module _ (ns : List Node) (older : List Rec) where
   history-trace (then a b) since e h =
       let g = trace-grows a in
       history-trace b (since ++ g .new) (g .is ∙ ap (λ (l : List Rec). l ++ g .new) e ∙ append-assoc older since (g .new)) (history-trace a since e h)
+  history-trace (opens o) since e h = h
   history-trace (counts o k) since e h = h
   history-trace (records k) since e h = each-snoc h (record { older = older; since = since; is = e; made = k })
   history-trace (asks r u) since e h = h

@@ -1,7 +1,7 @@
 //! The proved static library: the one that the caller names, else the repository's, made if it is missing.
 
 use std::fs::{self, File, OpenOptions};
-use std::io::{BufRead, BufReader, Write};
+use std::io::{BufRead, BufReader, Read, Write};
 use std::path::{Path, PathBuf};
 use std::process::{Command, Stdio};
 use std::time::{Instant, SystemTime};
@@ -18,7 +18,12 @@ pub fn folder() -> Result<PathBuf, String> {
     let repository = repository()?;
     let made = repository.join("target").join("staticlib");
     if !made.join(FILE).is_file() {
-        make(&repository)?;
+        // Another build of this repository may be at it: then this one waits, and finds it made.
+        let locked = File::open(repository.join("crates.txt"));
+        let _locked = locked.and_then(|file| file.lock().map(|()| file));
+        if !made.join(FILE).is_file() {
+            make(&repository)?;
+        }
     }
     if !made.join(FILE).is_file() {
         return Err(format!(
@@ -97,45 +102,16 @@ fn repository() -> Result<PathBuf, String> {
         .map_err(|e| format!("cannot find the repository around {here}: {e}"))
 }
 
-/// Runs `rt staticlib aznifrem` in the repository. Cargo shows nothing of a script that is not over: what is done is said on the
-/// terminal itself, if there is one.
+/// Has the library proved and built. Cargo shows nothing of a script that is not over: what is done is said on the terminal itself,
+/// if there is one.
 fn make(repository: &Path) -> Result<(), String> {
     let begun = Instant::now();
-    let mut terminal = OpenOptions::new().write(true).open("/dev/tty").ok();
     tell(
-        &mut terminal,
         "the proved library is missing: 'rt staticlib aznifrem' proves and builds it now, once. That takes five to ten minutes on two cores.",
     );
-    let child = Command::new("rt")
-        .args(["staticlib", "aznifrem"])
-        .current_dir(repository)
-        .stdout(Stdio::piped())
-        .spawn();
-    let mut child = child.map_err(|e| {
-        format!(
-            "the proved library target/staticlib/{FILE} is missing and Rattle's 'rt', which makes it, cannot be run ({e}). {}",
-            advice()
-        )
-    })?;
-    let lines = child.stdout.take();
-    let passed_on = thread::spawn(move || {
-        let lines = lines
-            .into_iter()
-            .flat_map(|out| BufReader::new(out).lines());
-        for line in lines.map_while(Result::ok) {
-            eprintln!("{line}");
-            tell(&mut terminal, &line);
-        }
-    });
-    let ended = child.wait();
-    // It only prints.
-    let _ = passed_on.join();
-    if !ended.is_ok_and(|status| status.success()) {
-        return Err(format!(
-            "'rt staticlib aznifrem' failed; what it says stands above. {}",
-            advice()
-        ));
-    }
+    // This one proves crates beside each other; the next would prove them one by one.
+    run(repository, "check")?;
+    run(repository, "staticlib")?;
     let seconds = begun.elapsed().as_secs();
     println!(
         "cargo:warning=the library was proved and built by 'rt staticlib aznifrem' in {seconds} s"
@@ -143,9 +119,47 @@ fn make(repository: &Path) -> Result<(), String> {
     Ok(())
 }
 
-/// A line of its own, over what cargo shows of its progress; a terminal that takes none is done without.
-fn tell(terminal: &mut Option<File>, line: &str) {
-    if let Some(terminal) = terminal {
+/// Runs `rt WORD aznifrem`; its lines are told as they come.
+fn run(repository: &Path, word: &str) -> Result<(), String> {
+    let child = Command::new("rt")
+        .args([word, "aznifrem"])
+        .current_dir(repository)
+        .stdout(Stdio::piped())
+        .stderr(Stdio::piped())
+        .spawn();
+    let mut child = child.map_err(|e| {
+        format!(
+            "the proved library target/staticlib/{FILE} is missing and Rattle's 'rt', which makes it, cannot be run ({e}). {}",
+            advice()
+        )
+    })?;
+    let (out, errors) = (child.stdout.take(), child.stderr.take());
+    thread::scope(|scope| {
+        scope.spawn(|| out.into_iter().for_each(pass_on));
+        scope.spawn(|| errors.into_iter().for_each(pass_on));
+    });
+    if child.wait().is_ok_and(|status| status.success()) {
+        return Ok(());
+    }
+    Err(format!(
+        "'rt {word} aznifrem' failed; what it says stands above. {}",
+        advice()
+    ))
+}
+
+/// What `rt` says goes to cargo, which shows it if the script fails; of that, what `rt` itself says goes to the terminal.
+fn pass_on(lines: impl Read) {
+    for line in BufReader::new(lines).lines().map_while(Result::ok) {
+        eprintln!("{line}");
+        if line.starts_with("rt: ") {
+            tell(&line);
+        }
+    }
+}
+
+/// A line of its own, over what cargo shows of its progress; without a terminal nobody waits before it.
+fn tell(line: &str) {
+    if let Ok(mut terminal) = OpenOptions::new().write(true).open("/dev/tty") {
         let _ = writeln!(terminal, "\r\x1b[Kaznifrem: {line}");
     }
 }

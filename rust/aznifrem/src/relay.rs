@@ -41,29 +41,24 @@ struct Relay {
 
 impl Relay {
     fn start(tools: &Path, program: &Path) -> Result<Relay, NotRelayed> {
-        let child = emulated(tools, program)
-            .stdin(Stdio::piped())
-            .stdout(Stdio::piped())
-            .spawn();
-        let mut child = child.map_err(|e| {
-            NotRelayed(format!(
-                "the emulator of Rattle's kit at {} cannot be run ({e}): build again where the kit is",
-                tools.display()
-            ))
-        })?;
+        let mut child = spawned(tools, program)?;
         let (Some(requests), Some(mut results)) = (child.stdin.take(), child.stdout.take()) else {
             return Err(NotRelayed("the relay has no pipes".into()));
         };
-        let memory = word(&mut results).and_then(|file| Memory::of(child.id(), file));
-        match memory {
-            Ok(memory) => Ok(Relay {
-                child,
-                requests,
-                results,
-                memory,
-            }),
-            Err(e) => Err(ended(&mut child, &e)),
-        }
+        let file = word(&mut results).map_err(|_| ended(&mut child))?;
+        let memory = Memory::of(child.id(), file).map_err(|e| {
+            // It is stopped; why does not matter.
+            let _ = ended(&mut child);
+            NotRelayed(format!(
+                "the relay's memory cannot be opened through /proc ({e}): see that /proc is there"
+            ))
+        })?;
+        Ok(Relay {
+            child,
+            requests,
+            results,
+            memory,
+        })
     }
 
     fn call(
@@ -80,10 +75,29 @@ impl Relay {
         let bytes: Vec<u8> = request.into_iter().flat_map(u64::to_le_bytes).collect();
         let asked = self.requests.write_all(&bytes);
         let result = asked.and_then(|()| word(&mut self.results));
-        let result = result.map_err(|e| ended(&mut self.child, &e))?;
+        let result = result.map_err(|_| ended(&mut self.child))?;
         self.memory.give_back(parts, &spans)?;
         Ok(result)
     }
+}
+
+fn spawned(tools: &Path, program: &Path) -> Result<Child, NotRelayed> {
+    if !program.is_file() {
+        let missing = program.display();
+        return Err(NotRelayed(format!(
+            "the relay that runs the library is missing ({missing}): build again"
+        )));
+    }
+    let child = emulated(tools, program)
+        .stdin(Stdio::piped())
+        .stdout(Stdio::piped())
+        .spawn();
+    child.map_err(|e| {
+        NotRelayed(format!(
+            "the emulator of Rattle's kit at {} cannot be run ({e}): build again where the kit is",
+            tools.display()
+        ))
+    })
 }
 
 /// Only a relay that failed is dropped: it must not stay.
@@ -101,15 +115,15 @@ fn word(results: &mut ChildStdout) -> std::io::Result<u64> {
     Ok(u64::from_le_bytes(bytes))
 }
 
-/// Why there is no result.
-fn ended(child: &mut Child, error: &std::io::Error) -> NotRelayed {
+/// Why there is no result: the relay said nothing more, so it is over.
+fn ended(child: &mut Child) -> NotRelayed {
     let _ = child.kill();
     let how = match child.wait() {
         Ok(status) => status.to_string(),
         Err(e) => e.to_string(),
     };
     NotRelayed(format!(
-        "the relay that runs the library ended ({how}; {error}). If it was killed for want of memory, lend less or free some; else see what stands above, and build again"
+        "the relay that runs the library ended ({how}): if it was killed for want of memory, lend less or free some; else see what stands above, and build again"
     ))
 }
 
@@ -132,9 +146,13 @@ mod tests {
         );
         assert!(told.ends_with("build again where the kit is"), "{told}");
         let told = refused(TOOLS, "/no/relay");
-        assert!(
-            told.starts_with("the relay that runs the library ended (exit status: 127;"),
-            "{told}"
+        assert_eq!(
+            told,
+            "the relay that runs the library is missing (/no/relay): build again"
         );
+        // What is no program for x86-64 ends at once.
+        let told = refused(TOOLS, concat!(env!("CARGO_MANIFEST_DIR"), "/Cargo.toml"));
+        let ended = "the relay that runs the library ended (exit status: 127):";
+        assert!(told.starts_with(ended), "{told}");
     }
 }

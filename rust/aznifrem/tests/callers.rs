@@ -112,7 +112,7 @@ mod relays {
         assert!(run.status.success());
         let printed = String::from_utf8_lossy(&run.stdout);
         let told = after("told: ", printed.lines().map(String::from));
-        let sentence = "the relay that runs the library ended (signal: 9 (SIGKILL);";
+        let sentence = "the relay that runs the library ended (signal: 9 (SIGKILL)):";
         assert!(told.starts_with(sentence), "{told}");
     }
 

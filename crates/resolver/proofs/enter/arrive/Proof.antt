@@ -1,5 +1,5 @@
 -- `arrive`: the symbol says whether a level opens or the path ends. Assumes nothing.
-use Rattle.resolver.proofs.Arrives.{arrived-before, arrived-jumpdest, arrived-constant, arrived-other, arriving-lands}
+use Rattle.resolver.proofs.PathEnds.{arrived-before, arrived-jumpdest, arrived-constant, arrived-other, arriving-lands}
 use borrow.Author.Needs.{needs}
 use Rattle.resolver.proofs.enter.arrive.Statement.{statement}
 use Rattle.resolver.proofs.enter.arrive.Tie as tie

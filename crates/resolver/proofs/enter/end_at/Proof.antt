@@ -1,5 +1,5 @@
 -- `end_at`: what `land` notes ends the path. Assumes nothing.
-use Rattle.resolver.proofs.Arrives.{ended-with}
+use Rattle.resolver.proofs.PathEnds.{ended-with}
 use borrow.Author.Needs.{needs}
 use Rattle.resolver.proofs.enter.end_at.Statement.{statement}
 use Rattle.resolver.proofs.enter.end_at.Tie as tie

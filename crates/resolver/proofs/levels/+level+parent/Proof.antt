@@ -4,8 +4,8 @@ use native.Mathlib.Omega.{arith}
 use borrow.Author.Needs.{needs}
 use Rattle.steps.specs.Runs.{buffers}
 use Rattle.steps.proofs.Cursors.{fuel}
-use Rattle.resolver.proofs.Leveling.{Going, level-at-block, level-starts, going-block, going-cursor, going-asks, going-address, going-falls, going-spend, going-tries, level-skips, level-passes, level-refused, level-tried, level-ends}
-use Rattle.resolver.proofs.Deeper.{parent-shut, opens-lighter, parent-counts, parent-opens, parent-refused, parent-uncounts, parent-done}
+use Rattle.resolver.proofs.LevelLoop.{Going, level-at-block, level-starts, going-block, going-cursor, going-asks, going-address, going-falls, going-spend, going-tries, level-skips, level-passes, level-refused, level-tried, level-ends}
+use Rattle.resolver.proofs.ParentDeeper.{parent-shut, opens-lighter, parent-counts, parent-opens, parent-refused, parent-uncounts, parent-done}
 use Prim.Native.Nat.{ℕ, _+_, _*_, _<_}
 use borrow.Fn.Kinds.{In}
 use borrow.Fn.PlainCycle.{Measures, is, falls, and}
@@ -59,13 +59,19 @@ abbrev parent-cs : ℕ → parent-lts.Claims
 parent-cs t = (enter-reads.Asked, enter-reads.Learnt, count-reads.Asked, count-reads.Learnt, level-below t, level.Post, uncount-reads.Asked, uncount-reads.Learnt)
 
 level-sub-get16 : (t : ℕ) → level-lts.Need-sub-get16 (level-cs t) (level-at t) level.Post level-Inv-loop level-μ-loop
-level-sub-get16 t c = omega (arith, c .before .before .before .before .before .before .before .before .before .before .pre .1 .stands .some)
+level-sub-get16 t c =
+    let at-entry = c .before .before .before .before .before .before .before .before .before .before in
+    omega (arith, at-entry .pre .1 .stands .some)
 
 level-mul-get16 : (t : ℕ) → level-lts.Need-mul-get16 (level-cs t) (level-at t) level.Post level-Inv-loop level-μ-loop
-level-mul-get16 t c = omega (arith, c .before .before .before .before .before .before .before .before .before .before .pre .1 .stands .room, c .before .before .before .before .before .before .before .before .before .before .pre .1 .fits .planned .mostP)
+level-mul-get16 t c =
+    let at-entry = c .before .before .before .before .before .before .before .before .before .before in
+    omega (arith, at-entry .pre .1 .stands .room, at-entry .pre .1 .fits .planned .mostP)
 
 level-get16-requires : (t : ℕ) → level-lts.Need-get16-requires (level-cs t) (level-at t) level.Post level-Inv-loop level-μ-loop
-level-get16-requires t c κs = omega (arith, c .before .before .before .before .before .before .before .before .before .before .pre .1 .stands .some, c .before .before .before .before .before .before .before .before .before .before .pre .1 .stands .room, c .before .before .before .before .before .before .before .before .before .before .pre .1 .fits .planned .lentP)
+level-get16-requires t c κs =
+    let at-entry = c .before .before .before .before .before .before .before .before .before .before in
+    omega (arith, at-entry .pre .1 .stands .some, at-entry .pre .1 .stands .room, at-entry .pre .1 .fits .planned .lentP)
 
 level-first-cursor-requires : (t : ℕ) → level-lts.Need-first-cursor-requires (level-cs t) (level-at t) level.Post level-Inv-loop level-μ-loop
 level-first-cursor-requires t c κs = let pre = c .before .before .before .before .before .before .before .before .before .before .before .before .pre .1 in search (level-at-block pre)
@@ -74,13 +80,19 @@ level-loop-holds : (t : ℕ) → level-lts.Need-loop-holds (level-cs t) (level-a
 level-loop-holds t c = search level-starts
 
 level-next-cursor-requires : (t : ℕ) → level-lts.Need-next-cursor-requires (level-cs t) (level-at t) level.Post level-Inv-loop level-μ-loop
-level-next-cursor-requires t c κs = (going-block (c .before .before .before .before .before .before .before .before .before .before .before .before .before .before .before .before .before .pre .1) (c .before .before .before .loop .inv), going-cursor (c .before .before .before .before .before .before .before .before .before .before .before .before .before .before .before .before .before .pre .1) (c .before .before .before .loop .inv) (c .before .before .loop-test .taken))
+level-next-cursor-requires t c κs =
+    let at-loop-test = c .before .before in
+    let at-loop = at-loop-test .before in
+    let at-entry = at-loop .before .before .before .before .before .before .before .before .before .before .before .before .before .before in
+    (going-block (at-entry .pre .1) (at-loop .loop .inv), going-cursor (at-entry .pre .1) (at-loop .loop .inv) (at-loop-test .loop-test .taken))
 
 level-last-block-requires : (t : ℕ) → level-lts.Need-last-block-requires (level-cs t) (level-at t) level.Post level-Inv-loop level-μ-loop
 level-last-block-requires t c κs = let pre = c .before .before .before .before .before .before .before .before .before .before .before .before .before .before .before .before .before .before .before .before .before .pre .1 in let g = c .before .before .before .before .before .before .before .loop .inv in search (going-asks pre g)
 
 level-add-is-marked : (t : ℕ) → level-lts.Need-add-is-marked (level-cs t) (level-at t) level.Post level-Inv-loop level-μ-loop
-level-add-is-marked t c = omega (arith, c .before .before .before .before .before .before .before .before .before .before .before .before .before .before .before .before .before .before .before .before .before .before .pre .1 .fits .tables .within .fitsR, c .before .before .before .before .before .before .before .before .before .before .before .before .before .before .before .before .before .before .before .before .before .before .pre .1 .fits .tables .within .mostR)
+level-add-is-marked t c =
+    let at-entry = c .before .before .before .before .before .before .before .before .before .before .before .before .before .before .before .before .before .before .before .before .before .before in
+    omega (arith, at-entry .pre .1 .fits .tables .within .fitsR, at-entry .pre .1 .fits .tables .within .mostR)
 
 level-is-marked-requires : (t : ℕ) → level-lts.Need-is-marked-requires (level-cs t) (level-at t) level.Post level-Inv-loop level-μ-loop
 level-is-marked-requires t c κs = let pre = c .before .before .before .before .before .before .before .before .before .before .before .before .before .before .before .before .before .before .before .before .before .before .pre .1 in let g = c .before .before .before .before .before .before .before .before .loop .inv in search (going-address pre g)
@@ -89,55 +101,125 @@ level-spend-requires : (t : ℕ) → level-lts.Need-spend-requires (level-cs t) 
 level-spend-requires t c κs = search going-spend
 
 level-same-length : (t : ℕ) → level-lts.Need-same-length (level-cs t) (level-at t) level.Post level-Inv-loop level-μ-loop
-level-same-length t c = c .before .before .before .before .before .before .before .before .before .before .before .before .before .before .loop .inv .long .w
+level-same-length t c =
+    let at-loop = c .before .before .before .before .before .before .before .before .before .before .before .before .before .before in
+    at-loop .loop .inv .long .w
 
 level-same-length-2 : (t : ℕ) → level-lts.Need-same-length-2 (level-cs t) (level-at t) level.Post level-Inv-loop level-μ-loop
-level-same-length-2 t c = c .before .before .before .before .before .before .before .before .before .before .before .before .before .before .loop .inv .long .p
+level-same-length-2 t c =
+    let at-loop = c .before .before .before .before .before .before .before .before .before .before .before .before .before .before in
+    at-loop .loop .inv .long .p
 
 level-same-length-3 : (t : ℕ) → level-lts.Need-same-length-3 (level-cs t) (level-at t) level.Post level-Inv-loop level-μ-loop
-level-same-length-3 t c = c .before .before .before .before .before .before .before .before .before .before .before .before .before .before .loop .inv .long .s
+level-same-length-3 t c =
+    let at-loop = c .before .before .before .before .before .before .before .before .before .before .before .before .before .before in
+    at-loop .loop .inv .long .s
 
 level-same-length-4 : (t : ℕ) → level-lts.Need-same-length-4 (level-cs t) (level-at t) level.Post level-Inv-loop level-μ-loop
-level-same-length-4 t c = c .before .before .before .before .before .before .before .before .before .before .before .before .before .before .loop .inv .long .t
+level-same-length-4 t c =
+    let at-loop = c .before .before .before .before .before .before .before .before .before .before .before .before .before .before in
+    at-loop .loop .inv .long .t
 
 level-same-length-5 : (t : ℕ) → level-lts.Need-same-length-5 (level-cs t) (level-at t) level.Post level-Inv-loop level-μ-loop
-level-same-length-5 t c = c .before .before .before .before .before .before .before .before .before .before .before .before .before .before .loop .inv .long .r
+level-same-length-5 t c =
+    let at-loop = c .before .before .before .before .before .before .before .before .before .before .before .before .before .before in
+    at-loop .loop .inv .long .r
 
 level-same-length-6 : (t : ℕ) → level-lts.Need-same-length-6 (level-cs t) (level-at t) level.Post level-Inv-loop level-μ-loop
-level-same-length-6 t c = c .before .before .before .before .before .before .before .before .before .before .before .before .before .before .loop .inv .long .q
+level-same-length-6 t c =
+    let at-loop = c .before .before .before .before .before .before .before .before .before .before .before .before .before .before in
+    at-loop .loop .inv .long .q
 
 level-returns : (t : ℕ) → level-lts.Need-returns (level-cs t) (level-at t) level.Post level-Inv-loop level-μ-loop
-level-returns t c = level-passes (c .before .before .before .before .before .before .before .before .before .before .before .before .before .before .before .before .before .before .before .before .before .before .before .before .before .before .before .before .pre .1) (c .before .before .before .before .before .before .before .before .before .before .before .before .before .before .loop .inv) (c .before .before .before .before .before .before .before .before .before .before .before .before .before .loop-test .taken) (c .before .before .before .before .before .before .last-block .ensures) (c .before .before .before .before .before .is-marked .ensures) (c .before .before .before .before .if1 .taken) (c .before .before .before .spend .ensures) (c .if2 .taken)
+level-returns t c =
+    let at-spend = c .before .before .before in
+    let at-if1 = at-spend .before in
+    let at-is-marked = at-if1 .before in
+    let at-last-block = at-is-marked .before in
+    let at-loop-test = at-last-block .before .before .before .before .before .before .before in
+    let at-loop = at-loop-test .before in
+    let at-entry = at-loop .before .before .before .before .before .before .before .before .before .before .before .before .before .before in
+    level-passes (at-entry .pre .1) (at-loop .loop .inv) (at-loop-test .loop-test .taken) (at-last-block .last-block .ensures) (at-is-marked .is-marked .ensures) (at-if1 .if1 .taken) (at-spend .spend .ensures) (c .if2 .taken)
 
 level-parent-requires : (t : ℕ) → level-lts.Need-parent-requires (level-cs t) (level-at t) level.Post level-Inv-loop level-μ-loop
-level-parent-requires t c κs = (omega (arith, c .before .before .before .before .before .before .before .before .before .before .before .before .before .before .before .before .before .before .before .before .before .before .before .before .before .before .before .before .before .before .before .before .before .before .pre .0), going-tries (c .before .before .before .before .before .before .before .before .before .before .before .before .before .before .before .before .before .before .before .before .before .before .before .before .before .before .before .before .before .before .before .before .before .before .pre .1) (c .before .before .before .before .before .before .before .before .before .before .before .before .before .before .before .before .before .before .before .before .loop .inv) (c .before .before .before .before .before .before .before .before .before .before .before .before .before .before .before .before .before .before .before .loop-test .taken) (c .before .before .before .before .before .before .before .before .before .spend .ensures) (c .before .before .before .before .before .before .if2 .left))
+level-parent-requires t c κs =
+    let at-if2 = c .before .before .before .before .before .before in
+    let at-spend = at-if2 .before .before .before in
+    let at-loop-test = at-spend .before .before .before .before .before .before .before .before .before .before in
+    let at-loop = at-loop-test .before in
+    let at-entry = at-loop .before .before .before .before .before .before .before .before .before .before .before .before .before .before in
+    (omega (arith, at-entry .pre .0), going-tries (at-entry .pre .1) (at-loop .loop .inv) (at-loop-test .loop-test .taken) (at-spend .spend .ensures) (at-if2 .if2 .left))
 
 level-same-length-7 : (t : ℕ) → level-lts.Need-same-length-7 (level-cs t) (level-at t) level.Post level-Inv-loop level-μ-loop
-level-same-length-7 t c = c .before .before .before .before .before .before .before .before .before .before .before .before .before .before .parent .kept .1 .0 ∙ c .before .before .before .before .before .before .before .before .before .before .before .before .before .before .before .before .before .before .before .before .before .before .before .before .before .before .before .before .before .before .before .before .before .before .before .loop .inv .long .w
+level-same-length-7 t c =
+    let at-parent = c .before .before .before .before .before .before .before .before .before .before .before .before .before .before in
+    let at-loop = at-parent .before .before .before .before .before .before .before .before .before .before .before .before .before .before .before .before .before .before .before .before .before in
+    at-parent .parent .kept .1 .0 ∙ at-loop .loop .inv .long .w
 
 level-same-length-8 : (t : ℕ) → level-lts.Need-same-length-8 (level-cs t) (level-at t) level.Post level-Inv-loop level-μ-loop
-level-same-length-8 t c = c .before .before .before .before .before .before .before .before .before .before .before .before .before .before .parent .kept .1 .1 .0 ∙ c .before .before .before .before .before .before .before .before .before .before .before .before .before .before .before .before .before .before .before .before .before .before .before .before .before .before .before .before .before .before .before .before .before .before .before .loop .inv .long .p
+level-same-length-8 t c =
+    let at-parent = c .before .before .before .before .before .before .before .before .before .before .before .before .before .before in
+    let at-loop = at-parent .before .before .before .before .before .before .before .before .before .before .before .before .before .before .before .before .before .before .before .before .before in
+    at-parent .parent .kept .1 .1 .0 ∙ at-loop .loop .inv .long .p
 
 level-same-length-9 : (t : ℕ) → level-lts.Need-same-length-9 (level-cs t) (level-at t) level.Post level-Inv-loop level-μ-loop
-level-same-length-9 t c = c .before .before .before .before .before .before .before .before .before .before .before .before .before .before .parent .kept .1 .1 .1 .0 ∙ c .before .before .before .before .before .before .before .before .before .before .before .before .before .before .before .before .before .before .before .before .before .before .before .before .before .before .before .before .before .before .before .before .before .before .before .loop .inv .long .s
+level-same-length-9 t c =
+    let at-parent = c .before .before .before .before .before .before .before .before .before .before .before .before .before .before in
+    let at-loop = at-parent .before .before .before .before .before .before .before .before .before .before .before .before .before .before .before .before .before .before .before .before .before in
+    at-parent .parent .kept .1 .1 .1 .0 ∙ at-loop .loop .inv .long .s
 
 level-same-length-10 : (t : ℕ) → level-lts.Need-same-length-10 (level-cs t) (level-at t) level.Post level-Inv-loop level-μ-loop
-level-same-length-10 t c = c .before .before .before .before .before .before .before .before .before .before .before .before .before .before .parent .kept .1 .1 .1 .1 .0 ∙ c .before .before .before .before .before .before .before .before .before .before .before .before .before .before .before .before .before .before .before .before .before .before .before .before .before .before .before .before .before .before .before .before .before .before .before .loop .inv .long .t
+level-same-length-10 t c =
+    let at-parent = c .before .before .before .before .before .before .before .before .before .before .before .before .before .before in
+    let at-loop = at-parent .before .before .before .before .before .before .before .before .before .before .before .before .before .before .before .before .before .before .before .before .before in
+    at-parent .parent .kept .1 .1 .1 .1 .0 ∙ at-loop .loop .inv .long .t
 
 level-same-length-11 : (t : ℕ) → level-lts.Need-same-length-11 (level-cs t) (level-at t) level.Post level-Inv-loop level-μ-loop
-level-same-length-11 t c = c .before .before .before .before .before .before .before .before .before .before .before .before .before .before .parent .kept .1 .1 .1 .1 .1 .0 ∙ c .before .before .before .before .before .before .before .before .before .before .before .before .before .before .before .before .before .before .before .before .before .before .before .before .before .before .before .before .before .before .before .before .before .before .before .loop .inv .long .r
+level-same-length-11 t c =
+    let at-parent = c .before .before .before .before .before .before .before .before .before .before .before .before .before .before in
+    let at-loop = at-parent .before .before .before .before .before .before .before .before .before .before .before .before .before .before .before .before .before .before .before .before .before in
+    at-parent .parent .kept .1 .1 .1 .1 .1 .0 ∙ at-loop .loop .inv .long .r
 
 level-same-length-12 : (t : ℕ) → level-lts.Need-same-length-12 (level-cs t) (level-at t) level.Post level-Inv-loop level-μ-loop
-level-same-length-12 t c = c .before .before .before .before .before .before .before .before .before .before .before .before .before .before .parent .kept .1 .1 .1 .1 .1 .1 .0 ∙ c .before .before .before .before .before .before .before .before .before .before .before .before .before .before .before .before .before .before .before .before .before .before .before .before .before .before .before .before .before .before .before .before .before .before .before .loop .inv .long .q
+level-same-length-12 t c =
+    let at-parent = c .before .before .before .before .before .before .before .before .before .before .before .before .before .before in
+    let at-loop = at-parent .before .before .before .before .before .before .before .before .before .before .before .before .before .before .before .before .before .before .before .before .before in
+    at-parent .parent .kept .1 .1 .1 .1 .1 .1 .0 ∙ at-loop .loop .inv .long .q
 
 level-returns-2 : (t : ℕ) → level-lts.Need-returns-2 (level-cs t) (level-at t) level.Post level-Inv-loop level-μ-loop
-level-returns-2 t c = level-refused (c .before .before .before .before .before .before .before .before .before .before .before .before .before .before .before .before .before .before .before .before .before .before .before .before .before .before .before .before .before .before .before .before .before .before .before .before .before .before .before .before .before .before .before .before .before .before .before .before .before .pre .1) (c .before .before .before .before .before .before .before .before .before .before .before .before .before .before .before .before .before .before .before .before .before .before .before .before .before .before .before .before .before .before .before .before .before .before .before .loop .inv) (c .before .before .before .before .before .before .before .before .before .before .before .before .before .before .before .before .before .before .before .before .before .before .before .before .before .before .before .before .before .before .before .before .before .before .loop-test .taken) (c .before .before .before .before .before .before .before .before .before .before .before .before .before .before .before .before .before .before .before .before .before .before .before .before .before .before .before .last-block .ensures) (c .before .before .before .before .before .before .before .before .before .before .before .before .before .before .before .before .before .before .before .before .before .before .before .before .before .before .is-marked .ensures) (c .before .before .before .before .before .before .before .before .before .before .before .before .before .before .before .before .before .before .before .before .before .before .before .before .before .if1 .taken) (c .before .before .before .before .before .before .before .before .before .before .before .before .before .before .before .before .before .before .before .before .before .before .before .before .spend .ensures) (c .before .before .before .before .before .before .before .before .before .before .before .before .before .before .before .before .before .before .before .before .before .if2 .left) (c .before .before .before .before .before .before .before .before .before .before .before .before .before .before .parent .ensures) (c .if3 .taken)
+level-returns-2 t c =
+    let at-parent = c .before .before .before .before .before .before .before .before .before .before .before .before .before .before in
+    let at-if2 = at-parent .before .before .before .before .before .before .before in
+    let at-spend = at-if2 .before .before .before in
+    let at-if1 = at-spend .before in
+    let at-is-marked = at-if1 .before in
+    let at-last-block = at-is-marked .before in
+    let at-loop-test = at-last-block .before .before .before .before .before .before .before in
+    let at-loop = at-loop-test .before in
+    let at-entry = at-loop .before .before .before .before .before .before .before .before .before .before .before .before .before .before in
+    level-refused (at-entry .pre .1) (at-loop .loop .inv) (at-loop-test .loop-test .taken) (at-last-block .last-block .ensures) (at-is-marked .is-marked .ensures) (at-if1 .if1 .taken) (at-spend .spend .ensures) (at-if2 .if2 .left) (at-parent .parent .ensures) (c .if3 .taken)
 
 level-loop-less : (t : ℕ) → level-lts.Need-loop-less (level-cs t) (level-at t) level.Post level-Inv-loop level-μ-loop
-level-loop-less t c = going-falls (c .before .before .before .before .before .before .before .before .before .before .before .before .before .before .before .before .before .before .before .before .before .before .before .before .before .before .before .before .before .before .before .before .before .before .before .before .before .before .before .before .before .before .before .before .before .before .before .before .before .pre .1) (c .before .before .before .before .before .before .before .before .before .before .before .before .before .before .before .before .before .before .before .before .before .before .before .before .before .before .before .before .before .before .before .before .before .before .before .loop .inv) (c .before .before .before .before .before .before .before .before .before .before .before .before .before .before .before .before .before .before .before .before .before .before .before .before .before .before .before .before .before .before .before .before .before .before .loop-test .taken) (c .before .before .before .before .before .before .before .before .before .before .before .before .before .before .before .before .before .before .before .before .before .before .before .before .before .before .before .before .before .before .before .next-cursor .ensures)
+level-loop-less t c =
+    let at-next-cursor = c .before .before .before .before .before .before .before .before .before .before .before .before .before .before .before .before .before .before .before .before .before .before .before .before .before .before .before .before .before .before .before in
+    let at-loop-test = at-next-cursor .before .before .before in
+    let at-loop = at-loop-test .before in
+    let at-entry = at-loop .before .before .before .before .before .before .before .before .before .before .before .before .before .before in
+    going-falls (at-entry .pre .1) (at-loop .loop .inv) (at-loop-test .loop-test .taken) (at-next-cursor .next-cursor .ensures)
 
 level-loop-again : (t : ℕ) → level-lts.Need-loop-again (level-cs t) (level-at t) level.Post level-Inv-loop level-μ-loop
-level-loop-again t c = level-tried (c .before .before .before .before .before .before .before .before .before .before .before .before .before .before .before .before .before .before .before .before .before .before .before .before .before .before .before .before .before .before .before .before .before .before .before .before .before .before .before .before .before .before .before .before .before .before .before .before .before .pre .1) (c .before .before .before .before .before .before .before .before .before .before .before .before .before .before .before .before .before .before .before .before .before .before .before .before .before .before .before .before .before .before .before .before .before .before .before .loop .inv) (c .before .before .before .before .before .before .before .before .before .before .before .before .before .before .before .before .before .before .before .before .before .before .before .before .before .before .before .before .before .before .before .before .before .before .loop-test .taken) (c .before .before .before .before .before .before .before .before .before .before .before .before .before .before .before .before .before .before .before .before .before .before .before .before .before .before .before .last-block .ensures) (c .before .before .before .before .before .before .before .before .before .before .before .before .before .before .before .before .before .before .before .before .before .before .before .before .before .before .is-marked .ensures) (c .before .before .before .before .before .before .before .before .before .before .before .before .before .before .before .before .before .before .before .before .before .before .before .before .before .if1 .taken) (c .before .before .before .before .before .before .before .before .before .before .before .before .before .before .before .before .before .before .before .before .before .before .before .before .spend .ensures) (c .before .before .before .before .before .before .before .before .before .before .before .before .before .before .before .before .before .before .before .before .before .if2 .left) (c .before .before .before .before .before .before .before .before .before .before .before .before .before .before .parent .ensures) (c .before .before .before .before .before .before .before .before .before .before .before .before .before .before .before .before .before .before .before .before .before .before .before .before .before .before .before .before .before .before .before .next-cursor .ensures) (c .if3 .left) (record { w = c .before .before .before .before .before .before .before .before .before .before .before .before .before .before .parent .kept .1 .0; p = c .before .before .before .before .before .before .before .before .before .before .before .before .before .before .parent .kept .1 .1 .0; s = c .before .before .before .before .before .before .before .before .before .before .before .before .before .before .parent .kept .1 .1 .1 .0; t = c .before .before .before .before .before .before .before .before .before .before .before .before .before .before .parent .kept .1 .1 .1 .1 .0; r = c .before .before .before .before .before .before .before .before .before .before .before .before .before .before .parent .kept .1 .1 .1 .1 .1 .0; q = c .before .before .before .before .before .before .before .before .before .before .before .before .before .before .parent .kept .1 .1 .1 .1 .1 .1 .0 })
+level-loop-again t c =
+    let at-parent = c .before .before .before .before .before .before .before .before .before .before .before .before .before .before in
+    let at-if2 = at-parent .before .before .before .before .before .before .before in
+    let at-spend = at-if2 .before .before .before in
+    let at-if1 = at-spend .before in
+    let at-is-marked = at-if1 .before in
+    let at-last-block = at-is-marked .before in
+    let at-next-cursor = at-last-block .before .before .before .before in
+    let at-loop-test = at-next-cursor .before .before .before in
+    let at-loop = at-loop-test .before in
+    let at-entry = at-loop .before .before .before .before .before .before .before .before .before .before .before .before .before .before in
+    level-tried (at-entry .pre .1) (at-loop .loop .inv) (at-loop-test .loop-test .taken) (at-last-block .last-block .ensures) (at-is-marked .is-marked .ensures) (at-if1 .if1 .taken) (at-spend .spend .ensures) (at-if2 .if2 .left) (at-parent .parent .ensures) (at-next-cursor .next-cursor .ensures) (c .if3 .left) (record { w = at-parent .parent .kept .1 .0; p = at-parent .parent .kept .1 .1 .0; s = at-parent .parent .kept .1 .1 .1 .0; t = at-parent .parent .kept .1 .1 .1 .1 .0; r = at-parent .parent .kept .1 .1 .1 .1 .1 .0; q = at-parent .parent .kept .1 .1 .1 .1 .1 .1 .0 })
 
 level-loop-less-2 : (t : ℕ) → level-lts.Need-loop-less-2 (level-cs t) (level-at t) level.Post level-Inv-loop level-μ-loop
 level-loop-less-2 t c = search going-falls
@@ -167,7 +249,9 @@ level-returns-3 : (t : ℕ) → level-lts.Need-returns-3 (level-cs t) (level-at 
 level-returns-3 t c = search level-ends
 
 parent-enter-requires : (t : ℕ) → parent-lts.Need-enter-requires (parent-cs t) (parent-at t) parent.Post
-parent-enter-requires t c κs = c .before .before .before .before .before .before .before .before .before .before .before .before .before .pre .1 .entering
+parent-enter-requires t c κs =
+    let at-entry = c .before .before .before .before .before .before .before .before .before .before .before .before .before in
+    at-entry .pre .1 .entering
 
 parent-same-length : (t : ℕ) → parent-lts.Need-same-length (parent-cs t) (parent-at t) parent.Post
 parent-same-length t c = search needs
@@ -191,55 +275,124 @@ parent-returns : (t : ℕ) → parent-lts.Need-returns (parent-cs t) (parent-at 
 parent-returns t c = let pre = c .before .before .before .before .before .before .before .before .before .before .before .before .before .before .before .before .before .before .before .before .before .before .before .before .before .before .before .before .before .pre .1 in search (parent-shut pre)
 
 parent-count-requires : (t : ℕ) → parent-lts.Need-count-requires (parent-cs t) (parent-at t) parent.Post
-parent-count-requires t c κs = parent-counts (c .before .before .before .before .before .before .before .before .before .before .before .before .before .before .before .before .before .before .before .before .before .before .before .before .before .before .before .before .before .before .before .before .pre .1) (c .before .before .before .before .before .before .before .before .before .before .before .before .before .before .before .before .before .before .enter .ensures) (c .before .before .before .if1 .left)
+parent-count-requires t c κs =
+    let at-if1 = c .before .before .before in
+    let at-enter = at-if1 .before .before .before .before .before .before .before .before .before .before .before .before .before .before .before in
+    let at-entry = at-enter .before .before .before .before .before .before .before .before .before .before .before .before .before .before in
+    parent-counts (at-entry .pre .1) (at-enter .enter .ensures) (at-if1 .if1 .left)
 
 parent-level-requires : (t : ℕ) → parent-lts.Need-level-requires (parent-cs t) (parent-at t) parent.Post
-parent-level-requires t c κs = (omega (arith, c .before .before .before .before .before .before .before .before .before .before .before .before .before .before .before .before .before .before .before .before .before .before .before .before .before .before .before .before .before .before .before .before .before .before .before .before .before .before .before .before .before .pre .0, opens-lighter (c .before .before .before .before .before .before .before .before .before .before .before .before .before .before .before .before .before .before .before .before .before .before .before .before .before .before .before .before .before .before .before .before .before .before .before .before .before .before .before .before .before .pre .1) (c .before .before .before .before .before .before .before .before .before .before .before .before .before .before .before .before .before .before .before .before .before .before .before .before .before .before .before .enter .ensures) (c .before .before .before .before .before .before .before .before .before .before .before .before .if1 .left)), parent-opens (c .before .before .before .before .before .before .before .before .before .before .before .before .before .before .before .before .before .before .before .before .before .before .before .before .before .before .before .before .before .before .before .before .before .before .before .before .before .before .before .before .before .pre .1) (c .before .before .before .before .before .before .before .before .before .before .before .before .before .before .before .before .before .before .before .before .before .before .before .before .before .before .before .enter .ensures) (c .before .before .before .before .before .before .before .before .before .before .before .before .if1 .left) (c .before .before .before .before .before .before .before .before .count .ensures))
+parent-level-requires t c κs =
+    let at-count = c .before .before .before .before .before .before .before .before in
+    let at-if1 = at-count .before .before .before .before in
+    let at-enter = at-if1 .before .before .before .before .before .before .before .before .before .before .before .before .before .before .before in
+    let at-entry = at-enter .before .before .before .before .before .before .before .before .before .before .before .before .before .before in
+    (omega (arith, at-entry .pre .0, opens-lighter (at-entry .pre .1) (at-enter .enter .ensures) (at-if1 .if1 .left)), parent-opens (at-entry .pre .1) (at-enter .enter .ensures) (at-if1 .if1 .left) (at-count .count .ensures))
 
 parent-same-length-7 : (t : ℕ) → parent-lts.Need-same-length-7 (parent-cs t) (parent-at t) parent.Post
-parent-same-length-7 t c = c .before .before .before .before .before .before .before .before .before .before .before .before .before .before .level .kept .1 .0 ∙ c .before .before .before .before .before .before .before .before .before .before .before .before .before .before .before .before .before .before .before .before .before .before .before .count .kept .0 ∙ c .before .before .before .before .before .before .before .before .before .before .before .before .before .before .before .before .before .before .before .before .before .before .before .before .before .before .before .before .before .before .before .before .before .before .before .before .before .before .before .before .before .before .enter .kept .1 .0
+parent-same-length-7 t c =
+    let at-level = c .before .before .before .before .before .before .before .before .before .before .before .before .before .before in
+    let at-count = at-level .before .before .before .before .before .before .before .before .before in
+    let at-enter = at-count .before .before .before .before .before .before .before .before .before .before .before .before .before .before .before .before .before .before .before in
+    at-level .level .kept .1 .0 ∙ at-count .count .kept .0 ∙ at-enter .enter .kept .1 .0
 
 parent-same-length-8 : (t : ℕ) → parent-lts.Need-same-length-8 (parent-cs t) (parent-at t) parent.Post
-parent-same-length-8 t c = c .before .before .before .before .before .before .before .before .before .before .before .before .before .before .level .kept .1 .1 .0 ∙ c .before .before .before .before .before .before .before .before .before .before .before .before .before .before .before .before .before .before .before .before .before .before .before .before .before .before .before .before .before .before .before .before .before .before .before .before .before .before .before .before .before .before .enter .kept .1 .1 .0
+parent-same-length-8 t c =
+    let at-level = c .before .before .before .before .before .before .before .before .before .before .before .before .before .before in
+    let at-enter = at-level .before .before .before .before .before .before .before .before .before .before .before .before .before .before .before .before .before .before .before .before .before .before .before .before .before .before .before .before in
+    at-level .level .kept .1 .1 .0 ∙ at-enter .enter .kept .1 .1 .0
 
 parent-same-length-9 : (t : ℕ) → parent-lts.Need-same-length-9 (parent-cs t) (parent-at t) parent.Post
-parent-same-length-9 t c = c .before .before .before .before .before .before .before .before .before .before .before .before .before .before .level .kept .1 .1 .1 .0 ∙ c .before .before .before .before .before .before .before .before .before .before .before .before .before .before .before .before .before .before .before .before .before .before .before .before .before .before .before .before .before .before .before .before .before .before .before .before .before .before .before .before .before .before .enter .kept .1 .1 .1 .0
+parent-same-length-9 t c =
+    let at-level = c .before .before .before .before .before .before .before .before .before .before .before .before .before .before in
+    let at-enter = at-level .before .before .before .before .before .before .before .before .before .before .before .before .before .before .before .before .before .before .before .before .before .before .before .before .before .before .before .before in
+    at-level .level .kept .1 .1 .1 .0 ∙ at-enter .enter .kept .1 .1 .1 .0
 
 parent-same-length-10 : (t : ℕ) → parent-lts.Need-same-length-10 (parent-cs t) (parent-at t) parent.Post
-parent-same-length-10 t c = c .before .before .before .before .before .before .before .before .before .before .before .before .before .before .level .kept .1 .1 .1 .1 .0 ∙ c .before .before .before .before .before .before .before .before .before .before .before .before .before .before .before .before .before .before .before .before .before .before .before .before .before .before .before .before .before .before .before .before .before .before .before .before .before .before .before .before .before .before .enter .kept .1 .1 .1 .1 .0
+parent-same-length-10 t c =
+    let at-level = c .before .before .before .before .before .before .before .before .before .before .before .before .before .before in
+    let at-enter = at-level .before .before .before .before .before .before .before .before .before .before .before .before .before .before .before .before .before .before .before .before .before .before .before .before .before .before .before .before in
+    at-level .level .kept .1 .1 .1 .1 .0 ∙ at-enter .enter .kept .1 .1 .1 .1 .0
 
 parent-same-length-11 : (t : ℕ) → parent-lts.Need-same-length-11 (parent-cs t) (parent-at t) parent.Post
-parent-same-length-11 t c = c .before .before .before .before .before .before .before .before .before .before .before .before .before .before .level .kept .1 .1 .1 .1 .1 .0 ∙ c .before .before .before .before .before .before .before .before .before .before .before .before .before .before .before .before .before .before .before .before .before .before .before .before .before .before .before .before .before .before .before .before .before .before .before .before .before .before .before .before .before .before .enter .kept .1 .1 .1 .1 .1 .0
+parent-same-length-11 t c =
+    let at-level = c .before .before .before .before .before .before .before .before .before .before .before .before .before .before in
+    let at-enter = at-level .before .before .before .before .before .before .before .before .before .before .before .before .before .before .before .before .before .before .before .before .before .before .before .before .before .before .before .before in
+    at-level .level .kept .1 .1 .1 .1 .1 .0 ∙ at-enter .enter .kept .1 .1 .1 .1 .1 .0
 
 parent-same-length-12 : (t : ℕ) → parent-lts.Need-same-length-12 (parent-cs t) (parent-at t) parent.Post
-parent-same-length-12 t c = c .before .before .before .before .before .before .before .before .before .before .before .before .before .before .level .kept .1 .1 .1 .1 .1 .1 .0 ∙ c .before .before .before .before .before .before .before .before .before .before .before .before .before .before .before .before .before .before .before .before .before .before .before .before .before .before .before .before .before .before .before .before .before .before .before .before .before .before .before .before .before .before .enter .kept .1 .1 .1 .1 .1 .1 .0
+parent-same-length-12 t c =
+    let at-level = c .before .before .before .before .before .before .before .before .before .before .before .before .before .before in
+    let at-enter = at-level .before .before .before .before .before .before .before .before .before .before .before .before .before .before .before .before .before .before .before .before .before .before .before .before .before .before .before .before in
+    at-level .level .kept .1 .1 .1 .1 .1 .1 .0 ∙ at-enter .enter .kept .1 .1 .1 .1 .1 .1 .0
 
 parent-returns-2 : (t : ℕ) → parent-lts.Need-returns-2 (parent-cs t) (parent-at t) parent.Post
-parent-returns-2 t c = parent-refused (c .before .before .before .before .before .before .before .before .before .before .before .before .before .before .before .before .before .before .before .before .before .before .before .before .before .before .before .before .before .before .before .before .before .before .before .before .before .before .before .before .before .before .before .before .before .before .before .before .before .before .before .before .before .before .before .before .pre .1) (c .before .before .before .before .before .before .before .before .before .before .before .before .before .before .before .before .before .before .before .before .before .before .before .before .before .before .before .before .before .before .before .before .before .before .before .before .before .before .before .before .before .before .enter .ensures) (c .before .before .before .before .before .before .before .before .before .before .before .before .before .before .before .before .before .before .before .before .before .before .before .before .before .before .before .if1 .left) (c .before .before .before .before .before .before .before .before .before .before .before .before .before .before .before .before .before .before .before .before .before .before .before .count .ensures) (c .before .before .before .before .before .before .before .before .before .before .before .before .before .before .level .ensures) (c .if2 .taken)
+parent-returns-2 t c =
+    let at-level = c .before .before .before .before .before .before .before .before .before .before .before .before .before .before in
+    let at-count = at-level .before .before .before .before .before .before .before .before .before in
+    let at-if1 = at-count .before .before .before .before in
+    let at-enter = at-if1 .before .before .before .before .before .before .before .before .before .before .before .before .before .before .before in
+    let at-entry = at-enter .before .before .before .before .before .before .before .before .before .before .before .before .before .before in
+    parent-refused (at-entry .pre .1) (at-enter .enter .ensures) (at-if1 .if1 .left) (at-count .count .ensures) (at-level .level .ensures) (c .if2 .taken)
 
 parent-uncount-requires : (t : ℕ) → parent-lts.Need-uncount-requires (parent-cs t) (parent-at t) parent.Post
-parent-uncount-requires t c κs = parent-uncounts (c .before .before .before .before .before .before .before .before .before .before .before .before .before .before .before .before .before .before .before .before .before .before .before .before .before .before .before .before .before .before .before .before .before .before .before .before .before .before .before .before .before .before .before .before .before .before .before .before .before .before .before .before .before .before .before .before .before .before .pre .1) (c .before .before .before .before .before .before .before .before .before .before .before .before .before .before .before .before .before .before .before .before .before .before .before .before .before .before .before .before .before .before .before .before .before .before .before .before .before .before .before .before .before .before .before .before .enter .ensures) (c .before .before .before .before .before .before .before .before .before .before .before .before .before .before .before .before .before .before .before .before .before .before .before .before .before .before .before .before .before .if1 .left) (c .before .before .before .before .before .before .before .before .before .before .before .before .before .before .before .before .before .before .before .before .before .before .before .before .before .count .ensures) (c .before .before .before .before .before .before .before .before .before .before .before .before .before .before .before .before .level .ensures) (c .before .before .if2 .left)
+parent-uncount-requires t c κs =
+    let at-if2 = c .before .before in
+    let at-level = at-if2 .before .before .before .before .before .before .before .before .before .before .before .before .before .before in
+    let at-count = at-level .before .before .before .before .before .before .before .before .before in
+    let at-if1 = at-count .before .before .before .before in
+    let at-enter = at-if1 .before .before .before .before .before .before .before .before .before .before .before .before .before .before .before in
+    let at-entry = at-enter .before .before .before .before .before .before .before .before .before .before .before .before .before .before in
+    parent-uncounts (at-entry .pre .1) (at-enter .enter .ensures) (at-if1 .if1 .left) (at-count .count .ensures) (at-level .level .ensures) (at-if2 .if2 .left)
 
 parent-same-length-13 : (t : ℕ) → parent-lts.Need-same-length-13 (parent-cs t) (parent-at t) parent.Post
-parent-same-length-13 t c = c .before .before .uncount .kept .0 ∙ c .before .before .before .before .before .before .before .before .before .before .before .before .before .before .before .before .before .before .before .level .kept .1 .0 ∙ c .before .before .before .before .before .before .before .before .before .before .before .before .before .before .before .before .before .before .before .before .before .before .before .before .before .before .before .before .count .kept .0 ∙ c .before .before .before .before .before .before .before .before .before .before .before .before .before .before .before .before .before .before .before .before .before .before .before .before .before .before .before .before .before .before .before .before .before .before .before .before .before .before .before .before .before .before .before .before .before .before .before .enter .kept .1 .0
+parent-same-length-13 t c =
+    let at-uncount = c .before .before in
+    let at-level = at-uncount .before .before .before .before .before .before .before .before .before .before .before .before .before .before .before .before .before in
+    let at-count = at-level .before .before .before .before .before .before .before .before .before in
+    let at-enter = at-count .before .before .before .before .before .before .before .before .before .before .before .before .before .before .before .before .before .before .before in
+    at-uncount .uncount .kept .0 ∙ at-level .level .kept .1 .0 ∙ at-count .count .kept .0 ∙ at-enter .enter .kept .1 .0
 
 parent-same-length-14 : (t : ℕ) → parent-lts.Need-same-length-14 (parent-cs t) (parent-at t) parent.Post
-parent-same-length-14 t c = c .before .before .before .before .before .before .before .before .before .before .before .before .before .before .before .before .before .before .before .level .kept .1 .1 .0 ∙ c .before .before .before .before .before .before .before .before .before .before .before .before .before .before .before .before .before .before .before .before .before .before .before .before .before .before .before .before .before .before .before .before .before .before .before .before .before .before .before .before .before .before .before .before .before .before .before .enter .kept .1 .1 .0
+parent-same-length-14 t c =
+    let at-level = c .before .before .before .before .before .before .before .before .before .before .before .before .before .before .before .before .before .before .before in
+    let at-enter = at-level .before .before .before .before .before .before .before .before .before .before .before .before .before .before .before .before .before .before .before .before .before .before .before .before .before .before .before .before in
+    at-level .level .kept .1 .1 .0 ∙ at-enter .enter .kept .1 .1 .0
 
 parent-same-length-15 : (t : ℕ) → parent-lts.Need-same-length-15 (parent-cs t) (parent-at t) parent.Post
-parent-same-length-15 t c = c .before .before .before .before .before .before .before .before .before .before .before .before .before .before .before .before .before .before .before .level .kept .1 .1 .1 .0 ∙ c .before .before .before .before .before .before .before .before .before .before .before .before .before .before .before .before .before .before .before .before .before .before .before .before .before .before .before .before .before .before .before .before .before .before .before .before .before .before .before .before .before .before .before .before .before .before .before .enter .kept .1 .1 .1 .0
+parent-same-length-15 t c =
+    let at-level = c .before .before .before .before .before .before .before .before .before .before .before .before .before .before .before .before .before .before .before in
+    let at-enter = at-level .before .before .before .before .before .before .before .before .before .before .before .before .before .before .before .before .before .before .before .before .before .before .before .before .before .before .before .before in
+    at-level .level .kept .1 .1 .1 .0 ∙ at-enter .enter .kept .1 .1 .1 .0
 
 parent-same-length-16 : (t : ℕ) → parent-lts.Need-same-length-16 (parent-cs t) (parent-at t) parent.Post
-parent-same-length-16 t c = c .before .before .before .before .before .before .before .before .before .before .before .before .before .before .before .before .before .before .before .level .kept .1 .1 .1 .1 .0 ∙ c .before .before .before .before .before .before .before .before .before .before .before .before .before .before .before .before .before .before .before .before .before .before .before .before .before .before .before .before .before .before .before .before .before .before .before .before .before .before .before .before .before .before .before .before .before .before .before .enter .kept .1 .1 .1 .1 .0
+parent-same-length-16 t c =
+    let at-level = c .before .before .before .before .before .before .before .before .before .before .before .before .before .before .before .before .before .before .before in
+    let at-enter = at-level .before .before .before .before .before .before .before .before .before .before .before .before .before .before .before .before .before .before .before .before .before .before .before .before .before .before .before .before in
+    at-level .level .kept .1 .1 .1 .1 .0 ∙ at-enter .enter .kept .1 .1 .1 .1 .0
 
 parent-same-length-17 : (t : ℕ) → parent-lts.Need-same-length-17 (parent-cs t) (parent-at t) parent.Post
-parent-same-length-17 t c = c .before .before .before .before .before .before .before .before .before .before .before .before .before .before .before .before .before .before .before .level .kept .1 .1 .1 .1 .1 .0 ∙ c .before .before .before .before .before .before .before .before .before .before .before .before .before .before .before .before .before .before .before .before .before .before .before .before .before .before .before .before .before .before .before .before .before .before .before .before .before .before .before .before .before .before .before .before .before .before .before .enter .kept .1 .1 .1 .1 .1 .0
+parent-same-length-17 t c =
+    let at-level = c .before .before .before .before .before .before .before .before .before .before .before .before .before .before .before .before .before .before .before in
+    let at-enter = at-level .before .before .before .before .before .before .before .before .before .before .before .before .before .before .before .before .before .before .before .before .before .before .before .before .before .before .before .before in
+    at-level .level .kept .1 .1 .1 .1 .1 .0 ∙ at-enter .enter .kept .1 .1 .1 .1 .1 .0
 
 parent-same-length-18 : (t : ℕ) → parent-lts.Need-same-length-18 (parent-cs t) (parent-at t) parent.Post
-parent-same-length-18 t c = c .before .before .before .before .before .before .before .before .before .before .before .before .before .before .before .before .before .before .before .level .kept .1 .1 .1 .1 .1 .1 .0 ∙ c .before .before .before .before .before .before .before .before .before .before .before .before .before .before .before .before .before .before .before .before .before .before .before .before .before .before .before .before .before .before .before .before .before .before .before .before .before .before .before .before .before .before .before .before .before .before .before .enter .kept .1 .1 .1 .1 .1 .1 .0
+parent-same-length-18 t c =
+    let at-level = c .before .before .before .before .before .before .before .before .before .before .before .before .before .before .before .before .before .before .before in
+    let at-enter = at-level .before .before .before .before .before .before .before .before .before .before .before .before .before .before .before .before .before .before .before .before .before .before .before .before .before .before .before .before in
+    at-level .level .kept .1 .1 .1 .1 .1 .1 .0 ∙ at-enter .enter .kept .1 .1 .1 .1 .1 .1 .0
 
 parent-returns-3 : (t : ℕ) → parent-lts.Need-returns-3 (parent-cs t) (parent-at t) parent.Post
-parent-returns-3 t c = parent-done (c .before .before .before .before .before .before .before .before .before .before .before .before .before .before .before .before .before .before .before .before .before .before .before .before .before .before .before .before .before .before .before .before .before .before .before .before .before .before .before .before .before .before .before .before .before .before .before .before .before .before .before .before .before .before .before .before .before .before .before .before .before .pre .1) (c .before .before .before .before .before .before .before .before .before .before .before .before .before .before .before .before .before .before .before .before .before .before .before .before .before .before .before .before .before .before .before .before .before .before .before .before .before .before .before .before .before .before .before .before .before .before .before .enter .ensures) (c .before .before .before .before .before .before .before .before .before .before .before .before .before .before .before .before .before .before .before .before .before .before .before .before .before .before .before .before .before .before .before .before .if1 .left) (c .before .before .before .before .before .before .before .before .before .before .before .before .before .before .before .before .before .before .before .before .before .before .before .before .before .before .before .before .count .ensures) (c .before .before .before .before .before .before .before .before .before .before .before .before .before .before .before .before .before .before .before .level .ensures) (c .before .before .before .before .before .if2 .left) (c .before .before .uncount .ensures)
+parent-returns-3 t c =
+    let at-uncount = c .before .before in
+    let at-if2 = at-uncount .before .before .before in
+    let at-level = at-if2 .before .before .before .before .before .before .before .before .before .before .before .before .before .before in
+    let at-count = at-level .before .before .before .before .before .before .before .before .before in
+    let at-if1 = at-count .before .before .before .before in
+    let at-enter = at-if1 .before .before .before .before .before .before .before .before .before .before .before .before .before .before .before in
+    let at-entry = at-enter .before .before .before .before .before .before .before .before .before .before .before .before .before .before in
+    parent-done (at-entry .pre .1) (at-enter .enter .ensures) (at-if1 .if1 .left) (at-count .count .ensures) (at-level .level .ensures) (at-if2 .if2 .left) (at-uncount .uncount .ensures)
 
 pub +level+parent-spec : {M : Type 1} → statement M
 +level+parent-spec = close μ-level μ-parent (λ t. level-lts.spec (level-cs t) (level-at t)

@@ -2,7 +2,7 @@
 use mathlib.Core.Path.{refl, _∙_}
 use native.Mathlib.Omega.{arith}
 use borrow.Author.Needs.{needs}
-use Rattle.resolver.proofs.Rounding.{Going, linksLeft, round-begins, round-row, round-address, round-turns, round-less, round-skips, round-over, round-refused, round-goes-on, round-done}
+use Rattle.resolver.proofs.RoundLoop.{Going, linksLeft, round-begins, round-row, round-address, round-turns, round-less, round-skips, round-over, round-refused, round-goes-on, round-done}
 use Rattle.resolver.proofs.round.round.Statement.{statement}
 use Rattle.resolver.proofs.round.round.Tie as tie
 use Rattle.steps.specs.Runs.{buffers}
@@ -15,61 +15,133 @@ abbrev μ-loop : tie.MeasureT-loop
 μ-loop code w₀ p₀ s₀ t₀ r₀ q₀ k by link₀ cur₀ w p s t r q link cur = linksLeft (k .n) link
 
 add-by : tie.Need-add-by Inv-loop μ-loop
-add-by c = let w = c .before .before .before .before .before .before .before .before .before .pre .idle .tables .within in omega (arith, w .fitsR, w .mostR)
+add-by c =
+    let at-entry = c .before .before .before .before .before .before .before .before .before in
+    let w = at-entry .pre .idle .tables .within in omega (arith, w .fitsR, w .mostR)
 
 loop-holds : tie.Need-loop-holds Inv-loop μ-loop
-loop-holds c = round-begins (c .before .before .before .before .before .before .before .before .before .pre) refl
+loop-holds c =
+    let at-entry = c .before .before .before .before .before .before .before .before .before in
+    round-begins (at-entry .pre) refl
 
 next-taker-requires : tie.Need-next-taker-requires Inv-loop μ-loop
-next-taker-requires c κs = round-row (c .before .before .loop .inv) (c .before .loop-test .taken) (c .before .before .before .before .before .before .before .before .before .before .before .before .pre)
+next-taker-requires c κs =
+    let at-loop = c .before .before in
+    let at-entry = at-loop .before .before .before .before .before .before .before .before .before .before in
+    round-row (at-loop .loop .inv) (c .before .loop-test .taken) (at-entry .pre)
 
 is-marked-requires : tie.Need-is-marked-requires Inv-loop μ-loop
-is-marked-requires c κs = round-address (c .before .before .before .before .loop .inv) (c .before .before .before .loop-test .taken) (c .before .before .before .before .before .before .before .before .before .before .before .before .before .before .pre)
+is-marked-requires c κs =
+    let at-loop-test = c .before .before .before in
+    let at-loop = at-loop-test .before in
+    let at-entry = at-loop .before .before .before .before .before .before .before .before .before .before in
+    round-address (at-loop .loop .inv) (at-loop-test .loop-test .taken) (at-entry .pre)
 
 turn-requires : tie.Need-turn-requires Inv-loop μ-loop
-turn-requires c κs = round-turns (c .before .before .before .before .before .before .before .before .before .before .before .before .before .before .before .loop .inv) (c .before .before .before .before .before .before .before .before .before .before .before .before .before .before .loop-test .taken) (c .before .before .before .before .before .before .before .before .before .before .before .before .before .before .before .before .before .before .before .before .before .before .before .before .before .pre) (c .before .before .before .before .before .before .if2 .taken)
+turn-requires c κs =
+    let at-if2 = c .before .before .before .before .before .before in
+    let at-loop-test = at-if2 .before .before .before .before .before .before .before .before in
+    let at-loop = at-loop-test .before in
+    let at-entry = at-loop .before .before .before .before .before .before .before .before .before .before in
+    round-turns (at-loop .loop .inv) (at-loop-test .loop-test .taken) (at-entry .pre) (at-if2 .if2 .taken)
 
 same-length : tie.Need-same-length Inv-loop μ-loop
-same-length c = c .before .before .before .before .before .before .before .before .before .before .before .before .before .before .turn .kept .1 .0 ∙ c .before .before .before .before .before .before .before .before .before .before .before .before .before .before .before .before .before .before .before .before .before .before .before .before .before .before .before .before .before .before .loop .inv .long .w
+same-length c =
+    let at-turn = c .before .before .before .before .before .before .before .before .before .before .before .before .before .before in
+    let at-loop = at-turn .before .before .before .before .before .before .before .before .before .before .before .before .before .before .before .before in
+    at-turn .turn .kept .1 .0 ∙ at-loop .loop .inv .long .w
 
 same-length-2 : tie.Need-same-length-2 Inv-loop μ-loop
-same-length-2 c = c .before .before .before .before .before .before .before .before .before .before .before .before .before .before .turn .kept .1 .1 .0 ∙ c .before .before .before .before .before .before .before .before .before .before .before .before .before .before .before .before .before .before .before .before .before .before .before .before .before .before .before .before .before .before .loop .inv .long .p
+same-length-2 c =
+    let at-turn = c .before .before .before .before .before .before .before .before .before .before .before .before .before .before in
+    let at-loop = at-turn .before .before .before .before .before .before .before .before .before .before .before .before .before .before .before .before in
+    at-turn .turn .kept .1 .1 .0 ∙ at-loop .loop .inv .long .p
 
 same-length-3 : tie.Need-same-length-3 Inv-loop μ-loop
-same-length-3 c = c .before .before .before .before .before .before .before .before .before .before .before .before .before .before .turn .kept .1 .1 .1 .0 ∙ c .before .before .before .before .before .before .before .before .before .before .before .before .before .before .before .before .before .before .before .before .before .before .before .before .before .before .before .before .before .before .loop .inv .long .s
+same-length-3 c =
+    let at-turn = c .before .before .before .before .before .before .before .before .before .before .before .before .before .before in
+    let at-loop = at-turn .before .before .before .before .before .before .before .before .before .before .before .before .before .before .before .before in
+    at-turn .turn .kept .1 .1 .1 .0 ∙ at-loop .loop .inv .long .s
 
 same-length-4 : tie.Need-same-length-4 Inv-loop μ-loop
-same-length-4 c = c .before .before .before .before .before .before .before .before .before .before .before .before .before .before .turn .kept .1 .1 .1 .1 .0 ∙ c .before .before .before .before .before .before .before .before .before .before .before .before .before .before .before .before .before .before .before .before .before .before .before .before .before .before .before .before .before .before .loop .inv .long .t
+same-length-4 c =
+    let at-turn = c .before .before .before .before .before .before .before .before .before .before .before .before .before .before in
+    let at-loop = at-turn .before .before .before .before .before .before .before .before .before .before .before .before .before .before .before .before in
+    at-turn .turn .kept .1 .1 .1 .1 .0 ∙ at-loop .loop .inv .long .t
 
 same-length-5 : tie.Need-same-length-5 Inv-loop μ-loop
-same-length-5 c = c .before .before .before .before .before .before .before .before .before .before .before .before .before .before .turn .kept .1 .1 .1 .1 .1 .0 ∙ c .before .before .before .before .before .before .before .before .before .before .before .before .before .before .before .before .before .before .before .before .before .before .before .before .before .before .before .before .before .before .loop .inv .long .r
+same-length-5 c =
+    let at-turn = c .before .before .before .before .before .before .before .before .before .before .before .before .before .before in
+    let at-loop = at-turn .before .before .before .before .before .before .before .before .before .before .before .before .before .before .before .before in
+    at-turn .turn .kept .1 .1 .1 .1 .1 .0 ∙ at-loop .loop .inv .long .r
 
 same-length-6 : tie.Need-same-length-6 Inv-loop μ-loop
-same-length-6 c = c .before .before .before .before .before .before .before .before .before .before .before .before .before .before .turn .kept .1 .1 .1 .1 .1 .1 .0 ∙ c .before .before .before .before .before .before .before .before .before .before .before .before .before .before .before .before .before .before .before .before .before .before .before .before .before .before .before .before .before .before .loop .inv .long .q
+same-length-6 c =
+    let at-turn = c .before .before .before .before .before .before .before .before .before .before .before .before .before .before in
+    let at-loop = at-turn .before .before .before .before .before .before .before .before .before .before .before .before .before .before .before .before in
+    at-turn .turn .kept .1 .1 .1 .1 .1 .1 .0 ∙ at-loop .loop .inv .long .q
 
 returns : tie.Need-returns Inv-loop μ-loop
-returns c = round-refused (c .before .before .before .before .before .before .before .before .before .before .before .before .before .before .before .before .before .before .before .before .before .before .before .before .before .before .before .before .before .before .loop .inv) (c .before .before .before .before .before .before .before .before .before .before .before .before .before .before .before .before .before .before .before .before .before .before .before .before .before .before .before .before .before .loop-test .taken) (c .before .before .before .before .before .before .before .before .before .before .before .before .before .before .before .before .before .before .before .before .before .before .before .before .before .is-marked .ensures) (c .before .before .before .before .before .before .before .before .before .before .before .before .before .before .before .before .before .before .before .before .before .before .before .before .if1 .taken) (c .before .before .before .before .before .before .before .before .before .before .before .before .before .before .before .before .before .before .before .before .before .if2 .taken) (c .before .before .before .before .before .before .before .before .before .before .before .before .before .before .turn .ensures) (c .if3 .taken)
+returns c =
+    let at-turn = c .before .before .before .before .before .before .before .before .before .before .before .before .before .before in
+    let at-if2 = at-turn .before .before .before .before .before .before .before in
+    let at-if1 = at-if2 .before .before .before in
+    let at-is-marked = at-if1 .before in
+    let at-loop-test = at-is-marked .before .before .before .before in
+    let at-loop = at-loop-test .before in
+    round-refused (at-loop .loop .inv) (at-loop-test .loop-test .taken) (at-is-marked .is-marked .ensures) (at-if1 .if1 .taken) (at-if2 .if2 .taken) (at-turn .turn .ensures) (c .if3 .taken)
 
 loop-less : tie.Need-loop-less Inv-loop μ-loop
-loop-less c = round-less (c .before .before .before .before .before .before .before .before .before .before .before .before .before .before .before .before .before .before .before .before .before .before .before .before .before .before .before .before .before .before .loop .inv) (c .before .before .before .before .before .before .before .before .before .before .before .before .before .before .before .before .before .before .before .before .before .before .before .before .before .before .before .before .before .loop-test .taken) (c .before .before .before .before .before .before .before .before .before .before .before .before .before .before .before .before .before .before .before .before .before .before .before .before .before .before .before .before .before .before .before .before .before .before .before .before .before .before .before .before .pre) (c .before .before .before .before .before .before .before .before .before .before .before .before .before .before .before .before .before .before .before .before .before .before .before .before .before .before .before .next-taker .ensures)
+loop-less c =
+    let at-next-taker = c .before .before .before .before .before .before .before .before .before .before .before .before .before .before .before .before .before .before .before .before .before .before .before .before .before .before .before in
+    let at-loop-test = at-next-taker .before .before in
+    let at-loop = at-loop-test .before in
+    let at-entry = at-loop .before .before .before .before .before .before .before .before .before .before in
+    round-less (at-loop .loop .inv) (at-loop-test .loop-test .taken) (at-entry .pre) (at-next-taker .next-taker .ensures)
 
 loop-again : tie.Need-loop-again Inv-loop μ-loop
 loop-again c =
-    let kept = c .before .before .before .before .before .before .before .before .before .before .before .before .before .before .turn .kept in
-    round-goes-on (c .before .before .before .before .before .before .before .before .before .before .before .before .before .before .before .before .before .before .before .before .before .before .before .before .before .before .before .before .before .before .loop .inv) (c .before .before .before .before .before .before .before .before .before .before .before .before .before .before .before .before .before .before .before .before .before .before .before .before .before .before .before .before .before .loop-test .taken) (c .before .before .before .before .before .before .before .before .before .before .before .before .before .before .before .before .before .before .before .before .before .before .before .before .before .is-marked .ensures) (c .before .before .before .before .before .before .before .before .before .before .before .before .before .before .before .before .before .before .before .before .before .before .before .before .if1 .taken) (c .before .before .before .before .before .before .before .before .before .before .before .before .before .before .before .before .before .before .before .before .before .if2 .taken) (c .before .before .before .before .before .before .before .before .before .before .before .before .before .before .turn .ensures) (c .if3 .left) (c .before .before .before .before .before .before .before .before .before .before .before .before .before .before .before .before .before .before .before .before .before .before .before .before .before .before .before .before .before .before .before .before .before .before .before .before .before .before .before .before .pre) (c .before .before .before .before .before .before .before .before .before .before .before .before .before .before .before .before .before .before .before .before .before .before .before .before .before .before .before .next-taker .ensures)
+    let at-turn = c .before .before .before .before .before .before .before .before .before .before .before .before .before .before in
+    let at-if2 = at-turn .before .before .before .before .before .before .before in
+    let at-if1 = at-if2 .before .before .before in
+    let at-is-marked = at-if1 .before in
+    let at-next-taker = at-is-marked .before .before in
+    let at-loop-test = at-next-taker .before .before in
+    let at-loop = at-loop-test .before in
+    let at-entry = at-loop .before .before .before .before .before .before .before .before .before .before in
+    let kept = at-turn .turn .kept in
+    round-goes-on (at-loop .loop .inv) (at-loop-test .loop-test .taken) (at-is-marked .is-marked .ensures) (at-if1 .if1 .taken) (at-if2 .if2 .taken) (at-turn .turn .ensures) (c .if3 .left) (at-entry .pre) (at-next-taker .next-taker .ensures)
     (record { w = kept .1 .0; p = kept .1 .1 .0; s = kept .1 .1 .1 .0; t = kept .1 .1 .1 .1 .0; r = kept .1 .1 .1 .1 .1 .0; q = kept .1 .1 .1 .1 .1 .1 .0 })
 
 loop-less-2 : tie.Need-loop-less-2 Inv-loop μ-loop
-loop-less-2 c = round-less (c .before .before .before .before .before .before .before .before .before .loop .inv) (c .before .before .before .before .before .before .before .before .loop-test .taken) (c .before .before .before .before .before .before .before .before .before .before .before .before .before .before .before .before .before .before .before .pre) (c .before .before .before .before .before .before .next-taker .ensures)
+loop-less-2 c =
+    let at-next-taker = c .before .before .before .before .before .before in
+    let at-loop-test = at-next-taker .before .before in
+    let at-loop = at-loop-test .before in
+    let at-entry = at-loop .before .before .before .before .before .before .before .before .before .before in
+    round-less (at-loop .loop .inv) (at-loop-test .loop-test .taken) (at-entry .pre) (at-next-taker .next-taker .ensures)
 
 loop-again-2 : tie.Need-loop-again-2 Inv-loop μ-loop
-loop-again-2 c = round-over (c .before .before .before .before .before .before .before .before .before .loop .inv) (c .before .before .before .before .before .before .before .before .loop-test .taken) (c .before .before .before .before .before .before .next-taker .ensures) (omega (arith, c .if2 .left))
+loop-again-2 c =
+    let at-next-taker = c .before .before .before .before .before .before in
+    let at-loop-test = at-next-taker .before .before in
+    let at-loop = at-loop-test .before in
+    round-over (at-loop .loop .inv) (at-loop-test .loop-test .taken) (at-next-taker .next-taker .ensures) (omega (arith, c .if2 .left))
 
 loop-less-3 : tie.Need-loop-less-3 Inv-loop μ-loop
-loop-less-3 c = round-less (c .before .before .before .before .before .before .loop .inv) (c .before .before .before .before .before .loop-test .taken) (c .before .before .before .before .before .before .before .before .before .before .before .before .before .before .before .before .pre) (c .before .before .before .next-taker .ensures)
+loop-less-3 c =
+    let at-next-taker = c .before .before .before in
+    let at-loop-test = at-next-taker .before .before in
+    let at-loop = at-loop-test .before in
+    let at-entry = at-loop .before .before .before .before .before .before .before .before .before .before in
+    round-less (at-loop .loop .inv) (at-loop-test .loop-test .taken) (at-entry .pre) (at-next-taker .next-taker .ensures)
 
 loop-again-3 : tie.Need-loop-again-3 Inv-loop μ-loop
-loop-again-3 c = round-skips (c .before .before .before .before .before .before .loop .inv) (c .before .before .before .before .before .loop-test .taken) (c .before .before .before .next-taker .ensures) (c .before .is-marked .ensures) (c .if1 .left)
+loop-again-3 c =
+    let at-next-taker = c .before .before .before in
+    let at-loop-test = at-next-taker .before .before in
+    let at-loop = at-loop-test .before in
+    round-skips (at-loop .loop .inv) (at-loop-test .loop-test .taken) (at-next-taker .next-taker .ensures) (c .before .is-marked .ensures) (c .if1 .left)
 
 same-length-7 : tie.Need-same-length-7 Inv-loop μ-loop
 same-length-7 c = c .before .loop .inv .long .w

@@ -9,7 +9,8 @@ use Rattle.resolver.proofs.rounds.plan_of.Tie as tie
 
 returns : tie.Need-returns
 returns c =
-    let few : c .if1 .shelves ≡ min (c .before .before .args .rooms .t) 0x10000 = ⊎-elim (λ y. omega (arith, y)) (λ y. omega (arith, y)) (c .if1 .came) in
+    let at-args = c .before .before in
+    let few : c .if1 .shelves ≡ min (at-args .args .rooms .t) 0x10000 = ⊎-elim (λ y. omega (arith, y)) (λ y. omega (arith, y)) (c .if1 .came) in
     rw few
 
 pub plan-of-spec : {M : Type 1} → statement M

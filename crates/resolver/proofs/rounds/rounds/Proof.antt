@@ -3,7 +3,7 @@ use mathlib.Core.Path.{_∙_}
 use native.Mathlib.Omega.{arith}
 use borrow.Author.Needs.{needs}
 use Rattle.steps.specs.Runs.{buffers}
-use Rattle.resolver.proofs.Rolling.{Rolling, roll-start, roll-limit, roll-settles, roll-asks, roll-short, roll-last, roll-next, roll-done}
+use Rattle.resolver.proofs.RoundsLoop.{Rolling, roll-start, roll-limit, roll-settles, roll-asks, roll-short, roll-last, roll-next, roll-done}
 use Rattle.resolver.proofs.rounds.rounds.Statement.{statement}
 use Rattle.resolver.proofs.rounds.rounds.Tie as tie
 
@@ -27,49 +27,95 @@ round-requires : tie.Need-round-requires Inv-loop μ-loop
 round-requires c κs = search roll-asks
 
 same-length-7 : tie.Need-same-length-7 Inv-loop μ-loop
-same-length-7 c = c .before .before .before .before .before .before .before .before .before .before .before .before .before .before .round .kept .1 .0 ∙ c .before .before .before .before .before .before .before .before .before .before .before .before .before .before .before .before .before .before .before .before .before .before .before .settle .kept .0 ∙ c .before .before .before .before .before .before .before .before .before .before .before .before .before .before .before .before .before .before .before .before .before .before .before .before .before .before .before .before .before .before .before .loop .inv .long .w
+same-length-7 c =
+    let at-round = c .before .before .before .before .before .before .before .before .before .before .before .before .before .before in
+    let at-settle = at-round .before .before .before .before .before .before .before .before .before in
+    let at-loop = at-settle .before .before .before .before .before .before .before .before in
+    at-round .round .kept .1 .0 ∙ at-settle .settle .kept .0 ∙ at-loop .loop .inv .long .w
 
 same-length-8 : tie.Need-same-length-8 Inv-loop μ-loop
-same-length-8 c = c .before .before .before .before .before .before .before .before .before .before .before .before .before .before .round .kept .1 .1 .0 ∙ c .before .before .before .before .before .before .before .before .before .before .before .before .before .before .before .before .before .before .before .before .before .before .before .before .before .before .before .before .before .before .before .loop .inv .long .p
+same-length-8 c =
+    let at-round = c .before .before .before .before .before .before .before .before .before .before .before .before .before .before in
+    let at-loop = at-round .before .before .before .before .before .before .before .before .before .before .before .before .before .before .before .before .before in
+    at-round .round .kept .1 .1 .0 ∙ at-loop .loop .inv .long .p
 
 same-length-9 : tie.Need-same-length-9 Inv-loop μ-loop
-same-length-9 c = c .before .before .before .before .before .before .before .before .before .before .before .before .before .before .round .kept .1 .1 .1 .0 ∙ c .before .before .before .before .before .before .before .before .before .before .before .before .before .before .before .before .before .before .before .before .before .before .before .before .before .before .before .before .before .before .before .loop .inv .long .s
+same-length-9 c =
+    let at-round = c .before .before .before .before .before .before .before .before .before .before .before .before .before .before in
+    let at-loop = at-round .before .before .before .before .before .before .before .before .before .before .before .before .before .before .before .before .before in
+    at-round .round .kept .1 .1 .1 .0 ∙ at-loop .loop .inv .long .s
 
 same-length-10 : tie.Need-same-length-10 Inv-loop μ-loop
-same-length-10 c = c .before .before .before .before .before .before .before .before .before .before .before .before .before .before .round .kept .1 .1 .1 .1 .0 ∙ c .before .before .before .before .before .before .before .before .before .before .before .before .before .before .before .before .before .before .before .before .before .before .before .before .before .before .before .before .before .before .before .loop .inv .long .t
+same-length-10 c =
+    let at-round = c .before .before .before .before .before .before .before .before .before .before .before .before .before .before in
+    let at-loop = at-round .before .before .before .before .before .before .before .before .before .before .before .before .before .before .before .before .before in
+    at-round .round .kept .1 .1 .1 .1 .0 ∙ at-loop .loop .inv .long .t
 
 same-length-11 : tie.Need-same-length-11 Inv-loop μ-loop
-same-length-11 c = c .before .before .before .before .before .before .before .before .before .before .before .before .before .before .round .kept .1 .1 .1 .1 .1 .0 ∙ c .before .before .before .before .before .before .before .before .before .before .before .before .before .before .before .before .before .before .before .before .before .before .before .before .before .before .before .before .before .before .before .loop .inv .long .r
+same-length-11 c =
+    let at-round = c .before .before .before .before .before .before .before .before .before .before .before .before .before .before in
+    let at-loop = at-round .before .before .before .before .before .before .before .before .before .before .before .before .before .before .before .before .before in
+    at-round .round .kept .1 .1 .1 .1 .1 .0 ∙ at-loop .loop .inv .long .r
 
 same-length-12 : tie.Need-same-length-12 Inv-loop μ-loop
-same-length-12 c = c .before .before .before .before .before .before .before .before .before .before .before .before .before .before .round .kept .1 .1 .1 .1 .1 .1 .0 ∙ c .before .before .before .before .before .before .before .before .before .before .before .before .before .before .before .before .before .before .before .before .before .before .before .before .before .before .before .before .before .before .before .loop .inv .long .q
+same-length-12 c =
+    let at-round = c .before .before .before .before .before .before .before .before .before .before .before .before .before .before in
+    let at-loop = at-round .before .before .before .before .before .before .before .before .before .before .before .before .before .before .before .before .before in
+    at-round .round .kept .1 .1 .1 .1 .1 .1 .0 ∙ at-loop .loop .inv .long .q
 
 returns-2 : tie.Need-returns-2 Inv-loop μ-loop
-returns-2 c = roll-short (c .before .before .before .before .before .before .before .before .before .before .before .before .before .before .before .before .before .before .before .before .before .before .before .before .before .before .before .before .before .before .before .loop .inv) (c .before .before .before .before .before .before .before .before .before .before .before .before .before .before .before .before .before .before .before .before .before .before .before .settle .ensures) (c .before .before .before .before .before .before .before .before .before .before .before .before .before .before .before .before .before .before .before .before .before .before .before .before .before .before .before .before .before .before .loop-test .taken) (c .before .before .before .before .before .before .before .before .before .before .before .before .before .before .before .before .before .before .before .before .before .before .before .before .before .before .before .if1 .left) (c .before .before .before .before .before .before .before .before .before .before .before .before .before .before .round .ensures) (c .if2 .taken)
+returns-2 c =
+    let at-round = c .before .before .before .before .before .before .before .before .before .before .before .before .before .before in
+    let at-settle = at-round .before .before .before .before .before .before .before .before .before in
+    let at-if1 = at-settle .before .before .before .before in
+    let at-loop-test = at-if1 .before .before .before in
+    let at-loop = at-loop-test .before in
+    roll-short (at-loop .loop .inv) (at-settle .settle .ensures) (at-loop-test .loop-test .taken) (at-if1 .if1 .left) (at-round .round .ensures) (c .if2 .taken)
 
 same-length-13 : tie.Need-same-length-13 Inv-loop μ-loop
-same-length-13 c = c .before .before .before .before .before .before .before .before .before .before .before .before .before .before .before .before .before .round .kept .1 .0 ∙ c .before .before .before .before .before .before .before .before .before .before .before .before .before .before .before .before .before .before .before .before .before .before .before .before .before .before .settle .kept .0 ∙ c .before .before .before .before .before .before .before .before .before .before .before .before .before .before .before .before .before .before .before .before .before .before .before .before .before .before .before .before .before .before .before .before .before .before .loop .inv .long .w
+same-length-13 c =
+    let at-round = c .before .before .before .before .before .before .before .before .before .before .before .before .before .before .before .before .before in
+    let at-settle = at-round .before .before .before .before .before .before .before .before .before in
+    let at-loop = at-settle .before .before .before .before .before .before .before .before in
+    at-round .round .kept .1 .0 ∙ at-settle .settle .kept .0 ∙ at-loop .loop .inv .long .w
 
 same-length-14 : tie.Need-same-length-14 Inv-loop μ-loop
-same-length-14 c = c .before .before .before .before .before .before .before .before .before .before .before .before .before .before .before .before .before .round .kept .1 .1 .0 ∙ c .before .before .before .before .before .before .before .before .before .before .before .before .before .before .before .before .before .before .before .before .before .before .before .before .before .before .before .before .before .before .before .before .before .before .loop .inv .long .p
+same-length-14 c =
+    let at-round = c .before .before .before .before .before .before .before .before .before .before .before .before .before .before .before .before .before in
+    let at-loop = at-round .before .before .before .before .before .before .before .before .before .before .before .before .before .before .before .before .before in
+    at-round .round .kept .1 .1 .0 ∙ at-loop .loop .inv .long .p
 
 same-length-15 : tie.Need-same-length-15 Inv-loop μ-loop
-same-length-15 c = c .before .before .before .before .before .before .before .before .before .before .before .before .before .before .before .before .before .round .kept .1 .1 .1 .0 ∙ c .before .before .before .before .before .before .before .before .before .before .before .before .before .before .before .before .before .before .before .before .before .before .before .before .before .before .before .before .before .before .before .before .before .before .loop .inv .long .s
+same-length-15 c =
+    let at-round = c .before .before .before .before .before .before .before .before .before .before .before .before .before .before .before .before .before in
+    let at-loop = at-round .before .before .before .before .before .before .before .before .before .before .before .before .before .before .before .before .before in
+    at-round .round .kept .1 .1 .1 .0 ∙ at-loop .loop .inv .long .s
 
 same-length-16 : tie.Need-same-length-16 Inv-loop μ-loop
-same-length-16 c = c .before .before .before .before .before .before .before .before .before .before .before .before .before .before .before .before .before .round .kept .1 .1 .1 .1 .0 ∙ c .before .before .before .before .before .before .before .before .before .before .before .before .before .before .before .before .before .before .before .before .before .before .before .before .before .before .before .before .before .before .before .before .before .before .loop .inv .long .t
+same-length-16 c =
+    let at-round = c .before .before .before .before .before .before .before .before .before .before .before .before .before .before .before .before .before in
+    let at-loop = at-round .before .before .before .before .before .before .before .before .before .before .before .before .before .before .before .before .before in
+    at-round .round .kept .1 .1 .1 .1 .0 ∙ at-loop .loop .inv .long .t
 
 same-length-17 : tie.Need-same-length-17 Inv-loop μ-loop
-same-length-17 c = c .before .before .before .before .before .before .before .before .before .before .before .before .before .before .before .before .before .round .kept .1 .1 .1 .1 .1 .0 ∙ c .before .before .before .before .before .before .before .before .before .before .before .before .before .before .before .before .before .before .before .before .before .before .before .before .before .before .before .before .before .before .before .before .before .before .loop .inv .long .r
+same-length-17 c =
+    let at-round = c .before .before .before .before .before .before .before .before .before .before .before .before .before .before .before .before .before in
+    let at-loop = at-round .before .before .before .before .before .before .before .before .before .before .before .before .before .before .before .before .before in
+    at-round .round .kept .1 .1 .1 .1 .1 .0 ∙ at-loop .loop .inv .long .r
 
 same-length-18 : tie.Need-same-length-18 Inv-loop μ-loop
-same-length-18 c = c .before .before .before .before .before .before .before .before .before .before .before .before .before .before .before .before .before .round .kept .1 .1 .1 .1 .1 .1 .0 ∙ c .before .before .before .before .before .before .before .before .before .before .before .before .before .before .before .before .before .before .before .before .before .before .before .before .before .before .before .before .before .before .before .before .before .before .loop .inv .long .q
+same-length-18 c =
+    let at-round = c .before .before .before .before .before .before .before .before .before .before .before .before .before .before .before .before .before in
+    let at-loop = at-round .before .before .before .before .before .before .before .before .before .before .before .before .before .before .before .before .before in
+    at-round .round .kept .1 .1 .1 .1 .1 .1 .0 ∙ at-loop .loop .inv .long .q
 
 returns-3 : tie.Need-returns-3 Inv-loop μ-loop
 returns-3 c = roll-last (c .before .before .before .before .before .before .before .before .before .before .before .before .before .before .before .before .before .before .before .before .before .before .before .before .before .before .before .before .before .before .before .before .before .before .loop .inv) (c .before .before .before .before .before .before .before .before .before .before .before .before .before .before .before .before .before .before .before .before .before .before .before .before .before .before .settle .ensures) (c .before .before .before .before .before .before .before .before .before .before .before .before .before .before .before .before .before .before .before .before .before .before .before .before .before .before .before .before .before .before .before .before .before .loop-test .taken) (c .before .before .before .before .before .before .before .before .before .before .before .before .before .before .before .before .before .before .before .before .before .before .before .before .before .before .before .before .before .before .if1 .left) (c .before .before .before .before .before .before .before .before .before .before .before .before .before .before .before .before .before .round .ensures) (search needs) (c .if3 .taken)
 
 loop-less : tie.Need-loop-less Inv-loop μ-loop
-loop-less c = omega (arith, c .before .before .before .before .before .before .before .before .before .before .before .before .before .before .before .before .before .before .before .before .before .before .before .before .before .before .before .before .before .before .before .before .before .loop-test .taken)
+loop-less c =
+    let at-loop-test = c .before .before .before .before .before .before .before .before .before .before .before .before .before .before .before .before .before .before .before .before .before .before .before .before .before .before .before .before .before .before .before .before .before in
+    omega (arith, at-loop-test .loop-test .taken)
 
 loop-again : tie.Need-loop-again Inv-loop μ-loop
 loop-again c =

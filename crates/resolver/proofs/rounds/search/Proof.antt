@@ -3,7 +3,7 @@ use mathlib.Core.Path.{ap, _∙_}
 use native.Mathlib.Omega.{arith}
 use borrow.Author.Needs.{needs}
 use Rattle.tables.specs.declared.Rooms.{Rooms}
-use Rattle.resolver.proofs.Beginning.{known-within, search-room, search-heads, search-begins, search-asks, search-done}
+use Rattle.resolver.proofs.SearchBegins.{known-within, search-room, search-heads, search-begins, search-asks, search-done}
 use Rattle.resolver.proofs.rounds.search.Statement.{statement}
 use Rattle.resolver.proofs.rounds.search.Tie as tie
 
@@ -23,7 +23,11 @@ rounds-requires : tie.Need-rounds-requires
 rounds-requires c κs = search-asks (c .before .before .before .before .before .before .before .before .before .before .before .before .before .before .before .before .before .before .before .before .before .rooms-of .ensures) (c .before .before .before .before .before .before .before .before .before .before .before .before .before .before .before .before .before .before .before .before .plan-of .ensures) (c .before .before .before .before .before .before .before .before .before .before .before .before .before .before .before .before .before .before .before .before .before .before .before .before .before .before .before .before .before .before .before .before .before .before .pre) (c .before .before .before .before .before .before .before .before .before .before .before .before .before .before .before .before .before .before .reach .ensures) (c .before .before .before .before .before .before .before .before .before .before .before .before .before .wipe-part .ensures) (c .before .before .before .before .before .before .before .before .before .begin-rows .ensures) (c .before .before .before .before .before .before .begin .ensures)
 
 same-length : tie.Need-same-length
-same-length c = c .before .before .before .before .before .before .before .before .before .before .before .before .rounds .kept .1 .0 ∙ c .before .before .before .before .before .before .before .before .before .before .before .before .before .before .before .before .before .before .before .before .before .before .before .before .before .before .wipe-part .kept .0 ∙ c .before .before .before .before .before .before .before .before .before .before .before .before .before .before .before .before .before .before .before .before .before .before .before .before .before .before .before .before .before .before .before .reach .kept .0
+same-length c =
+    let at-rounds = c .before .before .before .before .before .before .before .before .before .before .before .before in
+    let at-wipe-part = at-rounds .before .before .before .before .before .before .before .before .before .before .before .before .before .before in
+    let at-reach = at-wipe-part .before .before .before .before .before in
+    at-rounds .rounds .kept .1 .0 ∙ at-wipe-part .wipe-part .kept .0 ∙ at-reach .reach .kept .0
 
 returns : tie.Need-returns
 returns c = search-done (c .before .before .before .before .before .before .before .before .before .before .before .before .before .before .before .before .before .before .before .before .before .before .before .before .before .before .before .before .before .before .before .before .before .before .rooms-of .ensures) (c .before .before .before .before .before .before .before .before .before .before .before .before .before .before .before .before .before .before .before .before .before .before .before .before .before .before .before .before .before .before .before .before .before .plan-of .ensures) (c .before .before .before .before .before .before .before .before .before .before .before .before .before .before .before .before .before .before .before .before .before .before .before .before .before .before .before .before .before .before .before .before .before .before .before .before .before .before .before .before .before .before .before .before .before .before .before .pre) (c .before .before .before .before .before .before .before .before .before .before .before .before .before .before .before .before .before .before .before .before .before .before .before .before .before .before .before .before .before .before .before .reach .ensures) (c .before .before .before .before .before .before .before .before .before .before .before .before .before .before .before .before .before .before .before .before .before .before .before .before .before .before .wipe-part .ensures) (c .before .before .before .before .before .before .before .before .before .before .before .before .before .before .before .before .before .before .before .before .before .before .begin-rows .ensures) (c .before .before .before .before .before .before .before .before .before .before .before .before .before .before .before .before .before .before .before .begin .ensures) (c .before .before .before .before .before .before .before .before .before .before .before .before .rounds .ensures)

@@ -1,7 +1,7 @@
 -- `settle`: the destinations from `since` on are expanded, one after another. Assumes nothing.
 use Prim.Native.Nat.{_-_}
 use borrow.Author.Needs.{needs}
-use Rattle.resolver.proofs.Settling.{Settling, settle-start, settle-expands, settle-skip, settle-turn, settle-done}
+use Rattle.resolver.proofs.SettleLoop.{Settling, settle-start, settle-expands, settle-skip, settle-turn, settle-done}
 use Rattle.resolver.proofs.rounds.settle.Statement.{statement}
 use Rattle.resolver.proofs.rounds.settle.Tie as tie
 

@@ -1,6 +1,6 @@
 -- `first_level`: what is stored, counted and read is what `Placed` says. Assumes nothing.
 use borrow.Author.Needs.{needs}
-use Rattle.resolver.proofs.Begins.{place-copies, place-puts, place-counts, place-reads, place-done}
+use Rattle.resolver.proofs.TurnBegins.{place-copies, place-puts, place-counts, place-reads, place-done}
 use Rattle.resolver.proofs.turn.first_level.Statement.{statement}
 use Rattle.resolver.proofs.turn.first_level.Tie as tie
 
@@ -14,7 +14,10 @@ count-requires : tie.Need-count-requires
 count-requires c κs = search place-counts
 
 position-at-requires : tie.Need-position-at-requires
-position-at-requires c κs = place-reads (c .before .before .before .before .before .before .before .before .before .before .before .before .before .before .before .before .before .before .before .pre) (c .before .before .before .count .ensures)
+position-at-requires c κs =
+    let at-count = c .before .before .before in
+    let at-entry = at-count .before .before .before .before .before .before .before .before .before .before .before .before .before .before .before .before in
+    place-reads (at-entry .pre) (at-count .count .ensures)
 
 returns : tie.Need-returns
 returns c = search place-done

@@ -2,7 +2,7 @@
 use mathlib.Core.Path.{_∙_}
 use native.Mathlib.Omega.{arith}
 use borrow.Author.Needs.{needs}
-use Rattle.resolver.proofs.Turning.{turn-runs, turn-places, turn-opens, turn-short-p, turn-short-s, leveling, turn-refused, turn-uncounts, turn-forgets, turn-done}
+use Rattle.resolver.proofs.TurnDone.{turn-runs, turn-places, turn-opens, turn-short-p, turn-short-s, leveling, turn-refused, turn-uncounts, turn-forgets, turn-done}
 use Rattle.resolver.proofs.turn.turn.Statement.{statement}
 use Rattle.resolver.proofs.turn.turn.Tie as tie
 
@@ -13,55 +13,120 @@ run-requires : tie.Need-run-requires
 run-requires c κs = search turn-runs
 
 add-if2 : tie.Need-add-if2
-add-if2 c = let a = c .before .before .before .before .before .before .before .before .before .before .before .before .before .before .before .before .before .pre in omega (arith, a .idle .tables .within .fitsS, a .idle .tables .within .mostS, c .before .before .before .before .before .run .ensures .high, a .idle .planned .ends)
+add-if2 c =
+    let at-run = c .before .before .before .before .before in
+    let at-entry = at-run .before .before .before .before .before .before .before .before .before .before .before .before in
+    let a = at-entry .pre in omega (arith, a .idle .tables .within .fitsS, a .idle .tables .within .mostS, at-run .run .ensures .high, a .idle .planned .ends)
 
 returns-2 : tie.Need-returns-2
 returns-2 c = search turn-short-s
 
 first-level-requires : tie.Need-first-level-requires
-first-level-requires c κs = turn-places (c .before .before .before .before .before .before .before .before .before .before .before .before .before .before .before .before .before .before .before .before .before .before .pre) (c .before .before .before .before .before .before .before .before .before .before .before .before .if1 .left) (c .before .before .before .before .before .before .before .before .before .before .run .ensures) (omega (arith, c .before .before .before .if2 .left))
+first-level-requires c κs =
+    let at-if2 = c .before .before .before in
+    let at-run = at-if2 .before .before .before .before .before .before .before in
+    let at-if1 = at-run .before .before in
+    let at-entry = at-if1 .before .before .before .before .before .before .before .before .before .before in
+    turn-places (at-entry .pre) (at-if1 .if1 .left) (at-run .run .ensures) (omega (arith, at-if2 .if2 .left))
 
 level-requires : tie.Need-level-requires
 level-requires c κs =
-    turn-opens (c .before .before .before .before .before .before .before .before .before .before .before .before .before .before .before .before .before .before .before .before .before .before .before .before .before .before .before .before .before .before .before .before .before .before .before .before .pre) (c .before .before .before .before .before .before .before .before .before .before .before .before .before .before .before .before .before .before .before .before .before .before .before .before .before .before .if1 .left) (c .before .before .before .before .before .before .before .before .before .before .before .before .before .before .before .before .before .before .before .before .before .before .before .before .run .ensures) (omega (arith, c .before .before .before .before .before .before .before .before .before .before .before .before .before .before .before .before .before .if2 .left)) (c .before .before .before .before .before .before .before .before .before .before .before .before .before .first-level .ensures) (c .begun .ensures)
+    let at-first-level = c .before .before .before .before .before .before .before .before .before .before .before .before .before in
+    let at-if2 = at-first-level .before .before .before .before in
+    let at-run = at-if2 .before .before .before .before .before .before .before in
+    let at-if1 = at-run .before .before in
+    let at-entry = at-if1 .before .before .before .before .before .before .before .before .before .before in
+    turn-opens (at-entry .pre) (at-if1 .if1 .left) (at-run .run .ensures) (omega (arith, at-if2 .if2 .left)) (at-first-level .first-level .ensures) (c .begun .ensures)
 
 same-length-2 : tie.Need-same-length-2
-same-length-2 c = c .before .before .before .before .before .before .before .before .before .before .before .before .before .before .level .kept .1 .0 ∙ c .before .before .before .before .before .before .before .before .before .before .before .before .before .before .before .before .before .before .before .before .before .before .before .before .before .before .before .before .first-level .ensures .counted .only .long ∙ c .before .before .before .before .before .before .before .before .before .before .before .before .before .before .before .before .before .before .before .before .before .before .before .before .before .before .before .before .before .before .before .before .before .before .before .before .before .before .before .run .ensures .inside .kept
+same-length-2 c =
+    let at-level = c .before .before .before .before .before .before .before .before .before .before .before .before .before .before in
+    let at-first-level = at-level .before .before .before .before .before .before .before .before .before .before .before .before .before .before in
+    let at-run = at-first-level .before .before .before .before .before .before .before .before .before .before .before in
+    at-level .level .kept .1 .0 ∙ at-first-level .first-level .ensures .counted .only .long ∙ at-run .run .ensures .inside .kept
 
 same-length-3 : tie.Need-same-length-3
-same-length-3 c = c .before .before .before .before .before .before .before .before .before .before .before .before .before .before .level .kept .1 .1 .0 ∙ c .before .before .before .before .before .before .before .before .before .before .before .before .before .before .before .before .before .before .before .before .before .before .before .before .before .before .before .before .first-level .ensures .put .kept
+same-length-3 c =
+    let at-level = c .before .before .before .before .before .before .before .before .before .before .before .before .before .before in
+    let at-first-level = at-level .before .before .before .before .before .before .before .before .before .before .before .before .before .before in
+    at-level .level .kept .1 .1 .0 ∙ at-first-level .first-level .ensures .put .kept
 
 same-length-4 : tie.Need-same-length-4
-same-length-4 c = c .before .before .before .before .before .before .before .before .before .before .before .before .before .before .level .kept .1 .1 .1 .0 ∙ c .before .before .before .before .before .before .before .before .before .before .before .before .before .before .before .before .before .before .before .before .before .before .before .before .before .before .before .before .first-level .ensures .copied .kept
+same-length-4 c =
+    let at-level = c .before .before .before .before .before .before .before .before .before .before .before .before .before .before in
+    let at-first-level = at-level .before .before .before .before .before .before .before .before .before .before .before .before .before .before in
+    at-level .level .kept .1 .1 .1 .0 ∙ at-first-level .first-level .ensures .copied .kept
 
 returns-3 : tie.Need-returns-3
 returns-3 c =
+    let at-level = c .before .before .before .before .before .before .before .before .before .before .before .before .before .before in
+    let at-begun = at-level .before in
+    let at-first-level = at-begun .before .before .before .before .before .before .before .before .before .before .before .before .before in
+    let at-if2 = at-first-level .before .before .before .before in
+    let at-run = at-if2 .before .before .before .before .before .before .before in
+    let at-if1 = at-run .before .before in
     turn-refused
-    (leveling (c .before .before .before .before .before .before .before .before .before .before .before .before .before .before .before .before .before .before .before .before .before .before .before .before .before .before .before .before .before .before .before .before .before .before .before .before .before .before .before .before .before .if1 .left) (c .before .before .before .before .before .before .before .before .before .before .before .before .before .before .before .before .before .before .before .before .before .before .before .before .before .before .before .before .before .before .before .before .before .before .before .before .before .before .before .run .ensures) (omega (arith, c .before .before .before .before .before .before .before .before .before .before .before .before .before .before .before .before .before .before .before .before .before .before .before .before .before .before .before .before .before .before .before .before .if2 .left)) (c .before .before .before .before .before .before .before .before .before .before .before .before .before .before .before .before .before .before .before .before .before .before .before .before .before .before .before .before .first-level .ensures) (c .before .before .before .before .before .before .before .before .before .before .before .before .before .before .before .begun .ensures) (c .before .before .before .before .before .before .before .before .before .before .before .before .before .before .level .ensures)) (c .if3 .taken)
+    (leveling (at-if1 .if1 .left) (at-run .run .ensures) (omega (arith, at-if2 .if2 .left)) (at-first-level .first-level .ensures) (at-begun .begun .ensures) (at-level .level .ensures)) (c .if3 .taken)
 
 uncount-requires : tie.Need-uncount-requires
 uncount-requires c κs =
+    let at-if3 = c .before .before in
+    let at-level = at-if3 .before .before .before .before .before .before .before .before .before .before .before .before .before .before in
+    let at-begun = at-level .before in
+    let at-first-level = at-begun .before .before .before .before .before .before .before .before .before .before .before .before .before in
+    let at-if2 = at-first-level .before .before .before .before in
+    let at-run = at-if2 .before .before .before .before .before .before .before in
+    let at-if1 = at-run .before .before in
+    let at-entry = at-if1 .before .before .before .before .before .before .before .before .before .before in
     turn-uncounts
-    (leveling (c .before .before .before .before .before .before .before .before .before .before .before .before .before .before .before .before .before .before .before .before .before .before .before .before .before .before .before .before .before .before .before .before .before .before .before .before .before .before .before .before .before .before .before .if1 .left) (c .before .before .before .before .before .before .before .before .before .before .before .before .before .before .before .before .before .before .before .before .before .before .before .before .before .before .before .before .before .before .before .before .before .before .before .before .before .before .before .before .before .run .ensures) (omega (arith, c .before .before .before .before .before .before .before .before .before .before .before .before .before .before .before .before .before .before .before .before .before .before .before .before .before .before .before .before .before .before .before .before .before .before .if2 .left)) (c .before .before .before .before .before .before .before .before .before .before .before .before .before .before .before .before .before .before .before .before .before .before .before .before .before .before .before .before .before .before .first-level .ensures) (c .before .before .before .before .before .before .before .before .before .before .before .before .before .before .before .before .before .begun .ensures) (c .before .before .before .before .before .before .before .before .before .before .before .before .before .before .before .before .level .ensures)) (c .before .before .before .before .before .before .before .before .before .before .before .before .before .before .before .before .before .before .before .before .before .before .before .before .before .before .before .before .before .before .before .before .before .before .before .before .before .before .before .before .before .before .before .before .before .before .before .before .before .before .before .before .before .pre) (c .before .before .if3 .left)
+    (leveling (at-if1 .if1 .left) (at-run .run .ensures) (omega (arith, at-if2 .if2 .left)) (at-first-level .first-level .ensures) (at-begun .begun .ensures) (at-level .level .ensures)) (at-entry .pre) (at-if3 .if3 .left)
 
 forget-requires : tie.Need-forget-requires
 forget-requires c κs =
+    let at-if3 = c .before .before .before .before .before .before .before in
+    let at-level = at-if3 .before .before .before .before .before .before .before .before .before .before .before .before .before .before in
+    let at-begun = at-level .before in
+    let at-first-level = at-begun .before .before .before .before .before .before .before .before .before .before .before .before .before in
+    let at-if2 = at-first-level .before .before .before .before in
+    let at-run = at-if2 .before .before .before .before .before .before .before in
+    let at-if1 = at-run .before .before in
+    let at-entry = at-if1 .before .before .before .before .before .before .before .before .before .before in
     turn-forgets
-    (leveling (c .before .before .before .before .before .before .before .before .before .before .before .before .before .before .before .before .before .before .before .before .before .before .before .before .before .before .before .before .before .before .before .before .before .before .before .before .before .before .before .before .before .before .before .before .before .before .before .before .if1 .left) (c .before .before .before .before .before .before .before .before .before .before .before .before .before .before .before .before .before .before .before .before .before .before .before .before .before .before .before .before .before .before .before .before .before .before .before .before .before .before .before .before .before .before .before .before .before .before .run .ensures) (omega (arith, c .before .before .before .before .before .before .before .before .before .before .before .before .before .before .before .before .before .before .before .before .before .before .before .before .before .before .before .before .before .before .before .before .before .before .before .before .before .before .before .if2 .left)) (c .before .before .before .before .before .before .before .before .before .before .before .before .before .before .before .before .before .before .before .before .before .before .before .before .before .before .before .before .before .before .before .before .before .before .before .first-level .ensures) (c .before .before .before .before .before .before .before .before .before .before .before .before .before .before .before .before .before .before .before .before .before .before .begun .ensures) (c .before .before .before .before .before .before .before .before .before .before .before .before .before .before .before .before .before .before .before .before .before .level .ensures)) (c .before .before .before .before .before .before .before .before .before .before .before .before .before .before .before .before .before .before .before .before .before .before .before .before .before .before .before .before .before .before .before .before .before .before .before .before .before .before .before .before .before .before .before .before .before .before .before .before .before .before .before .before .before .before .before .before .before .before .pre) (c .before .before .before .before .before .before .before .if3 .left)
+    (leveling (at-if1 .if1 .left) (at-run .run .ensures) (omega (arith, at-if2 .if2 .left)) (at-first-level .first-level .ensures) (at-begun .begun .ensures) (at-level .level .ensures)) (at-entry .pre) (at-if3 .if3 .left)
 
 same-length-8 : tie.Need-same-length-8
-same-length-8 c = c .before .before .before .before .before .before .before .before .uncount .ensures .only .long ∙ c .before .before .before .before .before .before .before .before .before .before .before .before .before .before .before .before .before .before .before .before .before .before .before .before .before .level .kept .1 .0 ∙ c .before .before .before .before .before .before .before .before .before .before .before .before .before .before .before .before .before .before .before .before .before .before .before .before .before .before .before .before .before .before .before .before .before .before .before .before .before .before .before .first-level .ensures .counted .only .long ∙ c .before .before .before .before .before .before .before .before .before .before .before .before .before .before .before .before .before .before .before .before .before .before .before .before .before .before .before .before .before .before .before .before .before .before .before .before .before .before .before .before .before .before .before .before .before .before .before .before .before .before .run .ensures .inside .kept
+same-length-8 c =
+    let at-uncount = c .before .before .before .before .before .before .before .before in
+    let at-level = at-uncount .before .before .before .before .before .before .before .before .before .before .before .before .before .before .before .before .before in
+    let at-first-level = at-level .before .before .before .before .before .before .before .before .before .before .before .before .before .before in
+    let at-run = at-first-level .before .before .before .before .before .before .before .before .before .before .before in
+    at-uncount .uncount .ensures .only .long ∙ at-level .level .kept .1 .0 ∙ at-first-level .first-level .ensures .counted .only .long ∙ at-run .run .ensures .inside .kept
 
 same-length-9 : tie.Need-same-length-9
-same-length-9 c = c .before .before .before .before .before .before .before .before .before .before .before .before .before .before .before .before .before .before .before .before .before .before .before .before .before .level .kept .1 .1 .0 ∙ c .before .before .before .before .before .before .before .before .before .before .before .before .before .before .before .before .before .before .before .before .before .before .before .before .before .before .before .before .before .before .before .before .before .before .before .before .before .before .before .first-level .ensures .put .kept
+same-length-9 c =
+    let at-level = c .before .before .before .before .before .before .before .before .before .before .before .before .before .before .before .before .before .before .before .before .before .before .before .before .before in
+    let at-first-level = at-level .before .before .before .before .before .before .before .before .before .before .before .before .before .before in
+    at-level .level .kept .1 .1 .0 ∙ at-first-level .first-level .ensures .put .kept
 
 same-length-10 : tie.Need-same-length-10
-same-length-10 c = c .before .before .before .before .before .before .before .before .before .before .before .before .before .before .before .before .before .before .before .before .before .before .before .before .before .level .kept .1 .1 .1 .0 ∙ c .before .before .before .before .before .before .before .before .before .before .before .before .before .before .before .before .before .before .before .before .before .before .before .before .before .before .before .before .before .before .before .before .before .before .before .before .before .before .before .first-level .ensures .copied .kept
+same-length-10 c =
+    let at-level = c .before .before .before .before .before .before .before .before .before .before .before .before .before .before .before .before .before .before .before .before .before .before .before .before .before in
+    let at-first-level = at-level .before .before .before .before .before .before .before .before .before .before .before .before .before .before in
+    at-level .level .kept .1 .1 .1 .0 ∙ at-first-level .first-level .ensures .copied .kept
 
 returns-4 : tie.Need-returns-4
 returns-4 c =
+    let at-forget = c .before .before .before in
+    let at-uncount = at-forget .before .before .before .before .before in
+    let at-if3 = at-uncount .before .before .before in
+    let at-level = at-if3 .before .before .before .before .before .before .before .before .before .before .before .before .before .before in
+    let at-begun = at-level .before in
+    let at-first-level = at-begun .before .before .before .before .before .before .before .before .before .before .before .before .before in
+    let at-if2 = at-first-level .before .before .before .before in
+    let at-run = at-if2 .before .before .before .before .before .before .before in
+    let at-if1 = at-run .before .before in
     turn-done
-    (leveling (c .before .before .before .before .before .before .before .before .before .before .before .before .before .before .before .before .before .before .before .before .before .before .before .before .before .before .before .before .before .before .before .before .before .before .before .before .before .before .before .before .before .before .before .before .before .before .before .before .before .before .before .before .if1 .left) (c .before .before .before .before .before .before .before .before .before .before .before .before .before .before .before .before .before .before .before .before .before .before .before .before .before .before .before .before .before .before .before .before .before .before .before .before .before .before .before .before .before .before .before .before .before .before .before .before .before .before .run .ensures) (omega (arith, c .before .before .before .before .before .before .before .before .before .before .before .before .before .before .before .before .before .before .before .before .before .before .before .before .before .before .before .before .before .before .before .before .before .before .before .before .before .before .before .before .before .before .before .if2 .left)) (c .before .before .before .before .before .before .before .before .before .before .before .before .before .before .before .before .before .before .before .before .before .before .before .before .before .before .before .before .before .before .before .before .before .before .before .before .before .before .before .first-level .ensures) (c .before .before .before .before .before .before .before .before .before .before .before .before .before .before .before .before .before .before .before .before .before .before .before .before .before .before .begun .ensures) (c .before .before .before .before .before .before .before .before .before .before .before .before .before .before .before .before .before .before .before .before .before .before .before .before .before .level .ensures)) (c .before .before .before .before .before .before .before .before .before .before .before .if3 .left) (c .before .before .before .before .before .before .before .before .uncount .ensures) (c .before .before .before .forget .ensures) (c .ended .ensures)
+    (leveling (at-if1 .if1 .left) (at-run .run .ensures) (omega (arith, at-if2 .if2 .left)) (at-first-level .first-level .ensures) (at-begun .begun .ensures) (at-level .level .ensures)) (at-if3 .if3 .left) (at-uncount .uncount .ensures) (at-forget .forget .ensures) (c .ended .ensures)
 
 pub turn-spec : {M : Type 1} → statement M
 turn-spec =

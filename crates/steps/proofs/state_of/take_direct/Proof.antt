@@ -15,10 +15,14 @@ returns : tie.Need-returns
 returns c = search direct-short
 
 mul-compose-own : tie.Need-mul-compose-own
-mul-compose-own c = let p = c .before .before .before .before .before .before .before .before .before .before .before .before .before .before .before .before .before .before .before .before .before .pre .0 in omega (arith, p .low, p .fits, p .mostS)
+mul-compose-own c =
+    let at-entry = c .before .before .before .before .before .before .before .before .before .before .before .before .before .before .before .before .before .before .before .before .before in
+    let p = at-entry .pre .0 in omega (arith, p .low, p .fits, p .mostS)
 
 mul-compose-own-2 : tie.Need-mul-compose-own-2
-mul-compose-own-2 c = let p = c .before .before .before .before .before .before .before .before .before .before .before .before .before .before .before .before .before .before .before .before .before .before .pre .0 in omega (arith, p .fits, p .mostS)
+mul-compose-own-2 c =
+    let at-entry = c .before .before .before .before .before .before .before .before .before .before .before .before .before .before .before .before .before .before .before .before .before .before in
+    let p = at-entry .pre .0 in omega (arith, p .fits, p .mostS)
 
 compose-own-requires : tie.Need-compose-own-requires
 compose-own-requires c κs = let p = c .before .before .before .before .before .before .before .before .before .before .before .before .before .before .before .before .before .before .before .before .before .before .before .pre in search direct-composes

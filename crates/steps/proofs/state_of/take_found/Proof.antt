@@ -6,16 +6,24 @@ use Rattle.steps.proofs.state_of.take_found.Statement.{statement}
 use Rattle.steps.proofs.state_of.take_found.Tie as tie
 
 mul-get32 : tie.Need-mul-get32
-mul-get32 c = let p = c .before .before .before .before .before .pre in omega (arith, p .0 .row (p .1))
+mul-get32 c =
+    let at-entry = c .before .before .before .before .before in
+    let p = at-entry .pre in omega (arith, p .0 .row (p .1))
 
 add-get32 : tie.Need-add-get32
-add-get32 c = let p = c .before .before .before .before .before .pre in omega (arith, p .0 .row (p .1))
+add-get32 c =
+    let at-entry = c .before .before .before .before .before in
+    let p = at-entry .pre in omega (arith, p .0 .row (p .1))
 
 get32-requires : tie.Need-get32-requires
-get32-requires c κs = let p = c .before .before .before .before .before .pre in omega (arith, p .0 .row (p .1))
+get32-requires c κs =
+    let at-entry = c .before .before .before .before .before in
+    let p = at-entry .pre in omega (arith, p .0 .row (p .1))
 
 kept-before-requires : tie.Need-kept-before-requires
-kept-before-requires c κs = let p = c .before .before .before .before .before .before .pre in omega (arith, p .0 .row (p .1))
+kept-before-requires c κs =
+    let at-entry = c .before .before .before .before .before .before in
+    let p = at-entry .pre in omega (arith, p .0 .row (p .1))
 
 sub-n : tie.Need-sub-n
 sub-n c = search found-rises
@@ -30,13 +38,24 @@ returns : tie.Need-returns
 returns c = search found-short
 
 mul-compose-kept : tie.Need-mul-compose-kept
-mul-compose-kept c = let p = c .before .before .before .before .before .before .before .before .before .before .before .before .before .before .before .before .before .before .before .pre .0 in omega (arith, p .low, p .fits, p .mostS)
+mul-compose-kept c =
+    let at-entry = c .before .before .before .before .before .before .before .before .before .before .before .before .before .before .before .before .before .before .before in
+    let p = at-entry .pre .0 in omega (arith, p .low, p .fits, p .mostS)
 
 mul-compose-kept-2 : tie.Need-mul-compose-kept-2
-mul-compose-kept-2 c = let p = c .before .before .before .before .before .before .before .before .before .before .before .before .before .before .before .before .before .before .before .before .pre .0 in omega (arith, p .fits, p .mostS)
+mul-compose-kept-2 c =
+    let at-entry = c .before .before .before .before .before .before .before .before .before .before .before .before .before .before .before .before .before .before .before .before in
+    let p = at-entry .pre .0 in omega (arith, p .fits, p .mostS)
 
 compose-kept-requires : tie.Need-compose-kept-requires
-compose-kept-requires c κs = let p = c .before .before .before .before .before .before .before .before .before .before .before .before .before .before .before .before .before .before .before .before .pre in found-composes (p .0) (p .1) (c .before .before .before .before .before .before .before .before .before .before .before .before .before .before .get32 .ensures) (c .before .before .before .before .before .before .before .before .before .before .before .before .before .kept-before .ensures) (c .before .before .before .before .before .before .before .base-at .ensures) (c .before .before .before .before .before .before .composed-len .ensures) (c .before .before .before .if1 .left)
+compose-kept-requires c κs =
+    let at-if1 = c .before .before .before in
+    let at-composed-len = at-if1 .before .before .before in
+    let at-base-at = at-composed-len .before in
+    let at-kept-before = at-base-at .before .before .before .before .before .before in
+    let at-get32 = at-kept-before .before in
+    let at-entry = at-get32 .before .before .before .before .before .before in
+    let p = at-entry .pre in found-composes (p .0) (p .1) (at-get32 .get32 .ensures) (at-kept-before .kept-before .ensures) (at-base-at .base-at .ensures) (at-composed-len .composed-len .ensures) (at-if1 .if1 .left)
 
 returns-2 : tie.Need-returns-2
 returns-2 c = let p = c .before .before .before .before .before .before .before .before .before .before .before .before .before .before .before .before .before .before .before .before .before .before .before .pre in let a = c .before .before .before .before .before .before .before .before .before .before .before .before .before .before .before .before .before .get32 .ensures in let b = c .before .before .before .before .before .before .before .before .before .before .before .before .before .before .before .before .kept-before .ensures in search found-took

@@ -14,7 +14,13 @@ counted-with-requires : tie.Need-counted-with-requires
 counted-with-requires c κs = search adds-counting
 
 returns : tie.Need-returns
-returns c = added (c .before .before .before .before .before .before .before .before .before .before .before .before .before .before .before .before .before .before .before .before .before .before .pre) (c .before .before .before .before .before .before .before .before .before .before .before .before .before .before .before .before .fields-of .ensures) (c .before .before .before .before .before .before .before .before .before .before .before .before .before .link-record .ensures) (c .before .before .before .before .before .before .before .keep-path .ensures) (c .before .before .before .keep-state .ensures) (c .counted-with .ensures)
+returns c =
+    let at-keep-state = c .before .before .before in
+    let at-keep-path = at-keep-state .before .before .before .before in
+    let at-link-record = at-keep-path .before .before .before .before .before .before in
+    let at-fields-of = at-link-record .before .before .before in
+    let at-entry = at-fields-of .before .before .before .before .before .before in
+    added (at-entry .pre) (at-fields-of .fields-of .ensures) (at-link-record .link-record .ensures) (at-keep-path .keep-path .ensures) (at-keep-state .keep-state .ensures) (c .counted-with .ensures)
 
 pub add-record-spec : {M : Type 1} → statement M
 add-record-spec =

@@ -11,10 +11,22 @@ returns-2 : tie.Need-returns-2
 returns-2 c = search recorded-short
 
 add-record-requires : tie.Need-add-record-requires
-add-record-requires c κs = ready-adds (c .before .before .before .before .before .before .before .before .before .before .before .before .before .before .before .before .before .pre) (c .before .before .before .before .before .before .before .before .before .before .before .path-sum .ensures) (c .before .before .before .before .before .shortage .ensures) (c .before .before .before .before .if2 .left)
+add-record-requires c κs =
+    let at-if2 = c .before .before .before .before in
+    let at-shortage = at-if2 .before in
+    let at-path-sum = at-shortage .before .before .before .before .before .before in
+    let at-entry = at-path-sum .before .before .before .before .before .before in
+    ready-adds (at-entry .pre) (at-path-sum .path-sum .ensures) (at-shortage .shortage .ensures) (at-if2 .if2 .left)
 
 returns-3 : tie.Need-returns-3
-returns-3 c = recorded-made (c .before .before .before .before .before .before .before .before .before .before .before .before .before .before .before .before .before .before .before .before .before .before .before .before .before .before .pre) (c .before .before .before .before .before .before .before .before .before .before .before .before .before .before .before .before .recorded .ensures) (c .before .before .before .before .before .before .before .before .before .before .before .before .before .before .shortage .ensures) (c .before .before .before .before .before .before .before .before .before .before .before .before .before .before .before .if1 .left) (c .before .before .before .before .before .before .before .before .before .before .before .before .before .if2 .left) (c .before .before .before .before .before .before .before .before .add-record .ensures)
+returns-3 c =
+    let at-add-record = c .before .before .before .before .before .before .before .before in
+    let at-if2 = at-add-record .before .before .before .before .before in
+    let at-shortage = at-if2 .before in
+    let at-if1 = at-shortage .before in
+    let at-recorded = at-if1 .before in
+    let at-entry = at-recorded .before .before .before .before .before .before .before .before .before .before in
+    recorded-made (at-entry .pre) (at-recorded .recorded .ensures) (at-shortage .shortage .ensures) (at-if1 .if1 .left) (at-if2 .if2 .left) (at-add-record .add-record .ensures)
 
 pub record-entry-spec : {M : Type 1} → statement M
 record-entry-spec =

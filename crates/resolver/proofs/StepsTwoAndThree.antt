@@ -42,9 +42,9 @@ use Rattle.steps.proofs.Found.{loops-one, loops-found}
 use Rattle.steps.proofs.Splits.{inside-append}
 use Rattle.steps.proofs.Paths.{on-path, counts-kept}
 use Rattle.steps.proofs.Growing.{path-direct, grown-front}
-use Rattle.resolver.proofs.Shorts.{short-later, short-need, not-true, Laters, outcome-refused}
-use Rattle.resolver.proofs.Changes.{fits-path, fits-noted, stays-noted, noted-mets}
-use Rattle.resolver.proofs.Staying.{stays-then, stays-less}
+use Rattle.resolver.proofs.FirstShortage.{short-later, short-need, not-true, Laters, outcome-refused}
+use Rattle.resolver.proofs.TurnKept.{fits-path, fits-noted, stays-noted, noted-mets}
+use Rattle.resolver.proofs.LevelKept.{stays-then, stays-less}
 
 -- ---- the room P
 

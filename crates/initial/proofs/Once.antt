@@ -1,4 +1,4 @@
--- The contracts of `cut`, `check` and `initial_blocks` leave no choice: two results of one call are the same, byte for byte. Assumes nothing.
+-- The contracts leave no choice: two results of one call are the same, byte for byte. Those of `cut` and `check` do not either. Assumes nothing.
 use mathlib.Core.Path.{_≡_, refl, sym, ap, ap₂, _∙_}
 use mathlib.Core.Bool.{false, not}
 use mathlib.Core.List.{List, [], _∷_, _++_}
@@ -11,8 +11,10 @@ use lib.Seq.{take-add}
 use borrow.Author.Tests.{eq-eqb, eqb-true, not-false}
 use Rattle.spec.specs.Blocks.{Block}
 use Rattle.lent.proofs.Parts.{by-halves}
+use Rattle.lent.proofs.Once.{one-stored}
 use Rattle.initial.specs.Rows.{tagAt, blockAt, rowBlocks, blocksAt, rowOf, Laid}
-use Rattle.initial.specs.Contracts.{Beyond, Written, Initial}
+use Rattle.initial.specs.Contracts.{Beyond, Written, Initial, Put, TypeIs}
+use Rattle.initial.specs.declared.row.BlockType.{BlockType}
 use Rattle.initial.proofs.Rows.{here-empty, here-block, start-at, found, block-in}
 
 -- ---- the blocks say each row
@@ -52,3 +54,9 @@ one-written {n} {bs} {u} {w} {v} p q = exact w v n (p .blocks ∙ sym (q .blocks
 
 pub one-initial : {code u w v : List ℕ} → Initial code u w → Initial code u v → w ≡ v
 one-initial {code} {u} {w} {v} p q = exact w v (length code) (p .same ∙ sym (q .same)) (p .laid) (q .laid) (p .beyond) (q .beyond)
+
+pub one-put : {w w′ w″ : List ℕ} {a end : ℕ} {t : BlockType} → Put w a end t w′ → Put w a end t w″ → w′ ≡ w″
+one-put p q = one-stored (p .stored) (q .stored) .1
+
+pub one-type : {w : List ℕ} {a : ℕ} {t u : BlockType} → TypeIs w a t → TypeIs w a u → t ≡ u
+one-type p q = p .is ∙ sym (q .is)

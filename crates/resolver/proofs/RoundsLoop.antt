@@ -21,9 +21,9 @@ use Rattle.steps.specs.Runs.{Mem, buffers, recsIn, stOf, Did}
 use Rattle.resolver.specs.Turns.{Idle, Passed, Between, RoundAsks, Rounded, Settles, Settled, last-since, Reached, Rounds}
 use Rattle.steps.specs.declared.Plan.{Plan}
 use Rattle.steps.specs.declared.Run.{Run}
-use Rattle.resolver.proofs.Renewing.{renew-settles, renew-flags, renewed}
-use Rattle.resolver.proofs.Dids.{did-nothing, did-same, did-then, did-stops}
-use Rattle.resolver.proofs.Lengths.{Long, long-same, long-then}
+use Rattle.resolver.proofs.AfterSettle.{renew-settles, renew-flags, renewed}
+use Rattle.resolver.proofs.Sequence.{did-nothing, did-same, did-then, did-stops}
+use Rattle.resolver.proofs.SixLengths.{Long, long-same, long-then}
 
 -- ---- one round of document 01
 

@@ -47,9 +47,9 @@ use Rattle.steps.proofs.Splits.{inside-append}
 use Rattle.steps.proofs.Paths.{counts-prefix, counts-kept}
 use Rattle.steps.proofs.Nexts.{last-addrs}
 use Rattle.steps.proofs.Sound.{sound-compose, sound-before}
-use Rattle.resolver.proofs.Shorts.{short-later, short-need, not-true, Laters, outcome-refused}
-use Rattle.resolver.proofs.Changes.{fits-taken, stays-taken, taken-recs, taken-mets, state-taken, fits-met, stays-met, fits-noted, stays-noted, noted-mets}
-use Rattle.resolver.proofs.Staying.{stays-then, stays-less}
+use Rattle.resolver.proofs.FirstShortage.{short-later, short-need, not-true, Laters, outcome-refused}
+use Rattle.resolver.proofs.TurnKept.{fits-taken, stays-taken, taken-recs, taken-mets, state-taken, fits-met, stays-met, fits-noted, stays-noted, noted-mets}
+use Rattle.resolver.proofs.LevelKept.{stays-then, stays-less}
 
 -- ---- what is asked of a parent's state
 

@@ -15,10 +15,10 @@ use Rattle.steps.specs.declared.Plan.{Plan}
 use Rattle.steps.specs.declared.Level.{Level}
 use Rattle.steps.specs.declared.Run.{Run}
 use Rattle.resolver.specs.declared.enter.Opening.{Opening}
-use Rattle.resolver.proofs.Dids.{did-same, did-then}
-use Rattle.resolver.proofs.Tries.{deeper-later}
-use Rattle.resolver.proofs.Staying.{stays-counts, stays-then, stays-less, path-stays, stands-stay, its-counts}
-use Rattle.resolver.proofs.Recounts.{fits-recounted, stands-count, stands-uncount}
+use Rattle.resolver.proofs.Sequence.{did-same, did-then}
+use Rattle.resolver.proofs.LevelByParents.{deeper-later}
+use Rattle.resolver.proofs.LevelKept.{stays-counts, stays-then, stays-less, path-stays, stands-stay, its-counts}
+use Rattle.resolver.proofs.CountsAlone.{fits-recounted, stands-count, stands-uncount}
 
 module _ {code : List ℕ} {k : Plan} {start : ℕ} {l : Level} {at : ℕ} {m : Mem} {o : Run} (pre : Trying code k start l at m o)
     {w₁ p₁ s₁ t₁ r₁ q₁ : List ℕ} {e : Opening} (entered : Entered code k start l at m o (buffers w₁ p₁ s₁ t₁ r₁ q₁) e) where

@@ -31,8 +31,8 @@ use Rattle.steps.specs.declared.Level.{Level}
 use Rattle.steps.specs.declared.Run.{Run}
 use Rattle.resolver.specs.Fits.{Fits, levelOf, Stands}
 use Rattle.resolver.specs.Turns.{Idle, begunWith, Places, Placed}
-use Rattle.resolver.proofs.Works.{Alike, alike-then, alike-counts, alike-run, counts-run, alike-marks, alike-known, alike-room}
-use Rattle.resolver.proofs.Taking.{Taking}
+use Rattle.resolver.proofs.WorkKept.{Alike, alike-then, alike-counts, alike-run, counts-run, alike-marks, alike-known, alike-room}
+use Rattle.resolver.proofs.TakerRow.{Taking}
 
 -- the path of one address that was put
 module _ {p p₁ : List ℕ} {start : ℕ} (put : Stored 2 p 0 (little 2 start) p₁) (small : start < 2 ^ 16) where

@@ -23,12 +23,12 @@ use Rattle.steps.specs.declared.Run.{Run}
 use Rattle.steps.proofs.Cursors.{level-parents, first-left, end-left, fuel}
 use Rattle.steps.proofs.Nexts.{last-addrs, NextLeft}
 use Rattle.steps.proofs.Splits.{inside-at}
-use Rattle.resolver.proofs.Dids.{did-nothing, did-same}
-use Rattle.resolver.proofs.Lengths.{Long, long-same, long-then}
-use Rattle.resolver.proofs.Tries.{trying-none, level-tries}
-use Rattle.resolver.proofs.Staying.{stays-none, stands-stay, its-counts}
-use Rattle.resolver.proofs.Parentals.{parental}
-use Rattle.resolver.proofs.Halfway.{those, tried?, Halfway, half-next, half-live, half-skips, half-passes, half-refused, half-tried}
+use Rattle.resolver.proofs.Sequence.{did-nothing, did-same}
+use Rattle.resolver.proofs.SixLengths.{Long, long-same, long-then}
+use Rattle.resolver.proofs.LevelByParents.{trying-none, level-tries}
+use Rattle.resolver.proofs.LevelKept.{stays-none, stands-stay, its-counts}
+use Rattle.resolver.proofs.ParentAtCursor.{parental}
+use Rattle.resolver.proofs.LevelHalfway.{those, tried?, Halfway, half-next, half-live, half-skips, half-passes, half-refused, half-tried}
 
 -- it is halfway in every turn that fits
 pub record Going (code : List ℕ) (k : Plan) (start : ℕ) (l : Level) (m₀ : Mem) (o : Run) (b : ℕ) (m : Mem) (cur : Run) (at : ℕ) : Type 0 where

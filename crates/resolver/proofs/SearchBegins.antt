@@ -44,7 +44,7 @@ use Rattle.steps.specs.Runs.{Mem, buffers, stOf}
 use Rattle.resolver.specs.Turns.{Idle, Between, last-since, Rounds, SearchAsks, Searched, roomsOf, planOf, plan, begunRun}
 use Rattle.steps.specs.declared.Plan.{Plan}
 use Rattle.steps.specs.declared.Run.{Run}
-use Rattle.resolver.proofs.Rolling.{between-marked}
+use Rattle.resolver.proofs.RoundsLoop.{between-marked}
 
 -- ---- what `reach` asks
 

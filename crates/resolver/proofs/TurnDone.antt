@@ -35,10 +35,10 @@ use Rattle.resolver.specs.Fits.{Fits, levelOf}
 use Rattle.resolver.specs.Levels.{Came, Opened, Leveled}
 use Rattle.resolver.specs.Enters.{refusedWith}
 use Rattle.resolver.specs.Turns.{Idle, Passed, begunWith, endedWith, Places, Placed, TurnAsks, Turned}
-use Rattle.resolver.proofs.Dids.{did-then, did-stops, did-same, did-from, did-need, did-short}
-use Rattle.resolver.proofs.Works.{Alike, alike-counts, alike-marks, alike-known, alike-room}
-use Rattle.resolver.proofs.Taking.{Taking, taking}
-use Rattle.resolver.proofs.Begins as begins
+use Rattle.resolver.proofs.Sequence.{did-then, did-stops, did-same, did-from, did-need, did-short}
+use Rattle.resolver.proofs.WorkKept.{Alike, alike-counts, alike-marks, alike-known, alike-room}
+use Rattle.resolver.proofs.TakerRow.{Taking, taking}
+use Rattle.resolver.proofs.TurnBegins as begins
 
 -- ---- a turn in three parts: its needs, its first level, and the end
 

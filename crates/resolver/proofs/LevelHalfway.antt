@@ -22,9 +22,9 @@ use Rattle.steps.specs.declared.Plan.{Plan}
 use Rattle.steps.specs.declared.Level.{Level}
 use Rattle.steps.specs.declared.Run.{Run}
 use Rattle.steps.proofs.Nexts.{NextLeft, next-left}
-use Rattle.resolver.proofs.Dids.{did-same, did-then, did-stops}
-use Rattle.resolver.proofs.Tries.{trying, onto, trying-passes, trying-next, trying-later, keep-this, keep-not}
-use Rattle.resolver.proofs.Staying.{stays-then, path-stays, level-stays}
+use Rattle.resolver.proofs.Sequence.{did-same, did-then, did-stops}
+use Rattle.resolver.proofs.LevelByParents.{trying, onto, trying-passes, trying-next, trying-later, keep-this, keep-not}
+use Rattle.resolver.proofs.LevelKept.{stays-then, path-stays, level-stays}
 
 -- ---- what document 01's level does, for the level l at its opening
 

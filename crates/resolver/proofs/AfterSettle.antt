@@ -35,7 +35,7 @@ use Rattle.steps.specs.Runs.{buffers, recsIn}
 use Rattle.resolver.specs.Turns.{Idle, Settles, destsFrom, Settled}
 use Rattle.steps.specs.declared.Plan.{Plan}
 use Rattle.steps.specs.declared.Run.{Run}
-use Rattle.resolver.proofs.Settling.{destAt, dests-more}
+use Rattle.resolver.proofs.SettleLoop.{destAt, dests-more}
 
 -- ---- the destinations of the records, by their rows
 

@@ -32,9 +32,9 @@ use Rattle.steps.specs.Runs.{Mem, recsIn, stOf, Did}
 use Rattle.steps.specs.declared.Plan.{Plan}
 use Rattle.steps.specs.declared.Run.{Run}
 use Rattle.resolver.specs.Turns.{Idle, Passed, TurnAsks, Turned, RoundAsks, Rounded}
-use Rattle.resolver.proofs.Dids.{did-then, did-stops, did-same}
-use Rattle.resolver.proofs.Lengths.{Long, long-same, long-then}
-use Rattle.resolver.proofs.Turning.{passed-refused}
+use Rattle.resolver.proofs.Sequence.{did-then, did-stops, did-same}
+use Rattle.resolver.proofs.SixLengths.{Long, long-same, long-then}
+use Rattle.resolver.proofs.TurnDone.{passed-refused}
 
 -- ---- document 01's round, one block at a time
 

@@ -1,0 +1,24 @@
+-- The contracts leave no choice: two results of one call are the same, byte for byte. Assumes nothing.
+use mathlib.Core.Path.{_≡_, sym, _∙_}
+use mathlib.Core.List.{List}
+use Prim.Native.Nat.{ℕ}
+use Rattle.steps.specs.Runs.{Mem}
+use Rattle.answer.proofs.Once.{same-rooms}
+use Rattle.aznifrem.specs.Contracts.{Exported, ExportedJson}
+
+pub one-exported : {limit x y : ℕ} {code out u v : List ℕ} {m m′ m″ : Mem} → Exported limit code m out m′ u x → Exported limit code m out m″ v y
+    → (x ≡ y) × (m′ ≡ m″) × (u ≡ v)
+one-exported c d = (
+  c .number ∙ sym (d .number),
+  same-rooms (c .w ∙ sym (d .w)) (c .p ∙ sym (d .p)) (c .s ∙ sym (d .s)) (c .t ∙ sym (d .t)) (c .r ∙ sym (d .r)) (c .q ∙ sym (d .q)),
+  c .out-is ∙ sym (d .out-is),
+)
+
+pub one-exported-json : {limit a b : ℕ} {code out text o p t u : List ℕ} {m x y : Mem} → ExportedJson limit code m out text x o t a
+    → ExportedJson limit code m out text y p u b → (a ≡ b) × (x ≡ y) × (o ≡ p) × (t ≡ u)
+one-exported-json c d = (
+  c .number ∙ sym (d .number),
+  same-rooms (c .w ∙ sym (d .w)) (c .p ∙ sym (d .p)) (c .s ∙ sym (d .s)) (c .t ∙ sym (d .t)) (c .r ∙ sym (d .r)) (c .q ∙ sym (d .q)),
+  c .out-is ∙ sym (d .out-is),
+  c .text-is ∙ sym (d .text-is),
+)

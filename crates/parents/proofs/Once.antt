@@ -1,0 +1,38 @@
+-- The contracts leave no choice: two results of one call are the same; of `prepare`, all but what the runs leave in their part of W. Assumes nothing.
+use mathlib.Core.Path.{_≡_, refl, sym, _∙_}
+use mathlib.Core.List.{List, [], _∷_}
+use Prim.Native.Nat.{ℕ, _+_, _-_, _*_}
+use native.Mathlib.Omega.{arith}
+use lib.ListN.{length}
+use Rattle.lent.proofs.Once.{Same, Outside, same-both, same-as, same-then, same-rows, same-outside}
+use Rattle.state.specs.Owns.{roomOf}
+use Rattle.parents.specs.Links.{Turn, Takers, no-taker, next-taker}
+use Rattle.parents.specs.Contracts.{Lent, Wrote, Number, Prepared}
+
+pub one-number : {r s v k : ℕ} → Number r v k → Number s v k → r ≡ s
+one-number p q = p .is ∙ sym (q .is)
+
+pub one-wrote : {w w′ w″ v : List ℕ} → Wrote w w′ v → Wrote w w″ v → w′ ≡ w″
+one-wrote p q = p .is ∙ sym (q .is)
+
+-- the blocks that take turns say the link to the first of them
+firstOf : List Turn → ℕ
+firstOf [] = 0
+firstOf (k ∷ ks) = k .start + 1
+
+first-taker : {w : List ℕ} {n link : ℕ} {ks : List Turn} → Takers w n link ks → link ≡ firstOf ks
+unfolding firstOf
+first-taker no-taker = refl
+first-taker (next-taker h t) = refl
+
+-- the link, and all outside the part for runs
+pub one-prepared : {code w v u : List ℕ} {end r s : ℕ} → Lent code w end → Prepared code w end v r → Prepared code w end u s
+    → (r ≡ s) × Outside (end - roomOf code) (roomOf code) v u
+one-prepared {code} {w} {v} {u} {end} lent p q =
+    let n : ℕ = length code + 1 in
+    let rows : Same v u 0 (20 * n) = same-rows 0 20 n (λ a h. same-as (same-both (20 * a) 20 (p .row a (omega arith)) (q .row a (omega arith))) (omega arith) refl) in
+    let between : Same v u (20 * n) (end - roomOf code - 20 * n) = same-both (20 * n) (end - roomOf code - 20 * n) (p .beside .between) (q .beside .between) in
+    let front : Same v u 0 (end - roomOf code) = same-as (same-then rows between (omega arith)) refl (omega (arith, lent .room)) in (
+      first-taker (p .known .takers) ∙ sym (first-taker (q .known .takers)),
+      same-outside end front (p .beside .past ∙ sym (q .beside .past)) (omega (arith, lent .room)) (p .beside .kept ∙ sym (q .beside .kept)),
+    )

@@ -1,0 +1,159 @@
+-- The contracts leave no choice: two results of one call are the same; of `take_state`, all but what a run leaves in its part of W. Assumes nothing.
+use mathlib.Core.Path.{_≡_, refl, sym, ap, _∙_}
+use mathlib.Core.Logic.{_⊎_, inl, inr}
+use mathlib.Core.Bool.{Bool, true, false, _&&_}
+use mathlib.Core.List.{List, [], _∷_}
+use Prim.Native.Nat.{ℕ, _+_, _-_, _*_, _≤_, _<_}
+use native.Mathlib.Omega.{arith}
+use lib.Dec.{ltb}
+use lib.ListN.{length}
+use Rattle.spec.specs.Lists.{mem}
+use Rattle.spec.specs.Stacks.{Stack}
+use Rattle.spec.specs.Search.{Found, kept, dest, S}
+use Rattle.theorems.proofs.Branch.{if-false}
+use Rattle.lent.proofs.Once.{Bytes, Same, Outside, same-num, same-both, same-as, same-then, same-rows, same-whole, same-outside}
+use Rattle.state.specs.Owns.{roomOf}
+use Rattle.state.proofs.Once.{one-symbol, one-lies}
+use Rattle.reachable.specs.Marks.{markAt}
+use Rattle.tables.specs.Addrs.{addrs}
+use Rattle.tables.specs.Tables as tables
+use Rattle.tables.specs.Tables.{recs, counted}
+use Rattle.tables.specs.Recording.{shortOf, recorded?}
+use Rattle.tables.specs.declared.Counts.{Counts}
+use Rattle.tables.specs.declared.Answer.{Answer}
+use Rattle.tables.specs.declared.row.Seen.{Seen}
+use Rattle.tables.proofs.Chains.{keyed}
+use Rattle.tables.proofs.Alike.{AllBytes, AllLong, one-tables, one-more, addrs-same}
+use Rattle.tables.proofs.Once.{one-answer, one-memorized}
+use Rattle.steps.specs.Lands.{remarked, Noted}
+use Rattle.steps.specs.Meets.{Met}
+use Rattle.steps.specs.Paths.{Grown, Counted}
+use Rattle.steps.specs.States.{Took}
+use Rattle.steps.specs.declared.Plan.{Plan}
+use Rattle.steps.specs.declared.Level.{Level}
+use Rattle.steps.specs.declared.meet.Meeting.{Meeting}
+use Rattle.steps.specs.declared.state_of.Taken.{Taken}
+
+-- ---- what is found
+
+pub one-noted : {p : List ℕ} {np start : ℕ} {k : Plan} {m m′ m″ : tables.Mem} {c : Counts} {x : Found} {a e : Answer} → AllBytes m′ → AllBytes m″
+    → Noted p np k m c start x m′ a → Noted p np k m c start x m″ e → (a ≡ e) × (m′ ≡ m″)
+one-noted {p} {np} {start} {k} {m} {m′} {m″} {c} {x} {a} {e} b d f g = go (keyed (a .code) 0) (recorded? x (addrs p 0 np) (recs (k .rooms) m c)) refl
+  where
+    code : a .code ≡ e .code
+    code = f .tells ∙ sym (g .tells)
+
+    marks : a .counts ≡ e .counts → (y : ℕ) → y ≤ k .n → markAt (m′ .w) (k .n) y ≡ markAt (m″ .w) (k .n) y
+    marks z y h =
+        f .marked y h ∙ ap (λ (o : Counts). remarked (ltb (c .records) (o .records) && mem y (dest x)) (c .records) (markAt (m .w) (k .n) y)) z ∙ sym (g .marked y h)
+
+    go : (a .code ≡ 0) ⊎ (a .code ≡ 0 → ⊥) → (o : Bool) → recorded? x (addrs p 0 np) (recs (k .rooms) m c) ≡ o → (a ≡ e) × (m′ ≡ m″)
+    go (inl z) true o =
+        let y : e .code ≡ 0 = sym code ∙ z in
+        (one-answer code (f .counts z ∙ sym (g .counts y)), f .known o ∙ sym (g .known o))
+    go (inl z) false o =
+        let y : e .code ≡ 0 = sym code ∙ z in
+        let counts : a .counts ≡ e .counts = f .counts z ∙ sym (g .counts y) in
+        let made : a .counts ≡ counted c np (kept x) = f .counts z ∙ if-false _ _ _ o in
+        let long : AllLong m′ m″ =
+        record {
+          w = f .around .longW ∙ sym (g .around .longW);
+          r = f .around .stays .longR ∙ sym (g .around .stays .longR);
+          q = f .around .stays .longQ ∙ sym (g .around .stays .longQ);
+          s = f .around .stays .longS ∙ sym (g .around .stays .longS);
+        } in
+        let one = one-tables b d long (f .tables) (rw (sym counts) at (g .tables)) (f .holds z ∙ sym (rw (sym counts) at (g .holds y))) in (
+          one-answer code counts,
+          one-more (ap (λ (o : Counts). o .records) made) (omega (arith, f .tables .within .fitsS)) one (f .around .stays) (rw (sym counts) at (g .around .stays))
+              (f .around .front ∙ sym (g .around .front))
+              (λ a h. same-as (same-num (b .w) (d .w) (long .w) 4 (20 * (k .n + 1 + a)) (marks counts a h)) (omega arith) refl)
+              (λ a h. same-both (20 * (k .n + 1) + 20 * a + 12) 8 (f .around .rests a h) (g .around .rests a h))
+              (same-both (40 * (k .n + 1)) (2 * (k .n + 1)) (f .around .work) (g .around .work))
+              (f .around .back ∙ sym (g .around .back)) b d,
+        )
+    go (inr z) o h =
+        let y : e .code ≡ 0 → ⊥ = λ h. z (code ∙ h) in
+        (one-answer code (f .refused z .1 ∙ sym (g .refused y .1)), f .refused z .0 ∙ sym (g .refused y .0))
+
+-- ---- what is met
+
+pub one-met : {t s u v : List ℕ} {k : Plan} {c : Counts} {x : Seen} {a e : Meeting} → Bytes u → Bytes v → Met t s k c x u a → Met t s k c x v e → (a ≡ e) × (u ≡ v)
+one-met {u = u} {v = v} {a = a} {e = e} b d p q = go (a .met) refl
+  where
+    met : a .met ≡ e .met
+    met = p .met-is ∙ sym (q .met-is)
+
+    one : a .code ≡ e .code → a .counts ≡ e .counts → a ≡ e
+    one code counts = λ i. record { code = code i; met = met i; counts = counts i }
+
+    go : (o : Bool) → a .met ≡ o → (a ≡ e) × (u ≡ v)
+    go true o =
+        let f = p .again o in
+        let g = q .again (sym met ∙ o) in
+        (one (f .0 ∙ sym (g .0)) (f .2 ∙ sym (g .2)), f .1 ∙ sym (g .1))
+    go false o =
+        let f = one-memorized b d (p .new o) (q .new (sym met ∙ o)) in
+        (one (ap (λ (y : Answer). y .code) (f .0)) (ap (λ (y : Answer). y .counts) (f .0)), f .1)
+
+-- ---- the path in hand
+
+pub one-grown : {p more u v : List ℕ} {np room x y : ℕ} → Bytes u → Bytes v → Grown p np room more u x → Grown p np room more v y → (x ≡ y) × (u ≡ v)
+one-grown {p} {more} {u} {v} {np} {room} {x} {y} b d f g = go (keyed x 0) (keyed y 0)
+  where
+    never : np + length more ≤ room → (np + length more ≡ 0 → ⊥) → (np + length more ≡ 0) ⊎ (room < np + length more) → ⊥
+    never h z (inl e) = z e
+    never h z (inr l) = omega arith
+
+    go : (x ≡ 0) ⊎ (x ≡ 0 → ⊥) → (y ≡ 0) ⊎ (y ≡ 0 → ⊥) → (x ≡ y) × (u ≡ v)
+    go (inl i) (inl j) = (i ∙ sym j, f .short i .0 ∙ sym (g .short j .0))
+    go (inl i) (inr j) = absurd (never (g .fits j) (λ z. j (g .is j ∙ z)) (f .short i .1))
+    go (inr i) (inl j) = absurd (never (f .fits i) (λ z. i (f .is i ∙ z)) (g .short j .1))
+    go (inr i) (inr j) =
+        let same : x ≡ y = f .is i ∙ sym (g .is j) in
+        let path : addrs u 0 x ≡ addrs v 0 x = f .path i ∙ sym (rw (sym same) at (g .path j)) in
+        let front : Same u v 0 (2 * (np + length more)) = same-as (addrs-same b d (f .long ∙ sym (g .long)) 0 x path) refl (omega (arith, f .is i)) in
+        (same, same-whole (2 * (np + length more)) front (f .back ∙ sym (g .back)))
+
+pub one-counted : {n np : ℕ} {w p u v : List ℕ} → Bytes u → Bytes v → Counted n w p np u → Counted n w p np v → u ≡ v
+one-counted {n} {np} {w} {p} {u} {v} b d f g =
+    let long : length u ≡ length v = f .only .long ∙ sym (g .only .long) in
+    let address : (a : ℕ) → a < n + 1 → Same u v (20 * (n + 1) + 20 * a) 20 =
+    λ a h.
+    let before : Same u v (20 * (n + 1 + a)) 12 = same-both (20 * (n + 1 + a)) 12 (f .only .before a (omega arith)) (g .only .before a (omega arith)) in
+    let count : Same u v (20 * (n + 1 + a) + 12) 4 =
+    same-num b d long 4 (20 * (n + 1 + a) + 12) (f .counts .counts a (omega arith) ∙ sym (g .counts .counts a (omega arith))) in
+    let after : Same u v (20 * (n + 1 + a) + 16) 4 = same-both (20 * (n + 1 + a) + 16) 4 (f .only .after a (omega arith)) (g .only .after a (omega arith)) in
+    same-as (same-then (same-then before count refl) after refl) (omega arith) refl in
+    let rows : Same u v 0 (20 * (n + 1)) = record { is = f .only .front ∙ sym (g .only .front) } in
+    let front : Same u v 0 (40 * (n + 1)) = same-as (same-then rows (same-rows (20 * (n + 1)) 20 (n + 1) address) (omega arith)) refl (omega arith) in
+    same-whole (40 * (n + 1)) front (f .only .back ∙ sym (g .only .back))
+
+-- ---- a parent's state
+
+module _ {code w s w′ w″ s′ s″ : List ℕ} {k : Plan} {c : Counts} {l : Level} {parent : Stack} {x y : Taken} (f : Took code w s k c l parent w′ s′ x)
+    (g : Took code w s k c l parent w″ s″ y) where
+  took-cells : x .cells ≡ y .cells
+  took-cells = f .cells-are ∙ sym (g .cells-are)
+
+  took-code : x .code ≡ y .code
+  took-code = f .code-is ∙ ap (λ (o : ℕ). shortOf (k .rooms) (record { room = S; units = c .kept + c .used + o } ∷ [])) took-cells ∙ sym (g .code-is)
+
+  took-s : s′ ≡ s″
+  took-s = go (keyed (x .code) 0)
+    where
+      go : (x .code ≡ 0) ⊎ (x .code ≡ 0 → ⊥) → s′ ≡ s″
+      go (inl z) =
+          let o : y .code ≡ 0 = sym took-code ∙ z in
+          let bottom : Same s′ s″ 0 (9 * c .used) = record { is = f .bottom ∙ sym (g .bottom) } in
+          let state : Same s′ s″ (9 * c .used) (9 * x .cells) = one-lies (f .lies z) (rw (sym took-cells) at (g .lies o)) in
+          same-whole (9 * (c .used + x .cells)) (same-as (same-then bottom state (omega arith)) refl (omega arith)) (f .after z ∙ sym (rw (sym took-cells) at (g .after o)))
+      go (inr z) = f .refused z ∙ sym (g .refused (λ h. z (took-code ∙ h)))
+
+  pub one-took : roomOf code ≤ k .end → (x ≡ y) × (s′ ≡ s″) × Outside (k .end - roomOf code) (roomOf code) w′ w″
+  one-took room =
+      let symbol : x .symbol ≡ y .symbol = one-symbol (f .symbol-is) (g .symbol-is) in
+      let front : Same w′ w″ 0 (k .end - roomOf code) = record { is = f .front ∙ sym (g .front) } in (
+        (λ i. record { code = took-code i; cells = took-cells i; symbol = symbol i }),
+        took-s,
+        same-outside (k .end) front (f .back ∙ sym (g .back)) (omega arith) (f .longW ∙ sym (g .longW)),
+      )
