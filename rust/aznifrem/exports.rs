@@ -3,4 +3,5 @@
 exports! {
     aznifrem_map(limit; read code, write w, write p, write s, write t, write r, write q, write out);
     aznifrem_json(limit; read code, write w, write p, write s, write t, write r, write q, write out, write text);
+    aznifrem_read(; read map);
 }

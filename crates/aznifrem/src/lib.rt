@@ -3,6 +3,10 @@
 // slices."
 use answer::map_code;
 use answer::map_json;
+use reader::read;
+ghost use mathlib.Core.Path.{_≡_};
+ghost use Rattle.spec.specs.Reader as definitions;
+ghost use Rattle.spec.specs.Reader.{reads-as};
 ghost use Rattle.steps.specs.Runs.{buffers};
 ghost use Rattle.aznifrem.specs.Contracts.{Exported, ExportedJson};
 
@@ -53,4 +57,19 @@ pub extern "C" fn aznifrem_json(
         return b.number as u64;
     }
     (b.written + 4294967296 * b.texted) as u64
+}
+
+// Judges a byte string as a stored map: 0 where it holds one, else 12 and 256 times the offset of its first bad entry (`told`).
+#[no_mangle]
+pub extern "C" fn aznifrem_read(map: &[u8]) -> u64
+    ensures { λ x. ⌜ x ≡ reads-as (definitions.read (now (map .entry))) ⌝ }
+{
+    let r = read(map);
+    if r.number == 0 {
+        return 0;
+    }
+    if r.offset < 0x100_0000_0000_0000 {
+        return (12 + 256 * r.offset) as u64;
+    }
+    12 + 256 * 0xFF_FFFF_FFFF_FFFF
 }

@@ -12,7 +12,7 @@ use Rattle.spec.specs.Stacks.{run}
 use Rattle.spec.specs.Search.{Node, node, sides}
 use Rattle.spec.specs.Answer.{prepared}
 use Rattle.theorems.proofs.Branch.{both}
-use Rattle.theorems.proofs.Members.{In, in-map}
+use Rattle.theorems.proofs.Members.{In, in-only, in-map}
 use Rattle.theorems.proofs.Sides.{Within, node-within, sides-within}
 use Rattle.initial.specs.Rows.{blocksAt}
 use Rattle.graph.specs.Notes.{noteOf, byNote, mergedKind, mergedBlock}
@@ -24,14 +24,15 @@ prepared-within code i =
     let g = in-map (λ (b : Block). node b (run code (instructions code) (b .start))) (blocks code (instructions code)) i in
     rw (g .2) (node-within code (g .1))
 
-merged-within : (n note : ℕ) (k : Kind) → Within n k → Within n (mergedKind n note k)
+merged-sides : (n note : ℕ) (k : Kind) → Within n k → {t : ℕ} → In t (sides (mergedKind n note k)) → t ≤ n
 unfolding byNote
-merged-within n note (terminate success) h = h
-merged-within n note (jump t) h = h
-merged-within n note (jumpi t f) h = h
-merged-within n note dynamic-jump h =
-    both (Within n) (eqb note 0) (λ _. tt) (λ _. both (Within n) (leb note (n + 1)) (λ e. omega (arith, leb-true note (n + 1) e)) (λ _. tt))
-merged-within n note (dynamic-jumpi f) h = h
+merged-sides n note (terminate success) h i = elim i [ ]
+merged-sides n note (jump u) h i = sides-within n (jump u) h i
+merged-sides n note (jumpi u f) h i = sides-within n (jumpi u f) h i
+merged-sides n note dynamic-jump h {t} i =
+    both (λ (k : Kind). In t (sides k) → t ≤ n) (eqb note 0) (λ _ j. elim j [ ])
+    (λ _. both (λ (k : Kind). In t (sides k) → t ≤ n) (leb note (n + 1)) (λ e j. omega (arith, leb-true note (n + 1) e, in-only j)) (λ _ j. elim j [ ])) i
+merged-sides n note (dynamic-jumpi f) h i = sides-within n (dynamic-jumpi f) h i
 
 module _ {code s : List ℕ} {room n m : ℕ} {w r q w₁ : List ℕ} (f : Fits code s room n m w r q) (t : Settled n m w r w₁) where
   pub block-sides : (b : Block) (u : ℕ) → In b (blocksAt w₁ n) → In u (sides (b .kind)) → u ≤ n
@@ -39,5 +40,4 @@ module _ {code s : List ℕ} {room n m : ℕ} {w r q w₁ : List ℕ} (f : Fits 
       let g = in-map (mergedBlock n (λ (a : ℕ). noteOf r a m)) (blocksAt w n) (subst (λ (bs : List Block). In b bs) (t .blocks) i) in
       let k = in-map (λ (x : Node). x .block) (prepared code) (subst (λ (bs : List Block). In (g .0) bs) (f .blocks) (g .1)) in
       let was : Within n (g .0 .kind) = rw (k .2) (rw (f .size) at (prepared-within code (k .1))) in
-      sides-within n (mergedKind n (noteOf r (g .0 .start) m) (g .0 .kind)) (merged-within n (noteOf r (g .0 .start) m) (g .0 .kind) was)
-      (subst (λ (c : Block). In u (sides (c .kind))) (g .2) j)
+      merged-sides n (noteOf r (g .0 .start) m) (g .0 .kind) was (subst (λ (c : Block). In u (sides (c .kind))) (g .2) j)

@@ -2,12 +2,13 @@
 use mathlib.Core.Path.{_≡_, refl, ap, _∙_}
 use mathlib.Core.List.{List, [], _∷_, _++_}
 use Prim.Native.Nat.{ℕ, zero, suc, _+_, _*_, _/_, _^_, _≤_, _<_}
-use native.Mathlib.Nat.{zero-add, suc-add, add-zero, add-assoc, div-one, pow-suc, pow-succ', div-div-eq-div-mul, div-add-mod'}
+use native.Mathlib.Nat.{zero-add, suc-add, add-zero, add-assoc, div-one, pow-suc, pow-succ', div-div-eq-div-mul}
 use native.Mathlib.Omega.{arith}
 use native.Mathlib.Numerals.{one-add}
 use lib.ListN.{length, getD, take, drop, replicate}
 use lib.Seq.{take-nil, drop-nil}
 use Rattle.spec.specs.Lists.{little}
+pub use Rattle.theorems.proofs.Bytes.{number-little}
 use Rattle.lent.specs.Bytes.{number, numAt, patch}
 use Rattle.lent.proofs.Parts.{part-prefix, part-suffix, part-within}
 use Rattle.lent.proofs.Patch.{part-apart, part-inside, part-patch}
@@ -17,13 +18,6 @@ use Rattle.lent.proofs.Patch.{part-apart, part-inside, part-patch}
 pub length-little : (k v : ℕ) → length (little k v) ≡ k
 length-little zero v = refl
 length-little (suc k) v = ap suc (length-little k (v / 256))
-
-pub number-little : (k v : ℕ) → v < 256 ^ k → number (little k v) ≡ v
-unfolding number
-number-little zero v h = omega arith
-number-little (suc k) v h =
-    let hi : v / 256 < 256 ^ k = omega (arith, pow-suc 256 k) in
-    rw (number-little k (v / 256) hi) (omega (arith, div-add-mod' v 256))
 
 -- the first j bytes, and the others
 pub little-add : (j k v : ℕ) → little (j + k) v ≡ little j v ++ little k (v / 256 ^ j)

@@ -1,13 +1,9 @@
 -- Bytes in a lent buffer: the number that stands at a place, a run stored at one, and the contracts on both. Assumes nothing.
 use mathlib.Core.Path.{_≡_}
-use Prim.Native.Nat.{ℕ, _+_, _*_, _^_, _≤_, _<_}
-use mathlib.Core.List.{List, [], _∷_, _++_}
+use Prim.Native.Nat.{ℕ, _+_, _^_, _≤_, _<_}
+use mathlib.Core.List.{List, _++_}
 use lib.ListN.{length, take, drop}
-
--- the number that bytes stand for, the lowest byte first, as `little` has them
-unfoldable pub number : List ℕ → ℕ
-number [] = 0
-number (x ∷ xs) = x + number xs * 256
+unfoldable pub use Rattle.spec.specs.Lists.{number}
 
 -- the number in the k bytes of b from `at` on
 unfoldable pub numAt : ℕ → List ℕ → ℕ → ℕ

@@ -78,8 +78,8 @@ module _ (n : ℕ) where
   type-to : (k : Kind) → Within n k → typeOf k .to ≤ n
   type-to (terminate false) h = omega arith
   type-to (terminate true) h = omega arith
-  type-to (jump t) h = h
-  type-to (jumpi t f) h = h .0
+  type-to (jump t) h = omega arith
+  type-to (jumpi t f) h = omega (arith, h .0)
   type-to dynamic-jump h = omega arith
   type-to (dynamic-jumpi f) h = omega arith
 

@@ -4,7 +4,7 @@ use mathlib.Core.Bool.{true, false}
 use mathlib.Core.Option.{Option, none, some}
 use mathlib.Core.List.{List}
 use Prim.Native.Nat.{ℕ, _+_, _-_, _*_, _/_, _%_, _≤_, _<_}
-use native.Mathlib.Nat.{add-zero, zero-add}
+use native.Mathlib.Nat.{add-zero, zero-add, le-of-lt}
 use native.Mathlib.Omega.{arith}
 use native.Mathlib.Decide.{ℕ-discrete}
 use lib.Dec.{eqb}
@@ -194,14 +194,14 @@ module _ {code w₀ : List ℕ} {end : ℕ} (room : 20 * (length code + 1) + roo
   unfolding linkSides if
   rows-sides rs u small (terminate false) h r e = rw e r
   rows-sides rs u small (terminate true) h r e = rw e r
-  rows-sides rs u small (jump t) h r e = to-sided rs u small 0 t r h refl e
+  rows-sides rs u small (jump t) h r e = to-sided rs u small 0 t r (le-of-lt h) refl e
   rows-sides rs u small (jumpi t f) h {w₁} {o} {w₂} r e = go (ℕ-discrete t f)
     where
       go : Dec (t ≡ f) → Rows code w₀ end a w w₂ o (linkBytes (firstTo t rs) (if (eqb t f) 0 (firstTo f rs)) u) (λ x. edgeTo x a (jumpi t f) (firstTo x rs))
       go (yes q) =
           let once : w₂ ≡ link w₁ a 0 t = e ∙ if-true (eqb t f) _ _ (eq-eqb t f q) in
           rw (if-true (eqb t f) 0 (firstTo f rs) (eq-eqb t f q))
-          (rows-firsts room inside here (to-sided rs u small 0 t r (h .0) refl once) _ (λ x. same x (ℕ-discrete x t)))
+          (rows-firsts room inside here (to-sided rs u small 0 t r (le-of-lt (h .0)) refl once) _ (λ x. same x (ℕ-discrete x t)))
         where
           same : (x : ℕ) → Dec (x ≡ t) → if (eqb x t) (2 * a + 0 + 1) (firstTo x rs) ≡ edgeTo x a (jumpi t f) (firstTo x rs)
           same x (yes p) = rw (eq-eqb x t p)
@@ -210,7 +210,7 @@ module _ {code w₀ : List ℕ} {end : ℕ} (room : 20 * (length code + 1) + roo
           let mid : List ℕ = link w₁ a 1 f in
           let twice : w₂ ≡ link mid a 0 t = e ∙ if-false (eqb t f) _ _ (ne-eqb t f n) in
           rw (if-false (eqb t f) 0 (firstTo f rs) (ne-eqb t f n))
-          (to-sided rs u small (firstTo f rs) t (other-sided rs u small f r (h .1) refl) (h .0) (if-false (eqb t f) _ _ (ne-eqb t f n)) twice)
+          (to-sided rs u small (firstTo f rs) t (other-sided rs u small f r (h .1) refl) (le-of-lt (h .0)) (if-false (eqb t f) _ _ (ne-eqb t f n)) twice)
   rows-sides rs u small dynamic-jump h r e = rw e r
   rows-sides rs u small (dynamic-jumpi f) h r e = other-sided rs u small f r h e
 

@@ -20,8 +20,11 @@ abbrev pub item : ℕ → List ℕ → List ℕ
 item kind body = little 4 (length body) ++ little 2 kind ++ body
 
 -- "a missing destination is 0x8000"
+abbrev pub absent : ℕ
+absent = 0x8000
+
 abbrev pub destination : Found → ℕ
-destination nowhere = 0x8000
+destination nowhere = absent
 destination (found t s) = t
 
 abbrev pub flag : Bool → ℕ

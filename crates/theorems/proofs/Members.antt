@@ -1,11 +1,12 @@
 -- Members of lists, and of what the definitions make of lists. Assumes nothing.
-use Prim.Native.Nat.{ℕ}
+use Prim.Native.Nat.{ℕ, _≤_}
 use native.Mathlib.Omega.{arith}
 use mathlib.Core.Path.{_≡_, refl, sym, ap, subst}
 use mathlib.Core.Logic.{_⊎_, inl, inr}
 use mathlib.Core.Bool.{Bool, true, false, _&&_, _||_}
 use mathlib.Core.List.{List, [], _∷_, _++_, map, append-assoc}
 use lib.Dec.{eqb}
+use lib.ListN.{length}
 use borrow.Author.Tests.{eqb-true, eq-eqb}
 use Rattle.spec.specs.Lists.{mem, keep, gather}
 pub use Rattle.theorems.specs.Lists.{In, here, there}
@@ -85,6 +86,11 @@ module _ {A : Type 0} {x : A} (f : A → Bool) where
   keep-in e (here {xs}) = both (In x) (f x) (λ _. here) (λ off. let z : _≡_ {A = ℕ} 0 1 = cc in absurd (omega arith))
   keep-in e (there {y} {xs} i) = both (In x) (f y) (λ _. there (keep-in e i)) (λ _. keep-in e i)
 
+pub length-keep : {A : Type 0} (f : A → Bool) (xs : List A) → length (keep f xs) ≤ length xs
+length-keep f [] = omega arith
+length-keep {A} f (x ∷ xs) =
+    let ih = length-keep f xs in both (λ (l : List A). length l ≤ length (x ∷ xs)) (f x) (λ _. omega arith) (λ _. omega arith)
+
 module _ {A B : Type 0} (f : A → List B) where
   pub gather-append : (xs ys : List A) → gather f (xs ++ ys) ≡ gather f xs ++ gather f ys
   gather-append [] ys = refl
@@ -102,3 +108,7 @@ pub in-map : {A B : Type 0} {y : B} (f : A → B) (xs : List A) → In y (map f 
 in-map f [] i = elim i [ ]
 in-map f (a ∷ xs) here = (a, here, refl)
 in-map f (a ∷ xs) (there i) = let g = in-map f xs i in (g .0, there (g .1), g .2)
+
+pub map-in : {A B : Type 0} {x : A} (f : A → B) {xs : List A} → In x xs → In (f x) (map f xs)
+map-in f here = here
+map-in f (there i) = there (map-in f i)

@@ -1,5 +1,5 @@
--- What a search names lies within the code, or right behind it: the starts and paths of its records, their destinations and states. Assumes nothing.
-use Prim.Native.Nat.{ℕ, _≤_, _<_}
+-- What a search names lies within the code: the starts and paths of its records, their destinations and states. Assumes nothing.
+use Prim.Native.Nat.{ℕ, _<_}
 use native.Mathlib.Omega.{arith}
 use mathlib.Core.Path.{_≡_, subst}
 use mathlib.Core.Logic.{_⊎_, inl, inr}
@@ -22,7 +22,7 @@ use Rattle.theorems.proofs.Sides.{Within, node-within}
 
 -- a block of the search, with its own run
 pub record Inner (n : ℕ) (x : Node) : Type 0 where
-  pub start : x .block .start ≤ n
+  pub start : x .block .start < n
   pub kind : Within n (x .block .kind)
   pub stack : Sound n (x .own .stack)
 
@@ -39,18 +39,18 @@ inner code x i =
 
 -- ---- paths, and the states along them
 
--- a path has an address, and all are at most n
+-- a path has an address, and all lie below n
 pub record Along (n : ℕ) (path : List ℕ) : Type 0 where
   pub some : 0 < length path
-  pub within : (a : ℕ) → In a path → a ≤ n
+  pub within : (a : ℕ) → In a path → a < n
 
-along-one : {n a : ℕ} → a ≤ n → Along n (a ∷ [])
+along-one : {n a : ℕ} → a < n → Along n (a ∷ [])
 along-one h = record { some = omega arith; within = λ b i. omega (arith, in-only i) }
 
 along-both : {n : ℕ} {xs ys : List ℕ} → Along n xs → Along n ys → Along n (xs ++ ys)
 along-both {n} {xs} {ys} p q = record { some = omega (arith, length-append xs ys, p .some); within = λ a i. split a (in-cases xs i) }
   where
-    split : (a : ℕ) → In a xs ⊎ In a ys → a ≤ n
+    split : (a : ℕ) → In a xs ⊎ In a ys → a < n
     split a (inl i) = p .within a i
     split a (inr i) = q .within a i
 
@@ -58,14 +58,14 @@ record Good (n : ℕ) (path : List ℕ) (s : Stack) : Type 0 where
   along : Along n path
   state : Sound n s
 
-good-one : {n a : ℕ} {s : Stack} → a ≤ n → Sound n s → Good n (a ∷ []) s
+good-one : {n a : ℕ} {s : Stack} → a < n → Sound n s → Good n (a ∷ []) s
 good-one h o = record { along = along-one h; state = o }
 
 good-both : {n : ℕ} {xs ys : List ℕ} {s t : Stack} → Good n xs s → Good n ys t → Good n (xs ++ ys) (compose s t)
 good-both p q = record { along = along-both (p .along) (q .along); state = compose-sound (q .state) (p .state) }
 
-landed : {n t : ℕ} {s : Stack} → Sound n s → (i : ℕ) → read s i ≡ jumpdest t → t ≤ n
-landed o i e = let h = rw e at (lands-read o i) in omega arith
+landed : {n t : ℕ} {s : Stack} → Sound n s → (i : ℕ) → read s i ≡ jumpdest t → t < n
+landed o i e = rw e at (lands-read o i)
 
 -- ---- records
 
@@ -76,9 +76,9 @@ Kept n (found t s) = Sound n s
 
 -- a record that starts within, goes along such a path, and ends within
 pub record Passes (n : ℕ) (r : Rec) : Type 0 where
-  pub start : r .start ≤ n
+  pub start : r .start < n
   pub along : Along n (r .path)
-  pub lands : (t : ℕ) → In t (dest (r .to)) → t ≤ n
+  pub lands : (t : ℕ) → In t (dest (r .to)) → t < n
   kept : Kept n (r .to)
 
 leads-good : {n : ℕ} (path : List ℕ) (f : Found) {p : Parent} → Along n path → Kept n f → In p (leads path f) → Good n (p .path) (p .stack)
@@ -118,7 +118,7 @@ module _ (n : ℕ) (ns : List Node) (inside : (x : Node) → In x ns → Inner n
             let h = all (g .0) (g .1) in
             leads-good (g .0 .path) (g .0 .to) (h .along) (h .kept) (g .2)
 
-    opens-good : {start w : ℕ} {l : Level} → Opens ns reached recs start w l → (start ≤ n) × Good n (l .path) (l .state)
+    opens-good : {start w : ℕ} {l : Level} → Opens ns reached recs start w l → (start < n) × Good n (l .path) (l .state)
     opens-good (first-level {k} i e h) =
         let g = in-gather (λ (x : Node). takes x (x .block .kind)) ns i in
         let t = subst (λ (b : ℕ). Good n (b ∷ []) (k .first)) e (takes-good (g .0) (inside (g .0) (g .1)) (g .0 .block .kind) (g .2)) in

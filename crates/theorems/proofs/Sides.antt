@@ -1,5 +1,6 @@
 -- Every side of a block lies in the code, or right behind it: of the cutting's, and of those that its own run settled. Assumes nothing.
 use Prim.Native.Nat.{ℕ, _+_, _≤_, _<_}
+use native.Mathlib.Nat.{le-of-lt}
 use native.Mathlib.Omega.{arith}
 use mathlib.Core.Path.{_≡_}
 use mathlib.Core.Bool.{true}
@@ -19,11 +20,11 @@ use Rattle.theorems.proofs.Walking.{Walked, stops, steps, walked}
 use Rattle.theorems.proofs.Cutting.{made, starts-checked}
 use Rattle.theorems.proofs.Landing.{Goes, run-ends}
 
--- the sides of a kind are at most n
+-- the sides of a kind: a destination lies below n, and a false side, the address behind a JUMPI, is at most n
 abbrev pub Within : ℕ → Kind → Type 0
 Within n (terminate success) = Unit {0}
-Within n (jump t) = t ≤ n
-Within n (jumpi t f) = (t ≤ n) × (f ≤ n)
+Within n (jump t) = t < n
+Within n (jumpi t f) = (t < n) × (f ≤ n)
 Within n dynamic-jump = Unit {0}
 Within n (dynamic-jumpi f) = f ≤ n
 
@@ -81,8 +82,8 @@ cuts-falls {code} (steps {i} s w) (opened id start) prev push =
 
 -- ---- the checks: of the others
 
-module _ (code ss : List ℕ) (n : ℕ) (inside : (t : ℕ) → mem t ss ≡ true → t ≤ n) where
-  lands-within : (t : ℕ) → lands code ss t ≡ true → t ≤ n
+module _ (code ss : List ℕ) (n : ℕ) (inside : (t : ℕ) → mem t ss ≡ true → t < n) where
+  lands-within : (t : ℕ) → lands code ss t ≡ true → t < n
   lands-within t e = inside t (and-both (mem t ss) _ e .0)
 
   checked-within : (k : Kind) → Falls n k → Within n (checked code ss k)
@@ -90,7 +91,7 @@ module _ (code ss : List ℕ) (n : ℕ) (inside : (t : ℕ) → mem t ss ≡ tru
   checked-within (jump t) h = both (Within n) (lands code ss t) (λ e. lands-within t e) (λ _. tt)
   checked-within (jumpi t f) h =
       both (Within n) (mem f ss)
-      (λ e. both (Within n) (lands code ss t) (λ g. (lands-within t g, inside f e)) (λ _. inside f e)) (λ _. tt)
+      (λ e. both (Within n) (lands code ss t) (λ g. (lands-within t g, le-of-lt (inside f e))) (λ _. inside f e)) (λ _. tt)
   checked-within dynamic-jump h = tt
   checked-within (dynamic-jumpi f) h = h
 
@@ -100,11 +101,11 @@ block-within [] i = elim i [ ]
 block-within (x ∷ code) {b} i =
     let bs : List Block = cuts (instructions (x ∷ code)) (opened 0 0) 0 none in
     let all : All (length (x ∷ code)) bs = cuts-falls (walked (x ∷ code)) (opened 0 0) 0 none in
-    let inside : (t : ℕ) → mem t (starts bs) ≡ true → t ≤ length (x ∷ code) = λ t e. started t (rw (← starts-checked (x ∷ code) bs) at e) in
+    let inside : (t : ℕ) → mem t (starts bs) ≡ true → t < length (x ∷ code) = λ t e. started t (rw (← starts-checked (x ∷ code) bs) at e) in
     let g = in-map (λ (c : Block). with-kind (checked (x ∷ code) (starts bs) (c .kind)) c) bs i in
     rw (g .2) (checked-within (x ∷ code) (starts bs) (length (x ∷ code)) inside (g .0 .kind) (all-in (length (x ∷ code)) all (g .1)))
   where
-    started : (t : ℕ) → mem t (starts (blocks (x ∷ code) (instructions (x ∷ code)))) ≡ true → t ≤ length (x ∷ code)
+    started : (t : ℕ) → mem t (starts (blocks (x ∷ code) (instructions (x ∷ code)))) ≡ true → t < length (x ∷ code)
     started t e =
         let m = in-map (λ (c : Block). c .start) (blocks (x ∷ code) (instructions (x ∷ code))) (mem-in t _ e) in
         omega (arith, made (x ∷ code) (m .1) .start-inside, m .2)
@@ -119,8 +120,8 @@ settled-within n (some (other pc)) k h w = w
 settled-within n (some (jumpdest t)) (terminate success) h w = tt
 settled-within n (some (jumpdest t)) (jump u) h w = w
 settled-within n (some (jumpdest t)) (jumpi u f) h w = w
-settled-within n (some (jumpdest t)) dynamic-jump h w = omega arith
-settled-within n (some (jumpdest t)) (dynamic-jumpi f) h w = (omega arith, w)
+settled-within n (some (jumpdest t)) dynamic-jump h w = h
+settled-within n (some (jumpdest t)) (dynamic-jumpi f) h w = (h, w)
 
 pub node-within : (code : List ℕ) {b : Block} → In b (blocks code (instructions code))
     → Within (length code) (settled (run code (instructions code) (b .start) .goes) (b .kind))

@@ -77,6 +77,17 @@ uint64_t aznifrem_json(uint64_t limit, const uint8_t *code, size_t code_len,
 #define AZNIFREM_OUT_BYTES(n) ((size_t)((n) & 0xffffffffu))
 #define AZNIFREM_TEXT_BYTES(n) ((size_t)((n) >> 32))
 
+/* What aznifrem_read gives in its lowest byte instead of 0. */
+#define AZNIFREM_BAD_ENTRY 12
+
+/* Where the first bad entry begins, of what aznifrem_read gave. */
+#define AZNIFREM_OFFSET(given) ((size_t)((given) >> 8))
+
+/* Reads an answer back that was stored: gives 0 if the bytes hold one, else AZNIFREM_BAD_ENTRY and
+ * 256 times the offset of the first bad entry; wrong counts of the head are looked at last and give
+ * offset 0. Nothing is written. A map of length 0 still needs a pointer that is not NULL. */
+uint64_t aznifrem_read(const uint8_t *map, size_t map_len);
+
 #ifdef __cplusplus
 }
 #endif

@@ -4,6 +4,7 @@ use std::error::Error as StdError;
 use std::fmt;
 
 use crate::bounds::{HIGHEST_LIMIT, LONGEST_CODE};
+use crate::kinds::HEAD;
 use crate::room::Room;
 
 /// Why there is no map.
@@ -163,16 +164,24 @@ pub enum Fault {
     NoHead,
     /// No such kind of entry is known.
     UnknownKind(u16),
-    /// Its kind may not stand here.
+    /// It stands behind what must come after it: a second head, or a block after a record; of this
+    /// kind.
     OutOfOrder(u16),
+    /// An entry of kind 7 that follows neither a dynamic block nor another 7 of one.
+    Away,
     /// Its body is longer or shorter than its kind says.
     Length(usize),
     /// The block's start is not above the one before.
     Start(usize),
     /// The byte that says whether a block ends in success is neither 0 nor 1.
     Success(u8),
-    /// A dynamic block that is not followed by as many entries as it says.
-    Entries(u32),
+    /// A dynamic block that is not followed by as many entries of kind 7 as it says.
+    Entries {
+        /// What it says.
+        count: u32,
+        /// Those that are there, whole.
+        there: usize,
+    },
     /// The head's counts are not those of the entries.
     Counts,
 }
@@ -184,7 +193,14 @@ impl fmt::Display for Unreadable {
             Fault::Cut => f.write_str("is cut short"),
             Fault::NoHead => f.write_str("is no head, and a map begins with one"),
             Fault::UnknownKind(kind) => write!(f, "is of kind {kind}, which is not known"),
-            Fault::OutOfOrder(kind) => write!(f, "is of kind {kind}, which may not stand here"),
+            Fault::OutOfOrder(HEAD) => f.write_str("is a second head"),
+            Fault::OutOfOrder(kind) => write!(
+                f,
+                "is of kind {kind}, a block, and stands after a record: blocks come first"
+            ),
+            Fault::Away => {
+                f.write_str("is of kind 7, a path of the dynamic block before it, and follows none")
+            }
             Fault::Length(length) => {
                 write!(
                     f,
@@ -196,10 +212,9 @@ impl fmt::Display for Unreadable {
                 "is a block that starts at {start}, not above the block before it"
             ),
             Fault::Success(byte) => write!(f, "has {byte} where 0 or 1 says whether it succeeds"),
-            Fault::Entries(count) => write!(
-                f,
-                "says {count} paths and is followed by another number of them"
-            ),
+            Fault::Entries { count, there } => {
+                write!(f, "says {count} paths and is followed by {there}")
+            }
             Fault::Counts => f.write_str("is a head whose counts are not those of the entries"),
         }?;
         f.write_str("; make the map again from the code, or fetch the stored file again")
@@ -246,8 +261,8 @@ mod tests {
         assert_eq!((full.number(), most.number()), (Some(5), Some(5)));
         let none = Error::NoMemory { room, bytes: lent };
         assert!(none.to_string().contains(": free memory, or "));
-        let fault = Fault::Entries(3);
+        let fault = Fault::Entries { count: 3, there: 1 };
         let said = Unreadable { offset: 0, fault }.to_string();
-        assert!(said.contains("says 3 paths and is followed by another number of them"));
+        assert!(said.contains("says 3 paths and is followed by 1;"));
     }
 }

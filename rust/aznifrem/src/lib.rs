@@ -19,14 +19,17 @@
 //! ```
 //!
 //! A [`Mapper`] keeps its memory between calls; [`Map::from_bytes`] reads a map that was stored;
-//! [`Mapper::json`] gives the blocks as JSON; [`call`] and [`call_json`] are the library's own calls,
-//! for those who lend the memory themselves.
+//! [`Mapper::json`] gives the blocks as JSON; [`call`], [`call_json`] and [`read()`] are the library's
+//! own calls, for those who lend the memory themselves.
 
 #![warn(missing_docs)]
 
 mod bounds;
 mod call;
+mod entries;
 mod error;
+mod fault;
+mod json;
 mod kinds;
 mod map;
 mod mapper;
@@ -54,6 +57,7 @@ pub use call::{Lent, call, call_json};
 pub use error::{Error, Fault, NotRelayed, Unreadable, Unwritable};
 pub use map::{Block, BlockType, DynamicJump, Map, Record};
 pub use mapper::Mapper;
+pub use read::read;
 pub use room::Room;
 
 /// The map of a code, made with an energy limit of at most [`HIGHEST_LIMIT`], in memory of its

@@ -3,7 +3,7 @@
 use std::fs;
 use std::path::Path;
 
-use aznifrem::{Error, HIGHEST_LIMIT, Lent, Mapper, Room, call_json};
+use aznifrem::{Error, HIGHEST_LIMIT, Lent, Map, Mapper, Room, call_json};
 use codes::worst::fan;
 
 const RETURN: [u8; 9] = [0x60, 5, 0x60, 7, 0x56, 0x5b, 0x00, 0x5b, 0x56];
@@ -19,8 +19,13 @@ fn every_text_is_serdes() {
         let (code, text) = line.split_once(' ').expect("a line is a code and a text");
         let digits = if code == "-" { "" } else { code };
         let code = codes::from_hex(digits).expect("the codes are hexadecimal");
-        match mapper.json(&code, HIGHEST_LIMIT) {
-            Ok(json) => assert_eq!(json, text, "on {line}"),
+        match mapper.both(&code, HIGHEST_LIMIT) {
+            Ok((entries, json)) => {
+                assert_eq!(json, text, "on {line}");
+                // A stored map has the same text.
+                let map = Map::from_bytes(entries).expect("an answer is a map");
+                assert_eq!(map.to_json(), text, "on {line}");
+            }
             Err(error) => panic!("{error}, on {line}"),
         }
     }

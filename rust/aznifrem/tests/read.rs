@@ -82,17 +82,14 @@ fn entries_stand_in_their_order() {
         fault(&[head(1, 1), record(), stop(0)]),
         (36, Fault::OutOfOrder(2))
     );
-    assert_eq!(
-        fault(&[head(1, 0), stop(0), found()]),
-        (29, Fault::OutOfOrder(7))
-    );
+    assert_eq!(fault(&[head(1, 0), stop(0), found()]), (29, Fault::Away));
     assert_eq!(
         fault(&[head(2, 0), stop(4), stop(4)]),
         (29, Fault::Start(4))
     );
     assert_eq!(
         fault(&[head(2, 0), stop(4), dynamic(3, 1)]),
-        (29, Fault::Entries(1))
+        (29, Fault::Start(3))
     );
     assert_eq!(
         fault(&[head(0, 0), entry(9, &[])]),
@@ -107,20 +104,20 @@ fn entries_stand_in_their_order() {
 #[test]
 fn a_dynamic_block_has_as_many_paths_as_it_says() {
     let cut = found()[..15].to_vec();
-    for rest in [vec![], found(), cut, stop(9)] {
-        assert_eq!(
-            fault(&[head(1, 0), dynamic(0, 2), rest]),
-            (18, Fault::Entries(2))
-        );
+    let says = |count, there| (18, Fault::Entries { count, there });
+    for (rest, there) in [(vec![], 0), (found(), 1), (cut, 0), (stop(9), 0)] {
+        assert_eq!(fault(&[head(1, 0), dynamic(0, 2), rest]), says(2, there));
     }
-    assert_eq!(
-        fault(&[head(1, 0), dynamic(0, 0), found()]),
-        (18, Fault::Entries(0))
-    );
+    assert_eq!(fault(&[head(1, 0), dynamic(0, 0), found()]), says(0, 1));
     let long = entry(7, &[5, 0, 1, 0, 0, 0, 7, 0, 0]);
     assert_eq!(
-        fault(&[head(1, 0), dynamic(0, 1), found(), long]),
+        fault(&[head(1, 0), dynamic(0, 2), found(), long.clone()]),
         (18 + 14 + 16, Fault::Length(9))
+    );
+    // A whole one counts, whatever its length.
+    assert_eq!(
+        fault(&[head(1, 0), dynamic(0, 1), found(), long]),
+        says(1, 2)
     );
 }
 
@@ -139,6 +136,34 @@ fn bodies_are_as_long_as_their_kind_says() {
     );
     let endless = entry(8, &[7, 0, 5, 0, 255, 255, 255, 255]);
     assert_eq!(fault(&[head(0, 1), endless]), (18, Fault::Length(8)));
+}
+
+#[test]
+fn the_sentences_say_which_thing_is_bad() {
+    let said = |parts: &[Vec<u8>]| {
+        let unreadable = Map::from_bytes(&parts.concat()).expect_err("it is bad");
+        unreadable.to_string()
+    };
+    for (parts, words) in [
+        (
+            &[head(0, 0), head(0, 0)][..],
+            "at byte 18 is a second head;",
+        ),
+        (
+            &[head(1, 1), record(), stop(0)],
+            "at byte 36 is of kind 2, a block, and stands after a record",
+        ),
+        (
+            &[head(1, 0), stop(0), found()],
+            "at byte 29 is of kind 7, a path of the dynamic block before it, and follows none",
+        ),
+        (
+            &[head(1, 0), dynamic(0, 2), found()],
+            "at byte 18 says 2 paths and is followed by 1;",
+        ),
+    ] {
+        assert!(said(parts).contains(words), "{}", said(parts));
+    }
 }
 
 #[test]

@@ -11,6 +11,8 @@ which its dynamic jumps were resolved.
 
   aznifrem [map] [OPTIONS] FILE...   map contracts; a folder stands for all files in it, - for
                                      standard input
+  aznifrem show [OPTIONS] FILE...    stored maps, read back; a folder stands for all maps in it, - for
+                                     standard input
   aznifrem diff OLD NEW              what moved between two stored maps, or two folders of them
 
 A contract is a file of deployed code (at most 24,576 bytes), as hexadecimal digits, with or without
@@ -37,13 +39,16 @@ Options:
   --                what follows is a file, whatever it begins with
   --help, --version
 
-diff lists the blocks that came, went or changed, and every jump that moved. Of a folder it takes
-every file that ends in .map, also those that begin with a dot and those behind links.
+show prints stored maps for a reader, or with --lines their entries, with --json their blocks. What is
+no map is told, with the place of its first bad entry and what is wrong there.
+
+diff lists the blocks that came, went or changed, and every jump that moved. Of a folder show and
+diff take every file that ends in .map, also those that begin with a dot and those behind links.
 
 Exit: of map, 0 if every contract is mapped, 1 if one is refused or not stored, or a file or folder
-is unreadable (a line for each on standard error); of diff, 0 if nothing moved, 1 if something did,
-2 if a map or a folder is unreadable; of both, 2 if the command is not understood or the output
-cannot be written.
+is unreadable (a line for each on standard error); of show, 0 if every file holds a map, 1 if one
+does not or is unreadable; of diff, 0 if nothing moved, 1 if something did, 2 if a map or a folder is
+unreadable; of all, 2 if the command is not understood or the output cannot be written.
 
 A first map:
   echo 60056007565b005b56 | aznifrem --summary -
@@ -83,6 +88,7 @@ pub enum Command {
     Help,
     Version,
     Map(Options),
+    Show { inputs: Vec<PathBuf>, print: Print },
     Diff { old: PathBuf, new: PathBuf },
 }
 
@@ -92,9 +98,32 @@ pub fn parse(words: impl Iterator<Item = OsString>) -> Result<Command, String> {
     let first = words.peek().and_then(|word| word.to_str());
     match first {
         Some("diff") => diff(words.skip(1).collect()),
+        Some("show") => show(words.skip(1)),
         Some("map") => map(words.skip(1)),
         _ => map(words),
     }
+}
+
+fn show(mut words: impl Iterator<Item = OsString>) -> Result<Command, String> {
+    let mut inputs = Vec::new();
+    let mut print = Print::Summary;
+    while let Some(word) = words.next() {
+        match word.to_str() {
+            Some("--help" | "-h") => return Ok(Command::Help),
+            Some("--summary") => print = Print::Summary,
+            Some("--lines") => print = Print::Lines,
+            Some("--json") => print = Print::Json,
+            Some("--") => inputs.extend(words.by_ref().map(PathBuf::from)),
+            Some(name) if name.starts_with('-') && name != "-" => {
+                return Err(format!("'{name}' is no option of show"));
+            }
+            _ => inputs.push(word.into()),
+        }
+    }
+    if inputs.is_empty() {
+        return Err("show takes a stored map or a folder of them, or - for standard input".into());
+    }
+    Ok(Command::Show { inputs, print })
 }
 
 fn diff(words: Vec<OsString>) -> Result<Command, String> {

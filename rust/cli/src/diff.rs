@@ -5,11 +5,10 @@ use std::fs;
 use std::io::{self, Write};
 use std::path::{Path, PathBuf};
 
-use aznifrem::Map;
-
 use crate::compare::differences;
 use crate::files::{Kind, Named, beneath};
 use crate::outcome::{Outcome, tell};
+use crate::stored;
 
 pub fn run(old: &Path, new: &Path, out: &mut impl Write) -> io::Result<Outcome> {
     let pairs = match pairs(old, new) {
@@ -59,6 +58,7 @@ struct Pair {
 impl Pair {
     /// What moved, or what is unreadable.
     fn lines(&self) -> Result<Vec<String>, Vec<String>> {
+        let read = |path: &Path| stored::read(path).map(|stored| stored.map);
         match (self.old.as_deref().map(read), self.new.as_deref().map(read)) {
             (Some(Ok(old)), Some(Ok(new))) => Ok(differences(&old, &new)),
             (None, Some(Ok(map))) => Ok(vec![format!("map came: {} blocks", map.blocks.len())]),
@@ -71,19 +71,10 @@ impl Pair {
     }
 }
 
-fn unreadable(path: &Path, error: io::Error) -> String {
-    format!("{}: cannot be read: {error}", path.display())
-}
-
-fn read(path: &Path) -> Result<Map, String> {
-    let bytes = fs::read(path).map_err(|error| unreadable(path, error))?;
-    Map::from_bytes(&bytes).map_err(|e| format!("{}: is no stored map: {e}", path.display()))
-}
-
 /// The maps to compare, or why there are none.
 fn pairs(old: &Path, new: &Path) -> Result<Vec<Pair>, Vec<String>> {
     for side in [old, new] {
-        fs::metadata(side).map_err(|error| vec![unreadable(side, error)])?;
+        fs::metadata(side).map_err(|error| vec![stored::unreadable(side, &error)])?;
     }
     match (old.is_dir(), new.is_dir()) {
         (false, false) => Ok(vec![Pair {

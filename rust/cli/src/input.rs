@@ -35,7 +35,7 @@ pub fn decoded(bytes: Vec<u8>, form: Form) -> Result<Vec<u8>, String> {
                 .into(),
         ),
         Form::ToldApart if Map::from_bytes(&bytes).is_ok() => Err(
-            "is a stored map, not a contract: diff compares it, and --binary maps it all the same"
+            "is a stored map, not a contract: show prints it, diff compares it, and --binary maps it all the same"
                 .into(),
         ),
         Form::ToldApart => Ok(bytes),

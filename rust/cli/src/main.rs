@@ -9,6 +9,8 @@ mod maps;
 mod outcome;
 mod paths;
 mod progress;
+mod show;
+mod stored;
 mod summary;
 
 use std::io::{self, BufWriter, ErrorKind, Write};
@@ -44,6 +46,7 @@ fn run(command: Command, out: &mut impl Write) -> io::Result<Outcome> {
             writeln!(out, "aznifrem {}", env!("CARGO_PKG_VERSION")).map(|()| Outcome::Fine)
         }
         Command::Map(options) => maps::run(&options, out),
+        Command::Show { inputs, print } => show::run(&inputs, print, out),
         Command::Diff { old, new } => diff::run(&old, &new, out),
     }
 }

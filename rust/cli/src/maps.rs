@@ -153,8 +153,8 @@ impl Job<'_> {
     }
 }
 
-/// With a line of the contract's path before it, where there are more.
-fn titled(many: bool, title: &str, text: &str) -> String {
+/// With a line of the path before it, where there are more.
+pub fn titled(many: bool, title: &str, text: &str) -> String {
     if many {
         format!("== {title}\n{text}")
     } else {
@@ -176,7 +176,7 @@ fn refusal(error: Error) -> String {
 }
 
 /// Each entry as lower-case hexadecimal digits on a line.
-fn lines(mut entries: &[u8]) -> String {
+pub fn lines(mut entries: &[u8]) -> String {
     let mut text = String::new();
     while let Some(length) = entries.first_chunk().map(|four| u32::from_le_bytes(*four)) {
         let end = (HEADER + length as usize).min(entries.len());

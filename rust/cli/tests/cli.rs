@@ -173,6 +173,72 @@ fn an_order_of_records_that_changed_is_a_difference() {
 }
 
 #[test]
+fn stored_maps_are_shown() {
+    let here = folder("shown");
+    put(&here, "code/a.hex", RETURN);
+    put(&here, "code/b.hex", "00");
+    run(&here, &["--to", "maps", "code"]);
+    let lines = all(&run(&here, &["show", "--lines", "maps/a.hex.map"]));
+    assert_eq!(lines, (0, LINES.into(), String::new()));
+    let (exit, out, _) = all(&run(&here, &["show", "maps"]));
+    assert_eq!(exit, 0);
+    let titles: Vec<&str> = out.lines().filter(|line| !line.starts_with(' ')).collect();
+    assert!(
+        titles[0].starts_with("maps/a.hex.map: bytes 9; blocks 3,"),
+        "{out}"
+    );
+    assert!(
+        titles[1].starts_with("maps/b.hex.map: bytes 1; blocks 1,"),
+        "{out}"
+    );
+    let (_, json, _) = all(&run(&here, &["show", "--json", "maps"]));
+    let (_, mapped, _) = all(&run(&here, &["--json", "code"]));
+    let texts = |out: &str| -> Vec<String> {
+        let lines = out.lines().filter(|line| !line.starts_with("== "));
+        lines.map(str::to_string).collect()
+    };
+    assert_eq!(texts(&json), texts(&mapped));
+}
+
+#[test]
+fn what_is_no_map_is_told_with_its_place() {
+    let here = folder("told");
+    put(&here, "code/a.hex", RETURN);
+    run(&here, &["--to", "maps", "code"]);
+    let good = fs::read(here.join("maps/a.hex.map")).expect("it is stored");
+    let mut late = good.clone();
+    late.extend(&good[18..30]);
+    put(&here, "maps/late.map", &late);
+    put(&here, "maps/cut.map", &good[..60]);
+    put(&here, "maps/none.map", "");
+    let (exit, out, said) = all(&run(&here, &["show", "maps"]));
+    assert_eq!(exit, 1);
+    assert!(out.starts_with("maps/a.hex.map: bytes 9;"), "{out}");
+    let said: Vec<&str> = said.lines().collect();
+    let again = "; make the map again from the code, or fetch the stored file again";
+    assert_eq!(
+        said,
+        [
+            format!("maps/cut.map: is no stored map: the entry at byte 53 is cut short{again}"),
+            format!(
+                "maps/late.map: is no stored map: the entry at byte 71 is of kind 3, a block, and stands after a record: blocks come first{again}"
+            ),
+            format!(
+                "maps/none.map: is no stored map: the entry at byte 0 is no head, and a map begins with one{again}"
+            ),
+        ]
+    );
+    let (exit, _, said) = all(&run(&here, &["show", "--to", "x", "maps"]));
+    assert_eq!(
+        (
+            exit,
+            said.starts_with("aznifrem: '--to' is no option of show")
+        ),
+        (2, true)
+    );
+}
+
+#[test]
 fn maps_that_come_or_go_are_differences() {
     let here = folder("come-and-go");
     put(&here, "code/a.hex", RETURN);

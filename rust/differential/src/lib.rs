@@ -4,6 +4,7 @@
 //! Rust by `agree`, says what the Rust does not have: records, energy, refusals, lower limits.
 
 mod check;
+mod damage;
 mod families;
 mod json;
 mod lend;
@@ -12,6 +13,7 @@ mod nearby;
 mod panics;
 mod port;
 mod shrink;
+mod stored;
 mod tally;
 
 pub use check::{Checker, Verdict};
@@ -20,4 +22,5 @@ pub use lend::{Given, call as fenced_call, call_json as fenced_call_json};
 pub use mismatch::Mismatch;
 pub use port::{JsonPort, Port};
 pub use shrink::smaller;
+pub use stored::{Maps, Reader, check as check_map, run as read_maps};
 pub use tally::Tally;

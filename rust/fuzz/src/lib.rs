@@ -1,7 +1,8 @@
-//! One input of a fuzzer, held against the Rust and the model as `differential` holds every code.
+//! One input of a fuzzer, held against the Rust and the model as `differential` holds every code; or
+//! against the model's reader, as a stored map.
 
 use aznifrem::{Lent, Map, Record, call};
-use differential::{Checker, Port};
+use differential::{Checker, Port, Reader, check_map};
 
 /// The seed of rooms and limits, and the code behind it.
 fn split(input: &[u8]) -> (u64, &[u8]) {
@@ -29,6 +30,29 @@ pub fn mismatch(port: Port, input: &[u8]) -> Option<String> {
     ))
 }
 
+/// What differs on an input as a stored map, if anything, and the words that check it again.
+pub fn map_mismatch(reader: Reader, input: &[u8]) -> Option<String> {
+    let found = check_map(reader, input).err()?;
+    let sentence: String = found.sentence.chars().take(200).collect();
+    let map = codes::to_hex(input);
+    Some(format!(
+        "mismatch: {}: {sentence}\n  maps --map {map}",
+        found.kind
+    ))
+}
+
+/// The reader with a fault: a record of the wrong length is let through.
+pub fn faulty_reader(map: &[u8]) -> u64 {
+    let number = aznifrem::read(map);
+    let offset = (number >> 8) as usize;
+    let kind = map.get(offset.saturating_add(4)..).unwrap_or_default();
+    if offset > 0 && kind.starts_with(&[8, 0]) {
+        0
+    } else {
+        number
+    }
+}
+
 /// The library with a fault: if the search found a destination, the energy is wrong.
 pub fn faulty(code: &[u8], limit: u64, rooms: &mut Lent) -> u64 {
     let number = call(code, limit, rooms);
@@ -42,7 +66,7 @@ pub fn faulty(code: &[u8], limit: u64, rooms: &mut Lent) -> u64 {
 
 #[cfg(test)]
 mod tests {
-    use super::{faulty, mismatch, split};
+    use super::{faulty, faulty_reader, map_mismatch, mismatch, split};
     use aznifrem::{Lent, call};
 
     const RETURN: &str = "60056007565b005b56";
@@ -62,6 +86,26 @@ mod tests {
         let text = mismatch(faulty, &input).expect("a destination is found");
         assert!(text.starts_with("mismatch: bytes: byte 14 "), "{text}");
         assert!(text.ends_with(&format!("--seed 1 --code {RETURN}")));
+    }
+
+    #[test]
+    fn the_readers_fault_is_a_mismatch_and_the_library_has_none() {
+        let code = codes::from_hex(RETURN).expect("it is hexadecimal");
+        let mut map = aznifrem::map(&code, 500_000)
+            .expect("it has a map")
+            .to_bytes()
+            .expect("it fits");
+        assert_eq!(map_mismatch(aznifrem::read, &map), None);
+        assert_eq!(map_mismatch(faulty_reader, &map), None);
+        // The record says three addresses, and two are there.
+        map[63] = 3;
+        assert_eq!(map_mismatch(aznifrem::read, &map), None);
+        let text = map_mismatch(faulty_reader, &map).expect("it is let through");
+        assert!(
+            text.starts_with("mismatch: reader: the reader gives 0, "),
+            "{text}"
+        );
+        assert!(text.ends_with(&format!("  maps --map {}", codes::to_hex(&map))));
     }
 
     #[test]

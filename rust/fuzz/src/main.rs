@@ -12,12 +12,13 @@ extern "C" fn LLVMFuzzerTestOneInput(bytes: *const u8, length: usize) -> i32 {
         0 => &[],
         _ => unsafe { from_raw_parts(bytes, length) },
     };
-    let port = if cfg!(feature = "fault") {
-        fuzz::faulty
-    } else {
-        aznifrem::call
+    let found = match (cfg!(feature = "maps"), cfg!(feature = "fault")) {
+        (false, false) => fuzz::mismatch(aznifrem::call, input),
+        (false, true) => fuzz::mismatch(fuzz::faulty, input),
+        (true, false) => fuzz::map_mismatch(aznifrem::read, input),
+        (true, true) => fuzz::map_mismatch(fuzz::faulty_reader, input),
     };
-    if let Some(text) = fuzz::mismatch(port, input) {
+    if let Some(text) = found {
         eprintln!("{text}");
         abort();
     }

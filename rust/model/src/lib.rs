@@ -1,4 +1,4 @@
-//! Document 01 as a plain program, written from its text: what a call must answer.
+//! Document 01 as a plain program, written from its text: what a call must answer; and document 02 as far as it has landed.
 //!
 //! It is the second opinion: the proved definitions are held against it, and it is held against
 //! the unchanged Rust. It is written to be read, not to be fast.
@@ -10,6 +10,7 @@ pub mod entries;
 mod map;
 pub mod ops;
 pub mod reach;
+pub mod reader;
 pub mod rooms;
 pub mod search;
 pub mod stack;
@@ -18,6 +19,7 @@ pub use blocks::{Block, Entry, Kind};
 pub use bounds::{HIGHEST_LIMIT, LONGEST_CODE};
 pub use call::map;
 pub use map::Map;
+pub use reader::{Bad, Held, Refused, read};
 pub use rooms::{Lent, Needs, Refusal};
 pub use search::Record;
 

@@ -1,0 +1,12 @@
+pub mod Sorting
+pub mod Bodies
+pub mod Leads
+pub mod Classing
+pub mod Onward
+pub mod Judging
+pub mod Moving
+pub mod Turning
+pub mod Resting
+pub mod Walked
+pub mod Paths
+pub mod Once

@@ -1,0 +1,72 @@
+-- `sevens` meets its contract: those counted and those still to come are the whole run. The measure is what is left of the bytes. Assumes nothing.
+use mathlib.Core.Path.{_≡_, subst}
+use mathlib.Core.List.{List, [], _∷_}
+use Prim.Native.Nat.{ℕ, _-_}
+use types.Run.{OneOf, miss}
+use denote.Enum.Declared.{tagOf}
+use lib.ListN.{length}
+use Rattle.reader.specs.declared.kind.Sort.{Sort}
+use Rattle.reader.specs.declared.kind.Sort.the-variants.{Way}
+use Rattle.reader.proofs.kind.Sort.{the-type}
+use Rattle.reader.proofs.Onward.{Counting, count-none, count-cut, count-other, count-more, count-less, count-fits}
+use Rattle.reader.proofs.Leads.{sum-6, sum-body}
+use borrow.Author.Needs.{needs}
+use Rattle.reader.proofs.run.sevens.Statement.{statement}
+use Rattle.reader.proofs.run.sevens.Tie as tie
+
+-- the arm of every other kind
+abbrev others : List ℕ
+others = 0 ∷ 1 ∷ 2 ∷ 3 ∷ 4 ∷ 5 ∷ 7 ∷ 8 ∷ []
+
+no-seven : (s : Sort) → OneOf others (tagOf the-type s) → s ≡ Way → ⊥
+no-seven s o q = miss others 6 tt (subst (λ (x : Sort). OneOf others (tagOf the-type x)) q o)
+
+abbrev Inv-loop : tie.InvT-loop
+Inv-loop map at n₀ to₀ n to = Counting map at n to
+
+abbrev μ-loop : tie.MeasureT-loop
+μ-loop map at n₀ to₀ n to = length map - to
+
+loop-holds : tie.Need-loop-holds Inv-loop μ-loop
+loop-holds c = search count-none
+
+add-n : tie.Need-add-n Inv-loop μ-loop
+add-n c = search count-fits
+
+add-to : tie.Need-add-to Inv-loop μ-loop
+add-to c = search sum-6
+
+add-to-2 : tie.Need-add-to-2 Inv-loop μ-loop
+add-to-2 c = search sum-body
+
+loop-less : tie.Need-loop-less Inv-loop μ-loop
+loop-less c = search count-less
+
+loop-again : tie.Need-loop-again Inv-loop μ-loop
+loop-again c = search count-more
+
+returns : tie.Need-returns Inv-loop μ-loop
+returns c = let other = no-seven (c .before .sort-of .result) (c .match2 .keys2) in search count-other
+
+returns-2 : tie.Need-returns-2 Inv-loop μ-loop
+returns-2 c = search count-cut
+
+pub sevens-spec : {M : Type 1} → statement M
+sevens-spec =
+    tie.close
+    (tie.spec
+    Inv-loop
+    μ-loop
+    loop-holds
+    (λ c κs. search needs)
+    (λ c. search needs)
+    (λ c κs. search needs)
+    (λ c. search needs)
+    add-n
+    add-to
+    add-to-2
+    loop-less
+    loop-again
+    returns
+    (λ c. search needs)
+    returns-2)

@@ -1,0 +1,170 @@
+// What an entry is to the order of the entries.
+use crate::entry::Entry;
+ghost use mathlib.Core.Path.{_≡_};
+ghost use Prim.Native.Nat.{_<_};
+ghost use Rattle.reader.specs.Classes.{classOf, startOf, blockStep, wayStep, recordStep, stepOf, blockIn, recordIn};
+
+// A block by its start, a dynamic one also by its count; or an entry that is bad wherever it stands.
+pub enum Class {
+    Bad,
+    Head,
+    Block { start: usize },
+    Dynamic { start: usize, count: usize },
+    Way,
+    Record,
+}
+
+// Behind the head: blocks may come, from a start on; or also 7s of the dynamic block at `block`, of whose count so many are left; or records alone.
+pub enum Order {
+    Blocks {
+        low: usize,
+    },
+    Sevens {
+        low: usize,
+        block: usize,
+        left: usize,
+    },
+    Records,
+}
+
+// An entry may come, and then the order goes on so; or it may not.
+pub enum Step {
+    To(Order),
+    Stop,
+}
+
+// The class of an entry: bad are "unknown kinds", "success bytes over 1", "cut entries, and bodies longer or shorter than their kind says".
+pub fn class_of(e: Entry) -> Class
+    ensures { λ r. ⌜ r ≡ classOf e ⌝ }
+{
+    match e {
+        Entry::Head { .. } => Class::Head,
+        Entry::Terminate { start, success, .. } => {
+            if success <= 1 {
+                Class::Block { start }
+            } else {
+                Class::Bad
+            }
+        }
+        Entry::Jump { start, .. } => Class::Block { start },
+        Entry::Jumpi { start, .. } => Class::Block { start },
+        Entry::DynamicJump { start, count, .. } => Class::Dynamic { start, count },
+        Entry::DynamicJumpi { start, count, .. } => Class::Dynamic { start, count },
+        Entry::Way { .. } => Class::Way,
+        Entry::Record { .. } => Class::Record,
+        Entry::Unknown => Class::Bad,
+        Entry::Wrong => Class::Bad,
+        Entry::Cut => Class::Bad,
+    }
+}
+
+// A block at a start, with the order behind it. "A block start not above the one before" is bad, and so is a block behind a record.
+fn after_block(p: Order, start: usize, q: Order) -> Step
+    ensures { λ r. ⌜ r ≡ blockStep start p q ⌝ }
+{
+    match p {
+        Order::Blocks { low } => {
+            if low <= start {
+                return Step::To(q);
+            }
+            Step::Stop
+        }
+        Order::Sevens { low, left, .. } => {
+            if left != 0 {
+                return Step::Stop;
+            }
+            if low <= start {
+                return Step::To(q);
+            }
+            Step::Stop
+        }
+        Order::Records => Step::Stop,
+    }
+}
+
+// A 7: one of those that are left. "Kind 7 away from a dynamic block" is bad.
+fn after_way(p: Order) -> Step
+    ensures { λ r. ⌜ r ≡ wayStep p ⌝ }
+{
+    match p {
+        Order::Sevens { low, block, left } => {
+            if left == 0 {
+                return Step::Stop;
+            }
+            Step::To(Order::Sevens {
+                low,
+                block,
+                left: left - 1,
+            })
+        }
+        Order::Blocks { .. } => Step::Stop,
+        Order::Records => Step::Stop,
+    }
+}
+
+// A record, where no 7 is left to come.
+fn after_record(p: Order) -> Step
+    ensures { λ r. ⌜ r ≡ recordStep p ⌝ }
+{
+    match p {
+        Order::Sevens { left, .. } => {
+            if left != 0 {
+                return Step::Stop;
+            }
+            Step::To(Order::Records)
+        }
+        Order::Blocks { .. } => Step::To(Order::Records),
+        Order::Records => Step::To(Order::Records),
+    }
+}
+
+// The order behind an entry at an offset; none where it is bad there, as a second head is.
+pub fn behind(k: Class, p: Order, at: usize) -> Step
+    requires { ⌜ startOf k < 65536 ⌝ }
+    ensures { λ r. ⌜ r ≡ stepOf k p at ⌝ }
+{
+    match k {
+        Class::Block { start } => after_block(p, start, Order::Blocks { low: start + 1 }),
+        Class::Dynamic { start, count } => after_block(
+            p,
+            start,
+            Order::Sevens {
+                low: start + 1,
+                block: at,
+                left: count,
+            },
+        ),
+        Class::Way => after_way(p),
+        Class::Record => after_record(p),
+        Class::Bad => Step::Stop,
+        Class::Head => Step::Stop,
+    }
+}
+
+// How many blocks the entry is.
+pub fn blocks_in(k: Class) -> usize
+    ensures { λ r. ⌜ r ≡ blockIn k ⌝ }
+{
+    match k {
+        Class::Block { start: _ } => 1,
+        Class::Dynamic { start: _, count: _ } => 1,
+        Class::Bad => 0,
+        Class::Head => 0,
+        Class::Way => 0,
+        Class::Record => 0,
+    }
+}
+
+// How many records the entry is.
+pub fn records_in(k: Class) -> usize
+    ensures { λ r. ⌜ r ≡ recordIn k ⌝ }
+{
+    match k {
+        Class::Record => 1,
+        Class::Bad => 0,
+        Class::Head => 0,
+        Class::Block { start: _ } => 0,
+        Class::Dynamic { start: _, count: _ } => 0,
+        Class::Way => 0,
+    }
+}

@@ -1,0 +1,18 @@
+// The reader of stored maps (document 02, No. 2): the entry at an offset, the judgement of a whole byte string, and the walk over an accepted one.
+mod body;
+mod class;
+mod entry;
+mod kind;
+mod lead;
+mod run;
+mod scan;
+mod walk;
+
+pub use entry::Entry;
+pub use entry::entry_at;
+pub use scan::Reading;
+pub use scan::read;
+pub use walk::Walk;
+pub use walk::address;
+pub use walk::first;
+pub use walk::next;

@@ -1,0 +1,57 @@
+// The run of 7s, counted once, where the scan stops.
+use crate::class::Order;
+use crate::kind::Sort;
+use crate::kind::sort_of;
+use crate::lead::Lead;
+use crate::lead::lead_at;
+ghost use mathlib.Core.Path.{_≡_};
+ghost use Prim.Native.Nat.{_≤_};
+ghost use lib.ListN.{length};
+ghost use Rattle.spec.specs.Reader.{sevens};
+ghost use Rattle.reader.specs.Shapes.{from};
+ghost use Rattle.reader.specs.Classes.{stoppedOf};
+
+// How many whole 7s stand in the run of 7s that begins at an offset.
+fn sevens(map: &[u8], at: usize) -> usize
+    requires { ⌜ at ≤ length (now map) ⌝ }
+    ensures { λ r. ⌜ r ≡ sevens (from (now (map .entry)) at) ⌝ }
+{
+    let mut n = 0;
+    let mut to = at;
+    loop {
+        match lead_at(map, to) {
+            Lead::Says { kind, length } => {
+                match sort_of(kind) {
+                    Sort::Way => {
+                        n += 1;
+                        to = to + 6 + length;
+                    }
+                    _ => {
+                        return n;
+                    }
+                }
+            }
+            Lead::Short => {
+                return n;
+            }
+        }
+    }
+}
+
+// The offset of the first bad entry, where the one at an offset may not come: that of an open dynamic block with "a dynamic count its 7s do not meet
+// (the dynamic entry is bad; only whole 7s count)", else this one's.
+pub fn stopped(map: &[u8], at: usize, p: Order) -> usize
+    requires { ⌜ at ≤ length (now map) ⌝ }
+    ensures { λ r. ⌜ r ≡ stoppedOf p at (sevens (from (now (map .entry)) at)) ⌝ }
+{
+    match p {
+        Order::Sevens { block, left, .. } => {
+            if left == sevens(map, at) {
+                return at;
+            }
+            block
+        }
+        Order::Blocks { .. } => at,
+        Order::Records => at,
+    }
+}

@@ -1,0 +1,76 @@
+-- Document 02, "No. 2": "Reading what was written gives it back", of every answered map. Assumes nothing.
+use Prim.Native.Nat.{ℕ, _≤_, _<_}
+use native.Mathlib.Omega.{arith}
+use mathlib.Core.Path.{_≡_, ap}
+use mathlib.Core.List.{List}
+use Rattle.spec.specs.Blocks.{Kind, terminate, jump, jumpi, dynamic-jump, dynamic-jumpi}
+use Rattle.spec.specs.Search.{Found, nowhere, found, Rec, dest}
+use Rattle.spec.specs.Ending.{Final}
+use Rattle.spec.specs.Rooms.{Lent}
+use Rattle.spec.specs.Entries.{Map, bytes}
+use Rattle.spec.specs.Answer.{answered, answer}
+use Rattle.spec.specs.Reader.{holds, read, plain}
+use Rattle.theorems.proofs.Members.{In, here}
+use Rattle.theorems.proofs.Sides.{Within}
+use Rattle.theorems.proofs.Bounds.{RecBounded, BlockBounded, Bounded, answered-bounded}
+use Rattle.theorems.proofs.ReaderRead.{FoundFits, KindFits, RecFits, FinalFits, MapFits, read-written}
+
+-- ---- what is bounded fits
+
+module _ (n : ℕ) (small : n ≤ 24576) where
+  sides-fit : (k : Kind) → Within n k → KindFits k
+  sides-fit (terminate success) w = tt
+  sides-fit (jump t) w = omega arith
+  sides-fit (jumpi t f) w = (omega (arith, w .0), omega (arith, w .1))
+  sides-fit dynamic-jump w = tt
+  sides-fit (dynamic-jumpi f) w = omega arith
+
+  found-fits : (x : Found) → ((t : ℕ) → In t (dest x) → t < n) → FoundFits x
+  found-fits nowhere h = tt
+  found-fits (found t s) h = let l = h t here in (omega arith, λ e. omega arith)
+
+  rec-fits : (r : Rec) → RecBounded n r → RecFits r
+  rec-fits r b = record { start = omega (arith, b .start); to = found-fits (r .to) (b .to); path = λ a i. omega (arith, b .path a i); long = b .long }
+
+  final-fits : (f : Final) → BlockBounded n f → FinalFits f
+  final-fits f b = record {
+    id = b .id;
+    start = omega (arith, b .start);
+    end = omega (arith, b .end);
+    kind = sides-fit (f .block .kind) (b .sides);
+    bare = b .bare;
+    many = omega (arith, b .many);
+    each = λ r i. rec-fits r (b .each r i);
+    own = b .own;
+  }
+
+bounded-fits : (n : ℕ) (m : Map) → Bounded n m → MapFits m
+bounded-fits n m b = record {
+  size = omega (arith, b .size, b .size-fits);
+  energy = omega (arith, b .energy);
+  block-count = omega (arith, b .block-count, b .size-fits);
+  record-count = omega (arith, b .record-count);
+  rising = b .rising;
+  finals = λ f i. final-fits n (b .size-fits) f (b .blocks f i);
+  recs = λ r i. rec-fits n (b .size-fits) r (b .recs r i);
+}
+
+-- ---- every answer
+
+module _ (l : Lent) (limit : ℕ) (code : List ℕ) (m : Map) (e : answer l limit code ≡ answered m) where
+  -- Every number of an answered map fits its bytes, and a destination that was found is never the number of a missing one.
+  pub answered-fits : MapFits m
+  answered-fits = bounded-fits _ m (answered-bounded l limit code m e)
+
+  -- Reading what was written gives it back.
+  pub read-answered : read (bytes m) ≡ holds (plain m)
+  read-answered = read-written m answered-fits
+
+-- Equal bytes, equal maps, but for the states that a search keeps for destinations, which are not written.
+pub answered-once : (l k : Lent) (limit bound : ℕ) (code text : List ℕ) (m a : Map) → answer l limit code ≡ answered m → answer k bound text ≡ answered a
+    → bytes m ≡ bytes a → plain m ≡ plain a
+answered-once l k limit bound code text m a e f q =
+    let one = read-answered l limit code m e in
+    let other = read-answered k bound text a f in
+    let same : read (bytes m) ≡ read (bytes a) = ap read q in
+    cc

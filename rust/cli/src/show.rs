@@ -1,0 +1,61 @@
+//! `aznifrem show`: stored maps, read back.
+
+use std::io::{self, Write};
+use std::path::{Path, PathBuf};
+
+use crate::args::Print;
+use crate::files::{Kind, beneath};
+use crate::maps::{lines, titled};
+use crate::outcome::{Outcome, tell};
+use crate::stored;
+use crate::summary;
+
+pub fn run(inputs: &[PathBuf], print: Print, out: &mut impl Write) -> io::Result<Outcome> {
+    let mut outcome = Outcome::Fine;
+    let mut maps = Vec::new();
+    for input in inputs {
+        let (files, faults) = expanded(input);
+        for sentence in faults {
+            tell(&sentence);
+            outcome = Outcome::Found;
+        }
+        maps.extend(files);
+    }
+    for path in &maps {
+        let title = path.display().to_string();
+        match stored::read(path) {
+            Ok(stored) => {
+                let many = maps.len() > 1;
+                let text = match print {
+                    Print::Summary => summary::text(&title, &stored.map),
+                    Print::Lines => titled(many, &title, &lines(&stored.bytes)),
+                    Print::Json => titled(many, &title, &format!("{}\n", stored.map.to_json())),
+                };
+                out.write_all(text.as_bytes())?;
+            }
+            Err(sentence) => {
+                out.flush()?;
+                tell(&sentence);
+                outcome = Outcome::Found;
+            }
+        }
+    }
+    Ok(outcome)
+}
+
+/// The files that a word of the command line stands for, and a sentence for each fault.
+fn expanded(input: &Path) -> (Vec<PathBuf>, Vec<String>) {
+    if !input.is_dir() {
+        return (vec![input.to_path_buf()], Vec::new());
+    }
+    let mut found = beneath(input, Kind::Maps);
+    if found.files.is_empty() && found.faults.is_empty() {
+        let sentence = format!(
+            "{}: no map is in it; a map's file ends in .map",
+            input.display()
+        );
+        found.faults.push(sentence);
+    }
+    let files = found.files.into_iter().map(|map| map.path);
+    (files.collect(), found.faults)
+}
