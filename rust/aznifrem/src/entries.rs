@@ -10,7 +10,7 @@ pub struct Entry<'a> {
     pub body: Body<'a>,
 }
 
-/// The numbers of a body, by their places; a byte that is not there is 0.
+/// The numbers of a body, by their places; one whose bytes are not all there is 0.
 #[derive(Clone, Copy)]
 pub struct Body<'a>(&'a [u8]);
 

@@ -158,6 +158,8 @@ pub struct Unreadable {
 #[derive(Clone, Copy, Debug, PartialEq, Eq)]
 #[non_exhaustive]
 pub enum Fault {
+    /// There is no byte, and so no head.
+    Empty,
     /// The bytes end before it does.
     Cut,
     /// The first entry is no head.
@@ -188,8 +190,11 @@ pub enum Fault {
 
 impl fmt::Display for Unreadable {
     fn fmt(&self, f: &mut fmt::Formatter) -> fmt::Result {
-        write!(f, "the entry at byte {} ", self.offset)?;
+        if self.fault != Fault::Empty {
+            write!(f, "the entry at byte {} ", self.offset)?;
+        }
         match self.fault {
+            Fault::Empty => f.write_str("it is empty, and a map begins with a head"),
             Fault::Cut => f.write_str("is cut short"),
             Fault::NoHead => f.write_str("is no head, and a map begins with one"),
             Fault::UnknownKind(kind) => write!(f, "is of kind {kind}, which is not known"),

@@ -10,7 +10,7 @@ use crate::kinds::{
 pub fn fault(bytes: &[u8], offset: usize) -> Fault {
     let Some(entry) = entry_at(bytes, offset) else {
         return if bytes.is_empty() {
-            Fault::NoHead
+            Fault::Empty
         } else {
             Fault::Cut
         };

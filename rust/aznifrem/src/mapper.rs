@@ -69,7 +69,7 @@ impl Mapper {
     /// The map of a code, made with this energy limit.
     pub fn map(&mut self, code: &[u8], limit: u64) -> Result<Map, Error> {
         let bytes = self.entries(code, limit)?;
-        Map::from_bytes(bytes).map_err(Error::Unreadable)
+        Map::try_from_bytes(bytes)?.map_err(Error::Unreadable)
     }
 
     /// The map as the library writes it: the entries of document 01, to be stored.

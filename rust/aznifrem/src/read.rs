@@ -3,7 +3,7 @@
 use std::collections::BTreeMap;
 
 use crate::entries::{Body, Entry, entries};
-use crate::error::Unreadable;
+use crate::error::{NotRelayed, Unreadable};
 use crate::exported;
 use crate::fault::fault;
 use crate::kinds::{DYNAMIC_JUMP, DYNAMIC_JUMPI, FOUND, HEAD, JUMP, JUMPI, NOWHERE, RECORD};
@@ -52,15 +52,34 @@ impl Map {
     ///
     /// # Panics
     ///
-    /// As [`read`] does; no bytes make it panic.
+    /// As [`read`] does; no bytes make it panic. [`Map::try_from_bytes`] gives that as an error.
     pub fn from_bytes(bytes: &[u8]) -> Result<Map, Unreadable> {
-        let number = read(bytes);
+        match Map::try_from_bytes(bytes) {
+            Ok(read) => read,
+            Err(not_relayed) => panic!("{not_relayed}"),
+        }
+    }
+
+    /// The same; the outer error only where the machine is not x86-64 and the library cannot be
+    /// reached: then nothing is known of the bytes.
+    ///
+    /// ```
+    /// use aznifrem::{Error, Map};
+    ///
+    /// fn blocks(stored: &[u8]) -> Result<usize, Error> {
+    ///     let map = Map::try_from_bytes(stored)?;
+    ///     Ok(map.map_or(0, |map| map.blocks.len()))
+    /// }
+    /// assert_eq!(blocks(&[12, 0]), Ok(0));
+    /// ```
+    pub fn try_from_bytes(bytes: &[u8]) -> Result<Result<Map, Unreadable>, NotRelayed> {
+        let number = exported::aznifrem_read(bytes)?;
         if number == 0 {
-            return Ok(held(bytes));
+            return Ok(Ok(held(bytes)));
         }
         let offset = (number >> 8) as usize;
         let fault = fault(bytes, offset);
-        Err(Unreadable { offset, fault })
+        Ok(Err(Unreadable { offset, fault }))
     }
 }
 

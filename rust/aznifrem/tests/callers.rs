@@ -58,7 +58,7 @@ mod relays {
     use std::time::{Duration, Instant};
     use std::{env, fs, thread};
 
-    use aznifrem::{Error, HIGHEST_LIMIT, Mapper};
+    use aznifrem::{Error, HIGHEST_LIMIT, Map, Mapper};
 
     /// The processes that a process has started.
     fn children(process: u32) -> Vec<String> {
@@ -119,13 +119,22 @@ mod relays {
     #[test]
     #[ignore = "it is a process of its own"]
     fn kills_its_relay() {
+        let kill_relays = || children(id()).iter().for_each(|relay| kill(relay));
         let mut mapper = Mapper::new();
-        mapper.entries(&[0x00], 0).expect("answered");
-        children(id()).iter().for_each(|relay| kill(relay));
+        let stored = mapper.entries(&[0x00], 0).expect("answered").to_vec();
+        kill_relays();
         let error = mapper.entries(&[0x00], 0).expect_err("the relay is gone");
         assert!(matches!(error, Error::NotRelayed(_)));
         println!("told: {error}");
         assert_eq!(mapper.entries(&[0x00], 0).map(<[u8]>::len), Ok(29));
+        kill_relays();
+        let told = mapper.map(&[0x00], 0);
+        assert!(matches!(told, Err(Error::NotRelayed(_))), "{told:?}");
+        let map = mapper.map(&[0x00], 0).expect("answered");
+        kill_relays();
+        let told = Map::try_from_bytes(&stored).expect_err("the relay is gone");
+        assert_eq!(told.to_string(), error.to_string());
+        assert_eq!(Map::try_from_bytes(&stored), Ok(Ok(map)));
     }
 
     #[test]

@@ -1,6 +1,6 @@
 //! A code is refused for the ceiling only if what it needs is more than the ceiling.
 
-use aznifrem::{Error, HIGHEST_LIMIT, Lent, Mapper, call};
+use aznifrem::{Error, HIGHEST_LIMIT, Lent, Mapper, Room, call};
 use codes::Random;
 use codes::contract::{Style, sized};
 use codes::worst::{diamonds, doubling, fan, row};
@@ -95,4 +95,22 @@ fn any_ceiling_is_answered_or_named() {
         assert!(answers(&mut kept, &RETURN) && kept.lent() <= needs);
         assert!(answers(&mut kept, &[]) && kept.lent() <= needs);
     }
+}
+
+/// The text of this code has 185 bytes.
+#[test]
+fn the_texts_room_is_held_to_the_ceiling() {
+    let needs = needs(&RETURN);
+    let mut mapper = Mapper::with_ceiling(needs + 184);
+    match mapper.json(&RETURN, HIGHEST_LIMIT) {
+        Err(Error::RoomFull { room, ceiling, .. }) => {
+            assert_eq!((room, ceiling), (Room::Text, needs + 184));
+        }
+        other => panic!("not refused for the ceiling: {other:?}"),
+    }
+    assert!(mapper.lent() <= needs + 184);
+    let mut mapper = Mapper::with_ceiling(needs + 185);
+    let length = mapper.json(&RETURN, HIGHEST_LIMIT).map(str::len);
+    assert_eq!(length, Ok(185));
+    assert!(mapper.lent() <= needs + 185);
 }

@@ -59,7 +59,7 @@ fn good_maps_are_read_and_written_again() {
 
 #[test]
 fn a_map_begins_with_one_head() {
-    assert_eq!(fault(&[]), (0, Fault::NoHead));
+    assert_eq!(fault(&[]), (0, Fault::Empty));
     assert_eq!(fault(&[stop(0)]), (0, Fault::NoHead));
     assert_eq!(fault(&[head(0, 0), head(0, 0)]), (18, Fault::OutOfOrder(1)));
     assert_eq!(fault(&[head(0, 0)[..17].to_vec()]), (0, Fault::Cut));
@@ -144,6 +144,8 @@ fn the_sentences_say_which_thing_is_bad() {
         let unreadable = Map::from_bytes(&parts.concat()).expect_err("it is bad");
         unreadable.to_string()
     };
+    let empty = "it is empty, and a map begins with a head; make the map again";
+    assert!(said(&[]).starts_with(empty), "{}", said(&[]));
     for (parts, words) in [
         (
             &[head(0, 0), head(0, 0)][..],

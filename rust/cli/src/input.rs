@@ -34,11 +34,14 @@ pub fn decoded(bytes: Vec<u8>, form: Form) -> Result<Vec<u8>, String> {
             "is text, but not hexadecimal digits: link its libraries if it names some, or say --binary"
                 .into(),
         ),
-        Form::ToldApart if Map::from_bytes(&bytes).is_ok() => Err(
-            "is a stored map, not a contract: show prints it, diff compares it, and --binary maps it all the same"
-                .into(),
-        ),
-        Form::ToldApart => Ok(bytes),
+        Form::ToldApart => match Map::try_from_bytes(&bytes) {
+            Ok(Ok(_)) => Err(
+                "is a stored map, not a contract: show prints it, diff compares it, and --binary maps it all the same"
+                    .into(),
+            ),
+            Ok(Err(_)) => Ok(bytes),
+            Err(not_relayed) => Err(not_relayed.to_string()),
+        },
     }
 }
 

@@ -127,9 +127,11 @@ impl Job<'_> {
         match self.options.print {
             None | Some(Print::Json) => Ok(String::new()),
             Some(Print::Lines) => Ok(titled(self.many, &title, &lines(entries))),
-            Some(Print::Summary) => Map::from_bytes(entries)
+            Some(Print::Summary) => Map::try_from_bytes(entries)
+                .map_err(Error::from)
+                .and_then(|read| read.map_err(Error::Unreadable))
                 .map(|map| summary::text(&title, &map))
-                .map_err(|error| Error::Unreadable(error).to_string()),
+                .map_err(refusal),
         }
     }
 

@@ -21,9 +21,10 @@ pub fn read(path: &Path) -> Result<Stored, String> {
         fs::read(path)
     };
     let bytes = bytes.map_err(|error| unreadable(path, &error))?;
-    match Map::from_bytes(&bytes) {
-        Ok(map) => Ok(Stored { bytes, map }),
-        Err(bad) => Err(format!("{}: is no stored map: {bad}", path.display())),
+    match Map::try_from_bytes(&bytes) {
+        Ok(Ok(map)) => Ok(Stored { bytes, map }),
+        Ok(Err(bad)) => Err(format!("{}: is no stored map: {bad}", path.display())),
+        Err(not_relayed) => Err(format!("{}: {not_relayed}", path.display())),
     }
 }
 

@@ -191,8 +191,9 @@ fn stored_maps_are_shown() {
         titles[1].starts_with("maps/b.hex.map: bytes 1; blocks 1,"),
         "{out}"
     );
-    let (_, json, _) = all(&run(&here, &["show", "--json", "maps"]));
-    let (_, mapped, _) = all(&run(&here, &["--json", "code"]));
+    let (shown, json, _) = all(&run(&here, &["show", "--json", "maps"]));
+    let (made, mapped, _) = all(&run(&here, &["--json", "code"]));
+    assert_eq!((shown, made), (0, 0));
     let texts = |out: &str| -> Vec<String> {
         let lines = out.lines().filter(|line| !line.starts_with("== "));
         lines.map(str::to_string).collect()
@@ -224,7 +225,7 @@ fn what_is_no_map_is_told_with_its_place() {
                 "maps/late.map: is no stored map: the entry at byte 71 is of kind 3, a block, and stands after a record: blocks come first{again}"
             ),
             format!(
-                "maps/none.map: is no stored map: the entry at byte 0 is no head, and a map begins with one{again}"
+                "maps/none.map: is no stored map: it is empty, and a map begins with a head{again}"
             ),
         ]
     );
@@ -236,6 +237,30 @@ fn what_is_no_map_is_told_with_its_place() {
         ),
         (2, true)
     );
+}
+
+/// With five files open at most the program can start no relay.
+#[cfg(not(target_arch = "x86_64"))]
+#[test]
+fn a_library_that_cannot_be_reached_is_told() {
+    let here = folder("unreached");
+    put(&here, "code/a.bin", [0x60, 0x80]);
+    assert_eq!(all(&run(&here, &["--to", "maps", "code"])).0, 0);
+    for (words, exit, path) in [
+        (&["show", "maps"][..], 1, "maps/a.bin.map"),
+        (&["diff", "maps", "maps"], 2, "maps/a.bin.map"),
+        (&["--summary", "code/a.bin"], 1, "code/a.bin"),
+        (&["--summary", "--binary", "code/a.bin"], 1, "code/a.bin"),
+    ] {
+        let mut shell = std::process::Command::new("sh");
+        shell.args(["-c", "ulimit -n 5 && exec \"$0\" \"$@\""]);
+        shell.arg(env!("CARGO_BIN_EXE_aznifrem")).args(words);
+        let output = shell.current_dir(&here).output();
+        let (ended, _, said) = all(&output.expect("the shell runs"));
+        assert_eq!(ended, exit, "{words:?}: {said}");
+        let told = format!("{path}: the emulator of Rattle's kit at ");
+        assert!(said.starts_with(&told), "{words:?}: {said}");
+    }
 }
 
 #[test]

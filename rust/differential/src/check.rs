@@ -74,7 +74,9 @@ impl Checker {
         let lower = random.below(map.energy as usize + 2) as u64;
         self.call(code, lower, &longer(&exact, random), random)?;
         if random.percent(5) {
-            self.call(code, HIGHEST_LIMIT + 1 + random.word() % 9, &exact, random)?;
+            let over = HIGHEST_LIMIT + 1 + random.word() % 9;
+            let number = self.call(code, over, &exact, random)?.number;
+            json::refused(self.json, code, over, (&exact, number), random)?;
         }
         Ok(verdict)
     }
@@ -94,6 +96,7 @@ impl Checker {
                 let sentence = format!("{} bytes are answered {number}, not 1", code.len());
                 return Err(mismatch("number", sentence));
             }
+            json::refused(self.json, code, limit, (&lent, number), random)?;
         }
         Ok(Verdict::TooLong)
     }

@@ -11,8 +11,8 @@ use crate::port::JsonPort;
 /// The refusal of a text room that is short.
 const TEXT_SHORT: u64 = 11;
 
-/// The call at the highest limit, whose text is given; one with the text room short, where another
-/// room may be too; and in one of four a call at a lower limit, against the model's blocks.
+/// The call at the highest limit, whose text is given; one with the text room or another short, or
+/// both; and in one of four a call at a lower limit, against the model's blocks.
 pub fn calls(
     port: JsonPort,
     code: &[u8],
@@ -56,7 +56,7 @@ fn exactly(
 }
 
 /// With the text room short, by a byte, by half or by all, and half of the time another room: that
-/// one is named then, as the text comes last.
+/// one is named then, as the text comes last, and the text's room may be enough.
 fn scantly(
     port: JsonPort,
     code: &[u8],
@@ -70,13 +70,26 @@ fn scantly(
     } else {
         short(&exact, random)
     };
-    let less = random.pick(&[1, length.div_ceil(2), length]);
-    let given = call(port, code, HIGHEST_LIMIT, (lent, length - less), random)?;
-    let number = match model::map(&lent, HIGHEST_LIMIT, code) {
-        Ok(_) => TEXT_SHORT,
-        Err(refusal) => u64::from(refusal.number()),
+    let (number, least) = match model::map(&lent, HIGHEST_LIMIT, code) {
+        Ok(_) => (TEXT_SHORT, 1),
+        Err(refusal) => (u64::from(refusal.number()), 0),
     };
+    let less = random.pick(&[least, length.div_ceil(2), length]);
+    let given = call(port, code, HIGHEST_LIMIT, (lent, length - less), random)?;
     expect(&given, number, HIGHEST_LIMIT)
+}
+
+/// A refusal that looks at no room, 1 or 2: it has the same number here, and touches nothing.
+pub fn refused(
+    port: JsonPort,
+    code: &[u8],
+    limit: u64,
+    (lent, number): (&Lent, u64),
+    random: &mut Random,
+) -> Result<(), Mismatch> {
+    let length = random.below(200) as u64;
+    let given = call(port, code, limit, (*lent, length), random)?;
+    expect(&given, number, limit)
 }
 
 fn call(

@@ -4,16 +4,12 @@ use std::time::{Duration, Instant};
 
 /// How often a smaller code is tried before what there is has to do.
 const MOST_TRIALS: usize = 3_000;
-/// And for how long: the check of a long code takes hundredths of a second.
-const MOST_TIME: Duration = Duration::from_secs(20);
+/// And for how long, if nothing is said: the check of a long code takes hundredths of a second.
+pub const MOST_TIME: Duration = Duration::from_secs(20);
 
 /// Takes parts out, halves first and single bytes last, and then turns bytes into STOP or
-/// JUMPDEST, as long as the mismatch is still there.
-pub fn smaller(code: &[u8], shows: impl Fn(&[u8]) -> bool) -> Vec<u8> {
-    smaller_within(MOST_TIME, code, shows)
-}
-
-fn smaller_within(time: Duration, code: &[u8], shows: impl Fn(&[u8]) -> bool) -> Vec<u8> {
+/// JUMPDEST, as long as the mismatch is still there, and for so long at most.
+pub fn smaller(time: Duration, code: &[u8], shows: impl Fn(&[u8]) -> bool) -> Vec<u8> {
     let begun = Instant::now();
     let mut trials = 0;
     let mut shows = |code: &[u8]| {
@@ -66,7 +62,7 @@ fn plainer(best: &mut [u8], shows: &mut impl FnMut(&[u8]) -> bool) {
 
 #[cfg(test)]
 mod tests {
-    use super::{smaller, smaller_within};
+    use super::{MOST_TIME, smaller};
     use std::time::Duration;
 
     #[test]
@@ -75,27 +71,28 @@ mod tests {
         code[123] = 0x90;
         code[400] = 0xfe;
         let both = |code: &[u8]| code.contains(&0x90) && code.contains(&0xfe);
-        assert_eq!(smaller(&code, both), [0x90, 0xfe]);
+        assert_eq!(smaller(MOST_TIME, &code, both), [0x90, 0xfe]);
     }
 
     #[test]
     fn bytes_that_only_take_room_become_plain() {
         let code = vec![0x61; 5];
-        assert_eq!(smaller(&code, |code| code.len() == 5), [0; 5]);
+        assert_eq!(smaller(MOST_TIME, &code, |code| code.len() == 5), [0; 5]);
         assert_eq!(
-            smaller(&code, |code| code.len() > 2 && !code.contains(&0)),
+            smaller(MOST_TIME, &code, |code| code.len() > 2
+                && !code.contains(&0)),
             [0x5b; 3]
         );
     }
 
     #[test]
     fn no_code_is_tried_when_the_time_is_over() {
-        assert_eq!(smaller_within(Duration::ZERO, &[1, 2], |_| true), [1, 2]);
-        assert_eq!(smaller_within(Duration::MAX, &[1, 2], |_| true), []);
+        assert_eq!(smaller(Duration::ZERO, &[1, 2], |_| true), [1, 2]);
+        assert_eq!(smaller(Duration::MAX, &[1, 2], |_| true), []);
     }
 
     #[test]
     fn a_code_that_never_shows_again_is_given_back() {
-        assert_eq!(smaller(&[1, 2, 3], |_| false), [1, 2, 3]);
+        assert_eq!(smaller(MOST_TIME, &[1, 2, 3], |_| false), [1, 2, 3]);
     }
 }

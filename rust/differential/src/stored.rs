@@ -148,7 +148,7 @@ fn same_map(held: &Held, map: &Map, bytes: &[u8]) -> Result<(), Mismatch> {
 /// The thing of document 02's list that a fault is.
 fn named(fault: Fault) -> Bad {
     match fault {
-        Fault::NoHead => Bad::Head,
+        Fault::Empty | Fault::NoHead => Bad::Head,
         Fault::Counts => Bad::Counts,
         Fault::Start(_) => Bad::Start,
         Fault::UnknownKind(_) => Bad::Kind,

@@ -1,8 +1,10 @@
 //! What came of many codes.
 
+use std::time::Duration;
+
 use crate::check::{Checker, Verdict};
 use crate::mismatch::Mismatch;
-use crate::shrink::smaller;
+use crate::shrink::{MOST_TIME, smaller};
 
 /// Mismatches of a line that are written out; the others are counted.
 const WRITTEN_OUT: usize = 5;
@@ -19,6 +21,8 @@ pub struct Tally {
     pub different: u64,
     /// The first mismatches, each with its origin and a smaller code.
     pub written_out: Vec<String>,
+    /// For how long each is made smaller, if not for the usual time.
+    pub time: Option<Duration>,
 }
 
 impl Tally {
@@ -32,7 +36,8 @@ impl Tally {
             Err(mismatch) => {
                 self.different += 1;
                 if self.written_out.len() < WRITTEN_OUT {
-                    let text = written_out(checker, code, seed, origin, &mismatch);
+                    let time = self.time.unwrap_or(MOST_TIME);
+                    let text = written_out(checker, code, seed, (origin, &mismatch), time);
                     self.written_out.push(text);
                 }
             }
@@ -58,14 +63,14 @@ fn written_out(
     checker: &Checker,
     code: &[u8],
     seed: u64,
-    origin: &str,
-    mismatch: &Mismatch,
+    (origin, mismatch): (&str, &Mismatch),
+    time: Duration,
 ) -> String {
     let shows = |code: &[u8]| {
         let found = checker.check(code, seed).err();
         found.is_some_and(|found| found.kind == mismatch.kind)
     };
-    let small = smaller(code, shows);
+    let small = smaller(time, code, shows);
     let last = checker.check(&small, seed).err();
     let sentence = last.map_or(mismatch.sentence.clone(), |found| found.sentence);
     let whole = if code.len() > LONGEST_PRINTED {

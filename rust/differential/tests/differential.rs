@@ -1,6 +1,7 @@
 //! The library on a small part of the codes, and faults that must be found.
 
 use std::collections::BTreeSet;
+use std::time::Duration;
 
 use aznifrem::{HIGHEST_LIMIT, Lent, call};
 use codes::{Random, exhaustive};
@@ -140,7 +141,11 @@ fn entries(bytes: &[u8], kind: u8) -> Vec<usize> {
 
 /// The first mismatch among some thousand codes, written out.
 fn found(checker: Checker) -> String {
-    let mut tally = Tally::default();
+    // Trials alone bound how small the code becomes, not the machine's pace.
+    let mut tally = Tally {
+        time: Some(Duration::MAX),
+        ..Tally::default()
+    };
     let mut seeds = Random::new(77);
     let light = FAMILIES.iter().filter(|family| family.share >= 200);
     for family in light.cycle().take(6_000) {
@@ -276,6 +281,10 @@ fn finds_in_too_long(port: Port, kind: &str) {
         port,
         ..Checker::LIBRARY
     };
+    finds_in_too_long_behind(checker, kind);
+}
+
+fn finds_in_too_long_behind(checker: Checker, kind: &str) {
     let found = too_long_codes(40).find_map(|(seed, code)| checker.check(&code, seed).err());
     assert_eq!(found.map(|found| found.kind), Some(kind));
 }
@@ -332,6 +341,12 @@ fn a_code_with_1e_is_held_against_the_model_alone() {
     assert_eq!(verdict, Verdict::OutsideTheDomain);
 }
 
+/// The plain writer's text of a code that is answered.
+fn said(code: &[u8], limit: u64) -> String {
+    let map = model::map(&model::Lent::ALL, limit, code).expect("it is answered in enough");
+    agree::json::of_model(&map.blocks)
+}
+
 /// The model and the plain writer behind the call with a text, which is bent before it is written.
 fn told(
     code: &[u8],
@@ -345,8 +360,7 @@ fn told(
     if number < 18 {
         return number;
     }
-    let map = model::map(&model::Lent::ALL, limit, code).expect("it was answered");
-    let said = bend(agree::json::of_model(&map.blocks));
+    let said = bend(said(code, limit));
     if said.len() > text.len() {
         rooms.out.copy_from_slice(&out);
         return 11;
@@ -393,6 +407,46 @@ fn a_text_that_is_touched_by_a_refusal_is_found() {
         number
     };
     finds_in_text(json, "lent bytes", 20);
+}
+
+#[test]
+fn a_text_that_is_touched_by_nine_only_where_its_room_is_enough_is_found() {
+    let json: JsonPort = |code, limit, rooms, text| {
+        let number = told(code, limit, rooms, text, |said| said);
+        if number == 9 && said(code, limit).len() <= text.len() {
+            text.fill(0);
+        }
+        number
+    };
+    finds_in_text(json, "lent bytes", 20);
+}
+
+#[test]
+fn a_text_that_is_touched_because_the_limit_is_too_high_is_found() {
+    let json: JsonPort = |code, limit, rooms, text| {
+        let number = told(code, limit, rooms, text, |said| said);
+        if number == 2 {
+            text.fill(0);
+        }
+        number
+    };
+    finds_in_text(json, "lent bytes", 20);
+}
+
+#[test]
+fn a_text_that_is_touched_because_the_code_is_too_long_is_found() {
+    let json: JsonPort = |code, limit, rooms, text| {
+        let number = told(code, limit, rooms, text, |said| said);
+        if number == 1 {
+            text.fill(0);
+        }
+        number
+    };
+    let checker = Checker {
+        json,
+        ..Checker::LIBRARY
+    };
+    finds_in_too_long_behind(checker, "lent bytes");
 }
 
 #[test]
