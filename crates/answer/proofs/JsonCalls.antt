@@ -13,7 +13,7 @@ use Rattle.spec.specs.Answer.{refused, answered, numberOf, written, output-afte
 use Rattle.spec.specs.JsonAnswer.{json-answer, texted, text-after}
 use Rattle.theorems.proofs.Demand3.{Lends}
 use Rattle.theorems.proofs.JsonCall.{json-begins, json-again}
-use Rattle.steps.specs.Runs.{Mem}
+use Rattle.layout.specs.Buffers.{Mem}
 use Rattle.answer.specs.Contracts.{lentOf, MappedBoth}
 use Rattle.answer.specs.declared.both.Both.{Both}
 

@@ -1,19 +1,20 @@
 -- The refusals that touch nothing, and the rooms wiped after all others. Assumes nothing.
-use mathlib.Core.Path.{_≡_, refl, sym, ap, subst, _∙_}
-use Prim.Native.Nat.{ℕ, _+_, _*_, _≤_, _<_}
+use mathlib.Core.Path.{_≡_, refl, sym, ap, _∙_, subst}
+use Prim.Native.Nat.{ℕ, _≤_, _<_}
+use native.Mathlib.Omega.{arith}
 use mathlib.Core.Bool.{true}
 use mathlib.Core.List.{List}
 use lib.Dec.{ltb}
 use lib.ListN.{length, replicate}
-use borrow.Author.Tests.{lt-ltb, le-ltb}
+use borrow.Author.Tests.{ltb-true, ltb-false, lt-ltb, le-ltb}
 use Rattle.spec.specs.Lists.{within}
-use Rattle.spec.specs.Rooms.{Lent}
+use Rattle.spec.specs.Rooms.{Lent, longest, work-need}
 use Rattle.spec.specs.Answer as spec
 use Rattle.spec.specs.Answer.{refused, numberOf, written, searched, mapped, answer, room-after, output-after}
+use Rattle.layout.specs.Buffers.{Mem}
+use Rattle.laws.proofs.Branch.{both, if-true, if-false}
+use Rattle.answer.specs.Contracts.{lentOf, Lends, earlyOf, rest, Ran, Wiped, Mapped, RanBoth, MappedBoth}
 use Rattle.spec.specs.JsonAnswer.{within-text, json-answer, texted, text-after}
-use Rattle.theorems.proofs.Branch.{if-true, if-false}
-use Rattle.steps.specs.Runs.{Mem}
-use Rattle.answer.specs.Contracts.{lentOf, Lends, rest, Ran, Wiped, Mapped, RanBoth, MappedBoth}
 use Rattle.answer.specs.declared.map.Answer.{Answer}
 use Rattle.answer.specs.declared.both.Both.{Both}
 use Rattle.answer.proofs.Numbers.{Late, late-shortage, late-rest, late-text, late-apart}
@@ -28,28 +29,50 @@ wiped x late b b₁ e f = f ∙ ap (λ (n : ℕ). replicate n 0) e ∙ sym (if-f
 
 -- ---- the tests in their order
 
+-- what the first that applies says
+data Early (n limit w x : ℕ) : Type 0 where
+  long : x ≡ 1 → longest < n → Early n limit w x
+  over : x ≡ 2 → n ≤ longest → 500000 < limit → Early n limit w x
+  scant : x ≡ 3 → n ≤ longest → limit ≤ 500000 → w < work-need n → Early n limit w x
+  taken : x ≡ 0 → n ≤ longest → limit ≤ 500000 → work-need n ≤ w → Early n limit w x
+
+tested : (n limit w : ℕ) → Early n limit w (earlyOf n limit w)
+tested n limit w =
+    both (Early n limit w) (ltb longest n) (λ on. long refl (ltb-true _ _ on))
+    (λ short. both (Early n limit w) (ltb 500000 limit) (λ on. over refl (ltb-false _ _ short) (ltb-true _ _ on))
+    (λ limited. both (Early n limit w) (ltb w (work-need n)) (λ on. scant refl (ltb-false _ _ short) (ltb-false _ _ limited) (ltb-true _ _ on))
+    (λ lent. taken refl (ltb-false _ _ short) (ltb-false _ _ limited) (ltb-false _ _ lent))))
+
 module _ (limit : ℕ) (code : List ℕ) (l : Lent) where
-  answer-long : 24576 < length code → answer l limit code ≡ refused 1
+  -- the answer is the first of them
+  refuses : {x : ℕ} → Early (length code) limit (l .w) x → (x ≡ 0 → ⊥) → (within 1 3 x ≡ true) × (answer l limit code ≡ refused x)
   unfolding answer
-  answer-long h = if-true (ltb 24576 (length code)) _ _ (lt-ltb _ _ h)
+  refuses (long e h) z = rw e (refl, if-true (ltb longest (length code)) _ _ (lt-ltb _ _ h))
+  refuses (over e short h) z =
+      rw e (refl, if-false (ltb longest (length code)) _ _ (le-ltb _ _ short) ∙ if-true (ltb 500000 limit) _ _ (lt-ltb _ _ h))
+  refuses (scant e short limited h) z =
+      rw e (
+        refl,
+        if-false (ltb longest (length code)) _ _ (le-ltb _ _ short) ∙ if-false (ltb 500000 limit) _ _ (le-ltb _ _ limited)
+            ∙ if-true (ltb (l .w) (work-need (length code))) _ _ (lt-ltb _ _ h),
+      )
+  refuses (taken e short limited lent) z = absurd (z e)
 
-  module _ (short : length code ≤ 24576) where
-    answer-limit : 500000 < limit → answer l limit code ≡ refused 2
-    unfolding answer
-    answer-limit h = if-false (ltb 24576 (length code)) _ _ (le-ltb _ _ short) ∙ if-true (ltb 500000 limit) _ _ (lt-ltb _ _ h)
+  answer-rest : length code ≤ longest → limit ≤ 500000 → work-need (length code) ≤ l .w → answer l limit code ≡ rest l limit code
+  unfolding answer
+  answer-rest short limited lent =
+      if-false (ltb longest (length code)) _ _ (le-ltb _ _ short) ∙ if-false (ltb 500000 limit) _ _ (le-ltb _ _ limited)
+      ∙ if-false (ltb (l .w) (work-need (length code))) _ _ (le-ltb _ _ lent)
 
-    module _ (limited : limit ≤ 500000) where
-      answer-scant : l .w < 64 * length code + 256 → answer l limit code ≡ refused 3
-      unfolding answer
-      answer-scant h =
-          if-false (ltb 24576 (length code)) _ _ (le-ltb _ _ short) ∙ if-false (ltb 500000 limit) _ _ (le-ltb _ _ limited)
-          ∙ if-true (ltb (l .w) (64 * length code + 256)) _ _ (lt-ltb _ _ h)
-
-      answer-rest : 64 * length code + 256 ≤ l .w → answer l limit code ≡ rest l limit code
-      unfolding answer
-      answer-rest lent =
-          if-false (ltb 24576 (length code)) _ _ (le-ltb _ _ short) ∙ if-false (ltb 500000 limit) _ _ (le-ltb _ _ limited)
-          ∙ if-false (ltb (l .w) (64 * length code + 256)) _ _ (le-ltb _ _ lent)
+-- where none applies the code is taken
+pub early-lends : {limit x : ℕ} {code w : List ℕ} → x ≡ earlyOf (length code) limit (length w) → x ≡ 0 → Lends limit code w
+early-lends {limit} {x} {code} {w} is z = by (subst (Early (length code) limit (length w)) (sym is) (tested _ _ _)) z
+  where
+    by : Early (length code) limit (length w) x → x ≡ 0 → Lends limit code w
+    by (long e h) z = absurd (omega arith)
+    by (over e short h) z = absurd (omega arith)
+    by (scant e short limited h) z = absurd (omega arith)
+    by (taken e short limited lent) z = record { short = short; limited = limited; lent = lent }
 
 late-all : (limit : ℕ) (code : List ℕ) (l : Lent) → Late (numberOf (rest l limit code))
 late-all limit code l = late-rest l (mapped code (searched limit code)) _ (late-shortage l (searched limit code .needs))
@@ -71,40 +94,31 @@ module _ (limit : ℕ) (code : List ℕ) (m : Mem) (out : List ℕ) where
         q = same (m .q);
       }
 
-  pub mapped-long : {a : Answer} → 24576 < length code → a ≡ record { number = 1; written = 0 } → Mapped limit code m out m out a
-  mapped-long h e = rw e (untouched 1 refl (answer-long limit code (lentOf m out) h))
+  pub mapped-early : {x : ℕ} {a : Answer} → x ≡ earlyOf (length code) limit (length (m .w)) → (x ≡ 0 → ⊥) → a ≡ record { number = x; written = 0 }
+      → Mapped limit code m out m out a
+  mapped-early {x} is z e =
+      let k = refuses limit code (lentOf m out) (subst (Early (length code) limit (length (m .w))) (sym is) (tested _ _ _)) z in
+      rw e (untouched x (k .0) (k .1))
 
-  module _ (short : length code ≤ 24576) where
-    pub mapped-limit : {a : Answer} → 500000 < limit → a ≡ record { number = 2; written = 0 } → Mapped limit code m out m out a
-    mapped-limit h e = rw e (untouched 2 refl (answer-limit limit code (lentOf m out) short h))
-
-    module _ (limited : limit ≤ 500000) where
-      pub mapped-scant : {a : Answer} → length (m .w) < 64 * length code + 256 → a ≡ record { number = 3; written = 0 } → Mapped limit code m out m out a
-      mapped-scant h e = rw e (untouched 3 refl (answer-scant limit code (lentOf m out) short limited h))
-
-      module _ (lent : 64 * length code + 256 ≤ length (m .w)) where
-        pub map-lends : Lends limit code (m .w)
-        map-lends = record { short = short; limited = limited; lent = lent }
-
-        module _ {m₁ m′ : Mem} {out′ : List ℕ} {a : Answer} (ran : Ran limit code m out out′ a) (x : Wiped m₁ m′) where
-          pub mapped-run : length (m₁ .w) ≡ length (m .w) → length (m₁ .p) ≡ length (m .p) → length (m₁ .s) ≡ length (m .s) → length (m₁ .t) ≡ length (m .t)
-              → length (m₁ .r) ≡ length (m .r) → length (m₁ .q) ≡ length (m .q) → Mapped limit code m out m′ out′ a
-          mapped-run ew ep es et er eq =
-              let is : answer (lentOf m out) limit code ≡ rest (lentOf m out) limit code = answer-rest limit code (lentOf m out) short limited lent in
-              let late : Late (numberOf (answer (lentOf m out) limit code)) = subst (λ (y : spec.Answer). Late (numberOf y)) (sym is) (late-all limit code (lentOf m out)) in
-              record {
-                tells = record {
-                  number = ran .number ∙ sym (ap numberOf is);
-                  count = ran .count ∙ sym (ap (λ (y : spec.Answer). length (written y)) is);
-                  out-is = ran .out-is ∙ sym (ap (λ (y : spec.Answer). output-after y out) is);
-                };
-                w = wiped (answer (lentOf m out) limit code) late (m .w) (m₁ .w) ew (x .w);
-                p = wiped (answer (lentOf m out) limit code) late (m .p) (m₁ .p) ep (x .p);
-                s = wiped (answer (lentOf m out) limit code) late (m .s) (m₁ .s) es (x .s);
-                t = wiped (answer (lentOf m out) limit code) late (m .t) (m₁ .t) et (x .t);
-                r = wiped (answer (lentOf m out) limit code) late (m .r) (m₁ .r) er (x .r);
-                q = wiped (answer (lentOf m out) limit code) late (m .q) (m₁ .q) eq (x .q);
-              }
+  module _ (h : Lends limit code (m .w)) {m₁ m′ : Mem} {out′ : List ℕ} {a : Answer} (ran : Ran limit code m out out′ a) (x : Wiped m₁ m′) where
+    pub mapped-run : length (m₁ .w) ≡ length (m .w) → length (m₁ .p) ≡ length (m .p) → length (m₁ .s) ≡ length (m .s) → length (m₁ .t) ≡ length (m .t)
+        → length (m₁ .r) ≡ length (m .r) → length (m₁ .q) ≡ length (m .q) → Mapped limit code m out m′ out′ a
+    mapped-run ew ep es et er eq =
+        let is : answer (lentOf m out) limit code ≡ rest (lentOf m out) limit code = answer-rest limit code (lentOf m out) (h .short) (h .limited) (h .lent) in
+        let late : Late (numberOf (answer (lentOf m out) limit code)) = subst (λ (y : spec.Answer). Late (numberOf y)) (sym is) (late-all limit code (lentOf m out)) in
+        record {
+          tells = record {
+            number = ran .number ∙ sym (ap numberOf is);
+            count = ran .count ∙ sym (ap (λ (y : spec.Answer). length (written y)) is);
+            out-is = ran .out-is ∙ sym (ap (λ (y : spec.Answer). output-after y out) is);
+          };
+          w = wiped (answer (lentOf m out) limit code) late (m .w) (m₁ .w) ew (x .w);
+          p = wiped (answer (lentOf m out) limit code) late (m .p) (m₁ .p) ep (x .p);
+          s = wiped (answer (lentOf m out) limit code) late (m .s) (m₁ .s) es (x .s);
+          t = wiped (answer (lentOf m out) limit code) late (m .t) (m₁ .t) et (x .t);
+          r = wiped (answer (lentOf m out) limit code) late (m .r) (m₁ .r) er (x .r);
+          q = wiped (answer (lentOf m out) limit code) late (m .q) (m₁ .q) eq (x .q);
+        }
 
 -- ---- with the text
 
@@ -135,37 +149,31 @@ module _ (limit : ℕ) (code : List ℕ) (m : Mem) (out text : List ℕ) where
         q = same (m .q);
       }
 
-  pub both-long : {a : Both} → 24576 < length code → a ≡ record { number = 1; written = 0; texted = 0 } → MappedBoth limit code m out text m out text a
-  both-long h e = rw e (untouched-both 1 refl (given-as (answer-long limit code (lentOf m out) h)))
+  pub both-early : {x : ℕ} {a : Both} → x ≡ earlyOf (length code) limit (length (m .w)) → (x ≡ 0 → ⊥) → a ≡ record { number = x; written = 0; texted = 0 }
+      → MappedBoth limit code m out text m out text a
+  both-early {x} is z e =
+      let k = refuses limit code (lentOf m out) (subst (Early (length code) limit (length (m .w))) (sym is) (tested _ _ _)) z in
+      rw e (untouched-both x (k .0) (given-as (k .1)))
 
-  module _ (short : length code ≤ 24576) where
-    pub both-limit : {a : Both} → 500000 < limit → a ≡ record { number = 2; written = 0; texted = 0 } → MappedBoth limit code m out text m out text a
-    both-limit h e = rw e (untouched-both 2 refl (given-as (answer-limit limit code (lentOf m out) short h)))
-
-    module _ (limited : limit ≤ 500000) where
-      pub both-scant : {a : Both} → length (m .w) < 64 * length code + 256 → a ≡ record { number = 3; written = 0; texted = 0 } → MappedBoth limit code m out text m out text a
-      both-scant h e = rw e (untouched-both 3 refl (given-as (answer-scant limit code (lentOf m out) short limited h)))
-
-      module _ (lent : 64 * length code + 256 ≤ length (m .w)) where
-        module _ {m₁ m′ : Mem} {out′ text′ : List ℕ} {a : Both} (ran : RanBoth limit code m out out′ text text′ a) (x : Wiped m₁ m′) where
-          pub both-run : length (m₁ .w) ≡ length (m .w) → length (m₁ .p) ≡ length (m .p) → length (m₁ .s) ≡ length (m .s) → length (m₁ .t) ≡ length (m .t)
-              → length (m₁ .r) ≡ length (m .r) → length (m₁ .q) ≡ length (m .q) → MappedBoth limit code m out text m′ out′ text′ a
-          both-run ew ep es et er eq =
-              let is : given ≡ within-text (length text) (rest (lentOf m out) limit code) = given-as (answer-rest limit code (lentOf m out) short limited lent) in
-              let late : Late (numberOf given)
-              = subst (λ (y : spec.Answer). Late (numberOf y)) (sym is) (late-text (length text) (rest (lentOf m out) limit code) (late-all limit code (lentOf m out))) in
-              record {
-                tells = record {
-                  number = ran .number ∙ sym (ap numberOf is);
-                  count = ran .count ∙ sym (ap (λ (y : spec.Answer). length (written y)) is);
-                  shows = ran .shows ∙ sym (ap (λ (y : spec.Answer). length (texted y)) is);
-                  out-is = ran .out-is ∙ sym (ap (λ (y : spec.Answer). output-after y out) is);
-                  text-is = ran .text-is ∙ sym (ap (λ (y : spec.Answer). text-after y text) is);
-                };
-                w = wiped given late (m .w) (m₁ .w) ew (x .w);
-                p = wiped given late (m .p) (m₁ .p) ep (x .p);
-                s = wiped given late (m .s) (m₁ .s) es (x .s);
-                t = wiped given late (m .t) (m₁ .t) et (x .t);
-                r = wiped given late (m .r) (m₁ .r) er (x .r);
-                q = wiped given late (m .q) (m₁ .q) eq (x .q);
-              }
+  module _ (h : Lends limit code (m .w)) {m₁ m′ : Mem} {out′ text′ : List ℕ} {a : Both} (ran : RanBoth limit code m out out′ text text′ a) (x : Wiped m₁ m′) where
+    pub both-run : length (m₁ .w) ≡ length (m .w) → length (m₁ .p) ≡ length (m .p) → length (m₁ .s) ≡ length (m .s) → length (m₁ .t) ≡ length (m .t)
+        → length (m₁ .r) ≡ length (m .r) → length (m₁ .q) ≡ length (m .q) → MappedBoth limit code m out text m′ out′ text′ a
+    both-run ew ep es et er eq =
+        let is : given ≡ within-text (length text) (rest (lentOf m out) limit code) = given-as (answer-rest limit code (lentOf m out) (h .short) (h .limited) (h .lent)) in
+        let late : Late (numberOf given)
+        = subst (λ (y : spec.Answer). Late (numberOf y)) (sym is) (late-text (length text) (rest (lentOf m out) limit code) (late-all limit code (lentOf m out))) in
+        record {
+          tells = record {
+            number = ran .number ∙ sym (ap numberOf is);
+            count = ran .count ∙ sym (ap (λ (y : spec.Answer). length (written y)) is);
+            shows = ran .shows ∙ sym (ap (λ (y : spec.Answer). length (texted y)) is);
+            out-is = ran .out-is ∙ sym (ap (λ (y : spec.Answer). output-after y out) is);
+            text-is = ran .text-is ∙ sym (ap (λ (y : spec.Answer). text-after y text) is);
+          };
+          w = wiped given late (m .w) (m₁ .w) ew (x .w);
+          p = wiped given late (m .p) (m₁ .p) ep (x .p);
+          s = wiped given late (m .s) (m₁ .s) es (x .s);
+          t = wiped given late (m .t) (m₁ .t) et (x .t);
+          r = wiped given late (m .r) (m₁ .r) er (x .r);
+          q = wiped given late (m .q) (m₁ .q) eq (x .q);
+        }

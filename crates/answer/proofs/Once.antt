@@ -2,7 +2,7 @@
 use mathlib.Core.Path.{_≡_, sym, _∙_}
 use mathlib.Core.List.{List}
 use Prim.Native.Nat.{ℕ}
-use Rattle.steps.specs.Runs.{Mem}
+use Rattle.layout.specs.Buffers.{Mem}
 use Rattle.answer.specs.Contracts.{Mapped, MappedBoth}
 use Rattle.answer.specs.declared.map.Answer.{Answer}
 use Rattle.answer.specs.declared.both.Both.{Both}

@@ -14,8 +14,8 @@ use Rattle.spec.specs.Json as spec-json
 use Rattle.spec.specs.Answer as spec
 use Rattle.spec.specs.Answer.{refused, answered, searched, mapped, within-out, within-rooms, numberOf}
 use Rattle.spec.specs.JsonAnswer.{within-text}
-use Rattle.theorems.proofs.Branch.{both, if-true, if-false}
-use Rattle.steps.specs.Runs.{Mem}
+use Rattle.layout.specs.Buffers.{Mem}
+use Rattle.laws.proofs.Branch.{both, if-true, if-false}
 use Rattle.entries.specs.Contracts.{mapOf, Writes, Sized, Written}
 use Rattle.entries.proofs.Given.{out-after, out-number, bytes-some}
 use Rattle.json.specs.Contracts as texts

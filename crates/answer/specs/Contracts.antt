@@ -1,14 +1,16 @@
 -- What a call gives and leaves, against document 01's answer. Assumes nothing.
 use mathlib.Core.Path.{_≡_}
-use Prim.Native.Nat.{ℕ, _+_, _*_, _^_, _≤_, _<_}
+use Prim.Native.Nat.{ℕ, _≤_, _^_, _<_}
 use mathlib.Core.List.{List}
+use lib.Dec.{ltb}
 use lib.ListN.{length, replicate}
+use Rattle.spec.specs.Lists.{if}
+use Rattle.spec.specs.Rooms.{Lent, shortage, longest, work-need}
 use Rattle.spec.specs.Search.{Rec}
-use Rattle.spec.specs.Rooms.{Lent, shortage}
 use Rattle.spec.specs.Answer as spec
 use Rattle.spec.specs.Answer.{numberOf, written, searched, mapped, within-out, within-rooms, answer, room-after, output-after}
 use Rattle.spec.specs.JsonAnswer.{within-text, json-answer, texted, text-after}
-use Rattle.steps.specs.Runs.{Mem}
+use Rattle.layout.specs.Buffers.{Mem}
 use Rattle.entries.specs.Contracts.{mapOf, Ends}
 use Rattle.answer.specs.declared.find.Found.{Found}
 use Rattle.answer.specs.declared.map.Answer.{Answer}
@@ -20,9 +22,13 @@ lentOf m out = record { w = length (m .w); p = length (m .p); s = length (m .s);
 
 -- the code is taken, and W is not short
 pub record Lends (limit : ℕ) (code w : List ℕ) : Type 0 where
-  pub short : length code ≤ 24576
+  pub short : length code ≤ longest
   pub limited : limit ≤ 500000
-  pub lent : 64 * length code + 256 ≤ length w
+  pub lent : work-need (length code) ≤ length w
+
+-- "1, 2, 3 are tested in that order": the first that applies, 0 if none does
+abbrev pub earlyOf : ℕ → ℕ → ℕ → ℕ
+earlyOf n limit w = if (ltb longest n) 1 (if (ltb 500000 limit) 2 (if (ltb w (work-need n)) 3 0))
 
 -- ---- the map in the rooms
 
@@ -31,7 +37,7 @@ pub record Leaves (limit : ℕ) (code w r q : List ℕ) (m energy : ℕ) : Type 
   pub recs : List Rec
   pub ends : Ends w r q (length code) m code recs
   pub is : mapOf code recs energy ≡ mapped code (searched limit code)
-  pub short : length code ≤ 24576
+  pub short : length code ≤ longest
   pub small : energy < 2 ^ 32
 
 -- the number of the first shortage, whatever the output's length; or 0, and the map is left

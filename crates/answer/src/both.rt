@@ -1,4 +1,5 @@
 // The answer, and the JSON text of its blocks beside it.
+use crate::early::early;
 use crate::find::find;
 use crate::map::wipe_rooms;
 use entries::entries_size;
@@ -7,7 +8,7 @@ use json::text_size;
 use json::write_text;
 use lent::units;
 ghost use mathlib.Core.Path.{_≡_};
-ghost use Rattle.steps.specs.Runs.{buffers};
+ghost use Rattle.layout.specs.Buffers.{buffers};
 ghost use Rattle.entries.specs.Contracts.{Writes};
 ghost use Rattle.answer.specs.Contracts.{Lends, PutBoth, RanBoth, MappedBoth};
 
@@ -92,15 +93,9 @@ pub fn map_json(
         (now (out .entry)) (now (text .entry)) (buffers (now (w .exit)) (now (p .exit)) (now (s .exit)) (now (t .exit)) (now (r .exit)) (now (q .exit)))
         (now (out .exit)) (now (text .exit)) a ⌝ }
 {
-    let n = code.len();
-    if 24576 < n {
-        return refused_both(1);
-    }
-    if 500000 < limit {
-        return refused_both(2);
-    }
-    if w.len() < 64 * n + 256 {
-        return refused_both(3);
+    let number = early(code.len(), limit, w.len());
+    if number != 0 {
+        return refused_both(number);
     }
     let a = run_both(limit, code, w, p, s, t, r, q, out, text);
     wipe_rooms(w, p, s, t, r, q);

@@ -9,7 +9,7 @@ use Rattle.spec.specs.Answer as spec
 use Rattle.spec.specs.Answer.{refused, answered, numberOf, written, exported}
 use Rattle.spec.specs.JsonAnswer.{json-answer, texted, exported-json}
 use Rattle.theorems.proofs.JsonCall.{gave-text}
-use Rattle.steps.specs.Runs.{Mem}
+use Rattle.layout.specs.Buffers.{Mem}
 use Rattle.answer.specs.Contracts.{lentOf, Mapped, MappedBoth}
 use Rattle.answer.specs.declared.map.Answer.{Answer}
 use Rattle.answer.specs.declared.both.Both.{Both}

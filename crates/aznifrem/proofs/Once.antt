@@ -2,7 +2,7 @@
 use mathlib.Core.Path.{_≡_, sym, _∙_}
 use mathlib.Core.List.{List}
 use Prim.Native.Nat.{ℕ}
-use Rattle.steps.specs.Runs.{Mem}
+use Rattle.layout.specs.Buffers.{Mem}
 use Rattle.answer.proofs.Once.{same-rooms}
 use Rattle.aznifrem.specs.Contracts.{Exported, ExportedJson}
 

@@ -1,4 +1,4 @@
--- The ways out of aznifrem_read, and that its contract leaves no choice. Assumes nothing.
+-- The ways out of aznifrem_read. Assumes nothing.
 use mathlib.Core.Path.{_≡_, sym, ap, _∙_}
 use Prim.Native.Nat.{ℕ, _+_, _*_, _-_, _^_, _≤_, _<_}
 use native.Mathlib.Omega.{arith}
@@ -6,7 +6,7 @@ use mathlib.Core.List.{List}
 use lib.Dec.{ltb}
 use borrow.Author.Tests.{lt-ltb, le-ltb}
 use Rattle.spec.specs.Reader.{Reading as Said, holds, bad, read, told, reads-as}
-use Rattle.theorems.proofs.Branch.{if-true, if-false}
+use Rattle.laws.proofs.Branch.{if-true, if-false}
 use Rattle.reader.specs.Scanning.{readingOf}
 use Rattle.reader.specs.declared.scan.Reading.{Reading}
 
@@ -29,6 +29,3 @@ module _ (b : List ℕ) {r : Reading} (e : r ≡ readingOf (read b)) where
 
     pub read-beyond : 2 ^ 56 ≤ r .offset → 12 + 256 * (2 ^ 56 - 1) ≡ reads-as (read b)
     read-beyond h = sym (ap (λ (x : ℕ). 12 + 256 * x) (if-false (ltb (r .offset) (2 ^ 56)) (r .offset) (2 ^ 56 - 1) (le-ltb _ _ h))) ∙ reads-bad (read b) e n
-
-pub one-read : (b : List ℕ) {x y : ℕ} → x ≡ reads-as (read b) → y ≡ reads-as (read b) → x ≡ y
-one-read b p q = p ∙ sym q

@@ -7,7 +7,7 @@ use reader::read;
 ghost use mathlib.Core.Path.{_≡_};
 ghost use Rattle.spec.specs.Reader as definitions;
 ghost use Rattle.spec.specs.Reader.{reads-as};
-ghost use Rattle.steps.specs.Runs.{buffers};
+ghost use Rattle.layout.specs.Buffers.{buffers};
 ghost use Rattle.aznifrem.specs.Contracts.{Exported, ExportedJson};
 
 // Maps a code at an energy limit over seven lent buffers; gives the number of the refusal, or the bytes written, which are never under 18 (`answered-long`).

@@ -8,12 +8,9 @@ mod row;
 mod whole;
 
 pub use kept::is_kept;
-pub use listing::NOWHERE;
 pub use listing::first_row;
 pub use listing::is_listed;
 pub use listing::next_row;
-pub use row::EDGE;
-pub use row::GOAL;
 pub use row::begin_of;
 pub use row::path_of;
 pub use whole::entries_size;

@@ -92,6 +92,14 @@ pub ranged : (w : ℕ → Words) (a n : ℕ) → T (every (named-or w) a n) → 
 unfolding named-or
 ranged w a n t {x} o h g e = rw e (words-are (w x) x (or-else (among named x) (fits (w x) x) (every-at (named-or w) n a x t h g) (unnamed (Unit {0}) named x o)))
 
+-- ---- known and unknown bytes, a range each
+
+abbrev pub known-as : Bool → ℕ → Bool
+known-as v k = Bool·beq v (row k .known)
+
+pub known-range : (v : Bool) (a n : ℕ) → T (every (known-as v) a n) → {x : ℕ} → a ≤ x → x < a + n → v ≡ row x .known
+known-range v a n t {x} h g = beq→eq v (row x .known) (every-at (known-as v) n a x t h g)
+
 -- ---- the whole row
 
 sized : ℕ → Bool

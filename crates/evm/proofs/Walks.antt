@@ -11,7 +11,7 @@ use lib.ListN.{length, getD, drop, length-drop, drop-of-length-le}
 use lib.Seq.{drop-cons, drop-drop}
 use Rattle.spec.specs.Opcodes.{argument}
 use Rattle.spec.specs.Walk.{Ins, ins, walk, instructions}
-use Rattle.theorems.proofs.Branch.{if-true, if-false}
+use Rattle.laws.proofs.Branch.{if-true, if-false}
 
 -- the instruction that the bytes from a place on spell, whole or not
 abbrev pub insAt : List ℕ → ℕ → Ins

@@ -1,5 +1,6 @@
 // The rows of document 01, "Opcode rows": an instruction by its byte, and by the range that the byte lies in.
 ghost use mathlib.Core.Path.{_≡_};
+ghost use Rattle.spec.specs.Opcodes.{row};
 ghost use Rattle.evm.specs.Rows.{RowIs, SizeIs, WordsAre, each};
 
 // An instruction's bytes of code, the words that it takes and gives, and whether its byte is known.
@@ -84,6 +85,17 @@ fn words_of(op: u8) -> Words
             given: 0,
             known: false,
         },
+    }
+}
+
+// Is the byte known? By its range alone, where no more of its row is asked for.
+pub fn known(op: u8) -> bool
+    ensures { λ r. ⌜ r ≡ row op .known ⌝ }
+{
+    match op {
+        0x0c..=0x0f | 0x1e..=0x1f | 0x21..=0x2f | 0x4b..=0x4f => false,
+        0xa5..=0xef | 0xf6..=0xf9 | 0xfb..=0xfc => false,
+        _ => true,
     }
 }
 

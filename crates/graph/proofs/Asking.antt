@@ -8,8 +8,9 @@ use lib.ListN.{length}
 use Rattle.spec.specs.Lists.{lastOf}
 use Rattle.spec.specs.Entries.{destination}
 use Rattle.lent.specs.Bytes.{numAt}
-use Rattle.initial.specs.Rows.{tagAt}
-use Rattle.tables.specs.Records.{startAt, endOf, pathAt, recAt}
+use Rattle.layout.specs.Records.{recordPlace, R-ENDS, startAt, endOf}
+use Rattle.layout.specs.Rows.{tagAt}
+use Rattle.tables.specs.Records.{pathAt, recAt}
 use Rattle.tables.proofs.Addrs.{addrs-length}
 use Rattle.reachable.specs.Pruning.{EdgeRow, Prunes}
 use Rattle.reachable.proofs.Within.{blocks-within}
@@ -37,7 +38,7 @@ module _ {code s : List ℕ} {room n m : ℕ} {w r q : List ℕ} (f : Fits code 
   unfolding pathAt
   end-some = omega (arith, path-some, addrs-length q (endOf r i) (endOf r (suc i) - endOf r i))
 
-  pub rec-last : lastOf (recAt r q s room i .path) ≡ numAt 2 q (2 * (numAt 4 r (32 * i + 4) - 1))
+  pub rec-last : lastOf (recAt r q s room i .path) ≡ numAt 2 q (2 * (numAt 4 r (recordPlace i + R-ENDS) - 1))
   unfolding recAt endOf
   rec-last = path-last r q i (f .rows i h .rises) path-some
 

@@ -13,14 +13,17 @@ use Rattle.spec.specs.Blocks.{Kind, terminate, jump, jumpi, dynamic-jump, dynam
 use Rattle.spec.specs.Reach.{Edge, edge}
 use Rattle.spec.specs.Search.{Node, Found, nowhere, found, Rec, is-nowhere, dest, dests}
 use Rattle.spec.specs.Ending.{Final, all-are, merged, ended, entries-of, finals, followed}
-use Rattle.spec.specs.Entries.{destination}
-use Rattle.theorems.proofs.Branch.{both}
-use Rattle.theorems.proofs.Members.{In, here, in-only, in-keep, keep-in, in-gather, in-map}
-use Rattle.initial.specs.Rows.{tagAt, typeAt, kindOf, blockAt, blocksAt}
-use Rattle.initial.specs.declared.row.BlockType.{BlockType}
+use Rattle.spec.specs.Entries.{destination, absent}
+use Rattle.spec.specs.Rooms.{longest}
+use Rattle.laws.proofs.Branch.{both}
+use Rattle.laws.proofs.Members.{In, here, in-only, in-keep, keep-in, in-gather, in-map}
+use Rattle.layout.specs.Edges.{keyAt, toAt}
+use Rattle.layout.specs.Rows.{tagAt, typeAt}
+use Rattle.layout.specs.declared.row.BlockType.{BlockType}
+use Rattle.initial.specs.Rows.{kindOf, blockAt, blocksAt}
 use Rattle.initial.proofs.Types.{kind-dynamic-jump}
 use Rattle.initial.proofs.Rows as laid
-use Rattle.reachable.specs.Links.{keyAt, toAt, edgeAt, edgesAt}
+use Rattle.reachable.specs.Links.{edgeAt, edgesAt}
 use Rattle.reachable.proofs.Rows.{gather-in, map-in}
 use Rattle.reachable.proofs.EdgeRows.{in-edges, edge-in, edges-in}
 use Rattle.reachable.proofs.Finals.{follows}
@@ -29,7 +32,7 @@ use Rattle.graph.proofs.Rewriting.{to-dynamic, to-other}
 
 -- ---- destinations
 
-pub dest-in : (f : Found) → (destination f ≡ 0x8000 → ⊥) → In (destination f) (dest f)
+pub dest-in : (f : Found) → (destination f ≡ absent → ⊥) → In (destination f) (dest f)
 dest-in nowhere h = absurd (h refl)
 dest-in (found t s) h = here
 
@@ -119,20 +122,20 @@ pub record RowOf (w r : List ℕ) (i : ℕ) (x : Rec) : Type 0 where
   pub to : toAt r i ≡ edgeTo (tagAt w (x .start)) (destination (x .to))
 
 -- a row that leads on is of a DynamicJump, and of a record with a destination
-pub leading : {w r : List ℕ} {i : ℕ} {x : Rec} → RowOf w r i x → (toAt r i ≡ 0x8000 → ⊥) → (tagAt w (x .start) ≡ 5) × (destination (x .to) ≡ 0x8000 → ⊥) × (toAt r i ≡ destination (x .to))
+pub leading : {w r : List ℕ} {i : ℕ} {x : Rec} → RowOf w r i x → (toAt r i ≡ absent → ⊥) → (tagAt w (x .start) ≡ 5) × (destination (x .to) ≡ absent → ⊥) × (toAt r i ≡ destination (x .to))
 leading {w} {r} {i} {x} o ne = split (ℕ-discrete (tagAt w (x .start)) 5)
   where
-    split : Dec (tagAt w (x .start) ≡ 5) → (tagAt w (x .start) ≡ 5) × (destination (x .to) ≡ 0x8000 → ⊥) × (toAt r i ≡ destination (x .to))
+    split : Dec (tagAt w (x .start) ≡ 5) → (tagAt w (x .start) ≡ 5) × (destination (x .to) ≡ absent → ⊥) × (toAt r i ≡ destination (x .to))
     split (yes e) = let s = o .to ∙ to-dynamic (tagAt w (x .start)) (destination (x .to)) e in (e, λ z. ne (s ∙ z), s)
     split (no e) = absurd (ne (o .to ∙ to-other (tagAt w (x .start)) (destination (x .to)) e))
 
 edge-is : (d : Edge) {p v t : ℕ} → d .place ≡ p → d .witness ≡ v → d .to ≡ t → edge p v t ≡ d
 edge-is d e f g = rw (← e, ← f, ← g)
 
-row-edge : (r : List ℕ) (i : ℕ) (d : Edge) → d .place ≡ keyAt r 0 i → d .witness ≡ keyAt r 4 i → d .to ≡ toAt r i → (toAt r i ≡ 0x8000 → ⊥) → In d (edgeAt r i)
+row-edge : (r : List ℕ) (i : ℕ) (d : Edge) → d .place ≡ keyAt r 0 i → d .witness ≡ keyAt r 4 i → d .to ≡ toAt r i → (toAt r i ≡ absent → ⊥) → In d (edgeAt r i)
 row-edge r i d p v t ne = subst (λ (h : Edge). In h (edgeAt r i)) (edge-is d p v t) (edge-in r i ne)
 
-module _ (w r : List ℕ) (n m : ℕ) (ns : List Node) (recs : List Rec) (short : n ≤ 24576)
+module _ (w r : List ℕ) (n m : ℕ) (ns : List Node) (recs : List Rec) (short : n ≤ longest)
     (b : blocksAt w n ≡ map (λ (f : Final). f .block) (finals ns recs))
     (lie : (x : Rec) → In x recs → (x .start ≤ n) × ((t : ℕ) → In t (dest (x .to)) → t ≤ n))
     (rows : (i : ℕ) → i < m → (x : Rec) × In x recs × RowOf w r i x) (finds : (x : Rec) → In x recs → (i : ℕ) × (i < m) × RowOf w r i x) where

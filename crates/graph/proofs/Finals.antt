@@ -8,11 +8,14 @@ use lib.Dec.{eqb}
 use borrow.Author.Tests.{eqb-true, eqb-false}
 use Rattle.spec.specs.Lists.{if, keep}
 use Rattle.spec.specs.Blocks.{Kind, terminate, jump, jumpi, dynamic-jump, dynamic-jumpi, Block, with-kind}
-use Rattle.spec.specs.Stacks.{Stack}
-use Rattle.spec.specs.Search.{Node, nowhere, found, Rec, dest, dests}
+use Rattle.spec.specs.Search.{Node, Rec, dest, dests}
 use Rattle.spec.specs.Ending.{Final, final, all-are, merged, ended, entries-of, finals}
-use Rattle.theorems.proofs.Members.{In, here, gather-append, in-gather, in-keep}
-use Rattle.tables.specs.Records.{none, startAt, toAt, foundAt, recAt, recsOf}
+use Rattle.spec.specs.Entries.{absent}
+use Rattle.spec.specs.Rooms.{longest}
+use Rattle.laws.proofs.Members.{In, here, gather-append, in-gather, in-keep}
+use Rattle.layout.specs.Records.{startAt, toAt}
+use Rattle.tables.specs.Records.{foundAt, recAt, recsOf}
+use Rattle.tables.proofs.Counted.{dest-if}
 use Rattle.graph.specs.Notes.{several, joined, stepped, noteOf, byNote, mergedKind, mergedBy, mergedBlock}
 use Rattle.graph.proofs.Notes.{join-first, join-same, join-other}
 use Rattle.graph.proofs.Merging.{by-none, by-one, by-several}
@@ -60,28 +63,23 @@ keep-append {A} f (x ∷ xs) ys = rw (keep-append f xs ys) (go (f x))
     go true = refl
     go false = refl
 
-dest-if : (b : Bool) (t : ℕ) (k : Stack) → dest (if b nowhere (found t k)) ≡ if b [] (t ∷ [])
-unfolding if
-dest-if true t k = refl
-dest-if false t k = refl
-
 module _ (r q s : List ℕ) (room : ℕ) where
   -- the destinations of one record, as it stands in R
-  pub dest-at : (i : ℕ) → dest (foundAt r s room i) ≡ if (eqb (toAt r i) none) [] (toAt r i ∷ [])
+  pub dest-at : (i : ℕ) → dest (foundAt r s room i) ≡ if (eqb (toAt r i) absent) [] (toAt r i ∷ [])
   unfolding foundAt
-  dest-at i = dest-if (eqb (toAt r i) none) (toAt r i) _
+  dest-at i = dest-if (eqb (toAt r i) absent) (toAt r i) _
 
-  last-dests : (a i : ℕ) → dests (entries-of a (recAt r q s room i ∷ [])) ≡ if (eqb a (startAt r i)) (if (eqb (toAt r i) none) [] (toAt r i ∷ [])) []
+  last-dests : (a i : ℕ) → dests (entries-of a (recAt r q s room i ∷ [])) ≡ if (eqb a (startAt r i)) (if (eqb (toAt r i) absent) [] (toAt r i ∷ [])) []
   unfolding recAt if
   last-dests a i = go (eqb a (startAt r i))
     where
-      go : (b : Bool) → dests (if b (recAt r q s room i ∷ []) []) ≡ if b (if (eqb (toAt r i) none) [] (toAt r i ∷ [])) []
+      go : (b : Bool) → dests (if b (recAt r q s room i ∷ []) []) ≡ if b (if (eqb (toAt r i) absent) [] (toAt r i ∷ [])) []
       go true = append-nil (dest (foundAt r s room i)) ∙ dest-at i
       go false = refl
 
-  step-one : (a i : ℕ) (ds : List ℕ) → stepped r i a (oneOf ds) ≡ oneOf (ds ++ if (eqb a (startAt r i)) (if (eqb (toAt r i) none) [] (toAt r i ∷ [])) [])
+  step-one : (a i : ℕ) (ds : List ℕ) → stepped r i a (oneOf ds) ≡ oneOf (ds ++ if (eqb a (startAt r i)) (if (eqb (toAt r i) absent) [] (toAt r i ∷ [])) [])
   unfolding stepped if
-  step-one a i ds = go (eqb a (startAt r i)) (eqb (toAt r i) none)
+  step-one a i ds = go (eqb a (startAt r i)) (eqb (toAt r i) absent)
     where
       go : (b c : Bool) → if b (if c (oneOf ds) (joined (oneOf ds) (toAt r i))) (oneOf ds) ≡ oneOf (ds ++ if b (if c [] (toAt r i ∷ [])) [])
       go true true = sym (ap oneOf (append-nil ds))
@@ -101,7 +99,7 @@ module _ (r q s : List ℕ) (room : ℕ) where
 
 -- ---- a block is merged by its destinations
 
-module _ (n : ℕ) (short : n ≤ 24576) (b : Block) where
+module _ (n : ℕ) (short : n ≤ longest) (b : Block) where
   merged-block : (es : List Rec) (ds : List ℕ) → ((t : ℕ) → In t ds → t ≤ n) → merged b es ds .block ≡ with-kind (byNote n (oneOf ds)) b
   unfolding oneOf if
   merged-block es [] h = sym (ap (λ (k : Kind). with-kind k b) (by-none n 0 refl))
@@ -122,7 +120,7 @@ module _ (n : ℕ) (short : n ≤ 24576) (b : Block) where
 
 -- ---- all blocks
 
-module _ (n : ℕ) (short : n ≤ 24576) (recs : List Rec) (notes : ℕ → ℕ) (is : (a : ℕ) → notes a ≡ oneOf (dests (entries-of a recs)))
+module _ (n : ℕ) (short : n ≤ longest) (recs : List Rec) (notes : ℕ → ℕ) (is : (a : ℕ) → notes a ≡ oneOf (dests (entries-of a recs)))
     (lie : (x : Rec) (t : ℕ) → In x recs → In t (dest (x .to)) → t ≤ n) where
   dests-lie : (a t : ℕ) → In t (dests (entries-of a recs)) → t ≤ n
   dests-lie a t i =

@@ -1,7 +1,7 @@
 -- What the calls of `graph` leave together. Assumes nothing.
 use mathlib.Core.Path.{_≡_, refl, sym, ap, subst, _∙_}
 use mathlib.Core.List.{List, map}
-use Prim.Native.Nat.{ℕ, zero, suc, _+_, _-_, _*_, _≤_, _<_}
+use Prim.Native.Nat.{ℕ, zero, suc, _+_, _≤_, _<_}
 use native.Mathlib.Omega.{arith}
 use lib.ListN.{length, take, drop}
 use Rattle.spec.specs.Blocks.{blocks}
@@ -9,21 +9,25 @@ use Rattle.spec.specs.Stacks.{Stack}
 use Rattle.spec.specs.Search.{Rec, found}
 use Rattle.spec.specs.Ending.{Final, finals}
 use Rattle.spec.specs.Answer.{prepared}
-use Rattle.theorems.proofs.Members.{In, here}
+use Rattle.laws.proofs.Members.{In, here}
 use Rattle.lent.specs.Bytes.{numAt}
+use Rattle.layout.specs.Edges.{E-WITNESS, E-OWN, E-LINKS, E-ENDS, endAt}
+use Rattle.layout.specs.Records.{recordPlace, endOf, startAt, toAt}
+use Rattle.initial.specs.Rows.{blocksAt}
+use Rattle.initial.proofs.Rows.{blocks-prefix}
+use Rattle.tables.specs.Records.{pathAt, recAt, recsOf}
 use Rattle.lent.proofs.Parts.{drop-more, part-prefix}
 use Rattle.lent.proofs.Numbers.{num-prefix}
-use Rattle.initial.specs.Rows.{tagAt, blocksAt}
-use Rattle.initial.proofs.Rows.{blocks-prefix}
-use Rattle.tables.specs.Records.{startAt, toAt, endOf, pathAt, recAt, recsOf}
+use Rattle.layout.specs.Parts.{ROW, rowPlace, rowsEnd, listPlace, bucketsPlace, PastList}
+use Rattle.layout.specs.Rows.{tagAt}
 use Rattle.tables.proofs.Counted.{recs-length}
 use Rattle.reachable.specs.Pruning.{Pruned}
 use Rattle.reachable.proofs.Frames.{num-in, part-in}
 use Rattle.reachable.proofs.Chaining.{chains-kept}
 use Rattle.reachable.proofs.Finals.{pruning-edges}
-use Rattle.graph.specs.Border.{endAt, EdgeOf, Finished}
+use Rattle.graph.specs.Border.{EdgeOf, Finished}
 use Rattle.graph.specs.Notes.{noteOf, mergedBlock, mergedRow, edgeTo}
-use Rattle.graph.specs.Contracts.{Settled, EdgeFrom, Rewrote, Fits, Graphs, Graphed}
+use Rattle.graph.specs.Contracts.{Settled, Rewrote, Fits, Graphed, EdgeFrom, Graphs}
 use Rattle.graph.proofs.Finals.{note-of, finals-blocks}
 use Rattle.graph.proofs.Recs.{rec-in, in-rec, rec-at, rec-destination}
 use Rattle.graph.proofs.Edges.{RowOf, same-edges}
@@ -41,13 +45,13 @@ module _ {code s : List ℕ} {room m : ℕ} {w r q w₁ r₁ w₂ r₂ : List �
       ∙ sym (finals-blocks (length code) (f .lent .short) (recsOf r q s room m) (λ (a : ℕ). noteOf r a m) (λ a. note-of r q s room a m) (λ x u i. f .lie x i .to u) (prepared code))
 
   -- a field before the links, and the end of a path after them
-  front : (i : ℕ) → i < m → (o : ℕ) → o ≤ 6 → numAt 2 r₂ (32 * i + o) ≡ numAt 2 r₁ (32 * i + o)
-  front i h o g = num-in r₂ r₁ 8 (32 * i) (p .stay .before i h) 2 (32 * i + o) (omega arith) (omega arith)
+  front : (i : ℕ) → i < m → (o : ℕ) → o ≤ E-OWN → numAt 2 r₂ (recordPlace i + o) ≡ numAt 2 r₁ (recordPlace i + o)
+  front i h o g = num-in r₂ r₁ E-LINKS (recordPlace i) (p .stay .before i h) 2 (recordPlace i + o) (omega arith) (omega arith)
 
   ends : (i : ℕ) → i ≤ m → endAt r₂ i ≡ endOf r i
   unfolding endAt endOf
   ends zero h = refl
-  ends (suc i) h = num-in r₂ r₁ 16 (32 * i + 16) (p .stay .after i (omega arith)) 4 (32 * i + 16) (omega arith) (omega arith) ∙ e .rows i (omega arith) .end
+  ends (suc i) h = num-in r₂ r₁ 16 (recordPlace i + E-ENDS) (p .stay .after i (omega arith)) 4 (recordPlace i + E-ENDS) (omega arith) (omega arith) ∙ e .rows i (omega arith) .end
 
   edge-lands : (i : ℕ) → i < m → (u : ℕ) (v : Stack) → recAt r q s room i .to ≡ found u v → u ≤ length code
   edge-lands i h u v d = f .lie (recAt r q s room i) (rec-in r q s room m i h) .to u (rw d here)
@@ -55,9 +59,9 @@ module _ {code s : List ℕ} {room m : ℕ} {w r q w₁ r₁ w₂ r₂ : List �
   edge-of : (i : ℕ) → i < m → EdgeOf (length code) w₂ r₂ q i (recAt r q s room i)
   unfolding recAt pathAt
   edge-of i h = record {
-    start = num-in r₂ r₁ 8 (32 * i) (p .stay .before i h) 2 (32 * i) (omega arith) (omega arith) ∙ e .rows i h .start;
-    to = front i h 6 (omega arith) ∙ e .rows i h .to ∙ sym (rec-destination r q s room i);
-    last = front i h 4 (omega arith) ∙ e .rows i h .last ∙ sym (rec-last f i h);
+    start = num-in r₂ r₁ E-LINKS (recordPlace i) (p .stay .before i h) 2 (recordPlace i) (omega arith) (omega arith) ∙ e .rows i h .start;
+    to = front i h E-OWN (omega arith) ∙ e .rows i h .to ∙ sym (rec-destination r q s room i);
+    last = front i h E-WITNESS (omega arith) ∙ e .rows i h .last ∙ sym (rec-last f i h);
     path = rw (ends i (omega arith), ends (suc i) (omega arith));
     rises = rw (ends i (omega arith), ends (suc i) (omega arith)) (f .rows i h .rises);
     inQ = rw (ends (suc i) (omega arith)) (f .rows i h .inQ);
@@ -92,28 +96,28 @@ module _ {code s : List ℕ} {room m : ℕ} {w r q w₁ r₁ w₂ r₂ : List �
 -- ---- the bytes, whatever code it is
 
 module _ {n m : ℕ} {w r q w₁ r₁ w₂ r₂ : List ℕ} (a : Graphs n m w r q) (t : Settled n m w r w₁) (e : Rewrote m w₁ r q r₁) (p : Pruned n m w₁ r₁ w₂ r₂) where
-  merged-row : (x : ℕ) → x ≤ n → take 20 (drop (20 * x) w₂) ≡ mergedRow n (noteOf r x m) w x
-  merged-row x h = part-prefix w₂ w₁ (20 * (n + 1)) (p .rows) 20 (20 * x) (omega arith) ∙ t .bytes x h
+  merged-row : (x : ℕ) → x ≤ n → take ROW (drop (rowPlace x) w₂) ≡ mergedRow n (noteOf r x m) w x
+  merged-row x h = part-prefix w₂ w₁ (rowsEnd n) (p .rows) 20 (rowPlace x) (omega arith) ∙ t .bytes x h
 
-  field : (i : ℕ) → i < m → (k o : ℕ) → o + k ≤ 8 → numAt k r₂ (32 * i + o) ≡ numAt k r₁ (32 * i + o)
-  field i h k o g = num-in r₂ r₁ 8 (32 * i) (p .stay .before i h) k (32 * i + o) (omega arith) (omega arith)
+  field : (i : ℕ) → i < m → (k o : ℕ) → o + k ≤ 8 → numAt k r₂ (recordPlace i + o) ≡ numAt k r₁ (recordPlace i + o)
+  field i h k o g = num-in r₂ r₁ 8 (recordPlace i) (p .stay .before i h) k (recordPlace i + o) (omega arith) (omega arith)
 
   edge-from : (i : ℕ) → i < m → EdgeFrom w₂ r q i r₂
   edge-from i h =
       let x = e .rows i h in
       let tag : tagAt w₂ (startAt r i) ≡ tagAt w₁ (startAt r i) =
-      num-prefix w₂ w₁ (20 * (n + 1)) (p .rows) 1 (20 * startAt r i) (omega (arith, start-lies (a .fits) i h)) in
+      num-prefix w₂ w₁ (rowsEnd n) (p .rows) 1 (rowPlace (startAt r i)) (omega (arith, start-lies (a .fits) i h)) in
       record {
-        start = num-in r₂ r₁ 8 (32 * i) (p .stay .before i h) 2 (32 * i) (omega arith) (omega arith) ∙ x .start;
+        start = num-in r₂ r₁ 8 (recordPlace i) (p .stay .before i h) 2 (recordPlace i) (omega arith) (omega arith) ∙ x .start;
         edge = field i h 2 2 (omega arith) ∙ x .edge ∙ ap (λ (y : ℕ). edgeTo y (toAt r i)) (sym tag);
         last = field i h 2 4 (omega arith) ∙ x .last;
         to = field i h 2 6 (omega arith) ∙ x .to;
-        end = num-in r₂ r₁ 16 (32 * i + 16) (p .stay .after i h) 4 (32 * i + 16) (omega arith) (omega arith) ∙ x .end;
-        rest = part-in r₂ r₁ 16 (32 * i + 16) (p .stay .after i h) 12 (32 * i + 20) (omega arith) (omega arith) ∙ x .rest;
+        end = num-in r₂ r₁ 16 (recordPlace i + 16) (p .stay .after i h) 4 (recordPlace i + 16) (omega arith) (omega arith) ∙ x .end;
+        rest = part-in r₂ r₁ 16 (recordPlace i + 16) (p .stay .after i h) 12 (recordPlace i + 20) (omega arith) (omega arith) ∙ x .rest;
       }
 
-  past-worklist : drop (42 * (n + 1)) w₂ ≡ drop (42 * (n + 1)) w
-  past-worklist = p .beyond ∙ drop-more w₁ w (40 * (n + 1)) (t .beyond) (42 * (n + 1)) (omega arith)
+  past-worklist : PastList n w w₂
+  past-worklist = p .beyond ∙ drop-more w₁ w (listPlace n) (t .beyond) (bucketsPlace n) (omega arith)
 
 -- ---- together
 

@@ -1,20 +1,23 @@
 -- The laws of the notes: a destination is joined to one, a record is noted, and then all records. Assumes nothing.
 use mathlib.Core.Path.{_≡_, refl, sym, ap, _∙_}
 use mathlib.Core.List.{List}
-use Prim.Native.Nat.{ℕ, _+_, _*_, _≤_, _<_}
+use Prim.Native.Nat.{ℕ, _+_, _≤_, _<_}
 use native.Mathlib.Decide.{ℕ-discrete}
 use native.Mathlib.Numerals.{add-one}
 use native.Mathlib.Omega.{arith}
 use lib.Dec.{eqb}
 use borrow.Author.Tests.{eq-eqb, ne-eqb}
 use Rattle.spec.specs.Lists.{if, little}
-use Rattle.theorems.proofs.Branch.{both, if-true, if-false}
+use Rattle.spec.specs.Entries.{absent}
+use Rattle.laws.proofs.Branch.{both, if-true, if-false}
 use Rattle.lent.specs.Bytes.{Holds, Stored}
-use Rattle.lent.proofs.Stored.{kept-take, kept-drop, kept-num, read-back}
-use Rattle.tables.specs.Records.{none, startAt, toAt}
+use Rattle.lent.proofs.Stored.{kept-take, kept-num, read-back, kept-drop}
+use Rattle.layout.specs.Fields.{NOTE, noteAt}
+use Rattle.layout.specs.Parts.{rowsEnd, fieldsPlace, listPlace}
+use Rattle.layout.specs.Records.{recordPlace, R-TO, startAt, toAt}
 use Rattle.reachable.specs.Contracts.{Room, Begun}
 use Rattle.reachable.proofs.Marks.{begun-num, begun-rows}
-use Rattle.graph.specs.Notes.{several, noteAt, joined, stepped, noteOf}
+use Rattle.graph.specs.Notes.{several, joined, stepped, noteOf}
 use Rattle.graph.specs.Contracts.{Starts, RowsKept, NotedRow, Notes, Noted}
 
 -- ---- a destination is joined to a note
@@ -39,29 +42,29 @@ module _ (old to : ℕ) where
 
 -- ---- a record is noted
 
-pub note-none : {n i to : ℕ} {w r : List ℕ} → Holds 2 r (32 * i + 2) to → to ≡ 0x8000 → NotedRow n w r i w
+pub note-none : {n i to : ℕ} {w r : List ℕ} → Holds 2 r (recordPlace i + R-TO) to → to ≡ absent → NotedRow n w r i w
 unfolding stepped
 note-none {n} {i} {w} {r} h e = record {
-  notes = λ a _. sym (both (λ (v : ℕ). v ≡ noteAt w n a) (eqb a (startAt r i)) (λ _. if-true _ _ _ (eq-eqb (toAt r i) none (sym (h .is) ∙ e))) (λ _. refl));
+  notes = λ a _. sym (both (λ (v : ℕ). v ≡ noteAt w n a) (eqb a (startAt r i)) (λ _. if-true _ _ _ (eq-eqb (toAt r i) absent (sym (h .is) ∙ e))) (λ _. refl));
   kept = record { rows = refl; beyond = refl; long = refl };
 }
 
-pub note-one : {n i to a old v : ℕ} {w r w′ : List ℕ} → Starts n r i → Holds 2 r (32 * i + 2) to → (to ≡ 0x8000 → ⊥) → Holds 2 r (32 * i) a
-    → Holds 4 w (20 * (n + 1 + a) + 4) old → v ≡ joined old to → Stored 4 w (20 * (n + 1 + a) + 4) (little 4 v) w′ → NotedRow n w r i w′
+pub note-one : {n i to a old v : ℕ} {w r w′ : List ℕ} → Starts n r i → Holds 2 r (recordPlace i + R-TO) to → (to ≡ absent → ⊥) → Holds 2 r (recordPlace i) a
+    → Holds 4 w (fieldsPlace n a + NOTE) old → v ≡ joined old to → Stored 4 w (fieldsPlace n a + NOTE) (little 4 v) w′ → NotedRow n w r i w′
 unfolding stepped
 note-one {n} {i} {to} {a} {old} {v} {w} {r} {w′} s t ne h o e p = record {
   notes = λ x l. split x (ℕ-discrete x a);
-  kept = record { rows = kept-take p (20 * (n + 1)) (omega arith); beyond = kept-drop p (40 * (n + 1)) (omega (arith, h .is, s .start)); long = p .kept };
+  kept = record { rows = kept-take p (rowsEnd n) (omega arith); beyond = kept-drop p (listPlace n) (omega (arith, h .is, s .start)); long = p .kept };
 }
   where
-    there : toAt r i ≡ none → ⊥
+    there : toAt r i ≡ absent → ⊥
     there z = ne (t .is ∙ z)
 
-    split : (x : ℕ) → Dec (x ≡ a) → noteAt w′ n x ≡ if (eqb x (startAt r i)) (if (eqb (toAt r i) none) (noteAt w n x) (joined (noteAt w n x) (toAt r i))) (noteAt w n x)
+    split : (x : ℕ) → Dec (x ≡ a) → noteAt w′ n x ≡ if (eqb x (startAt r i)) (if (eqb (toAt r i) absent) (noteAt w n x) (joined (noteAt w n x) (toAt r i))) (noteAt w n x)
     split x (yes q) =
         rw (
-          if-true (eqb x (startAt r i)) (if (eqb (toAt r i) none) (noteAt w n x) (joined (noteAt w n x) (toAt r i))) (noteAt w n x) (eq-eqb x (startAt r i) (q ∙ h .is)),
-          if-false (eqb (toAt r i) none) (noteAt w n x) (joined (noteAt w n x) (toAt r i)) (ne-eqb (toAt r i) none there),
+          if-true (eqb x (startAt r i)) (if (eqb (toAt r i) absent) (noteAt w n x) (joined (noteAt w n x) (toAt r i))) (noteAt w n x) (eq-eqb x (startAt r i) (q ∙ h .is)),
+          if-false (eqb (toAt r i) absent) (noteAt w n x) (joined (noteAt w n x) (toAt r i)) (ne-eqb (toAt r i) absent there),
           q,
           ← o .is,
           ← t .is,
@@ -69,8 +72,8 @@ note-one {n} {i} {to} {a} {old} {v} {w} {r} {w′} s t ne h o e p = record {
         )
         (read-back p (rw e (joined-small old to (o .small) (t .small))))
     split x (no q) =
-        rw (if-false (eqb x (startAt r i)) (if (eqb (toAt r i) none) (noteAt w n x) (joined (noteAt w n x) (toAt r i))) (noteAt w n x) (ne-eqb x (startAt r i) (λ z. q (z ∙ sym (h .is)))))
-        (kept-num p 4 (20 * (n + 1 + x) + 4) (λ l. omega arith))
+        rw (if-false (eqb x (startAt r i)) (if (eqb (toAt r i) absent) (noteAt w n x) (joined (noteAt w n x) (toAt r i))) (noteAt w n x) (ne-eqb x (startAt r i) (λ z. q (z ∙ sym (h .is)))))
+        (kept-num p 4 (fieldsPlace n x + NOTE) (λ l. omega arith))
 
 -- ---- all records
 
@@ -88,7 +91,7 @@ module _ {n m : ℕ} {v r w₀ : List ℕ} (b : Begun n v w₀) where
   pub note-start : Noting n m w₀ r w₀ 0
   unfolding noteOf
   note-start = record {
-    notes = λ a h. begun-num b 4 (20 * (n + 1 + a) + 4) (omega arith) (omega arith);
+    notes = λ a h. begun-num b 4 (fieldsPlace n a + NOTE) (omega arith) (omega arith);
     kept = record { rows = refl; beyond = refl; long = refl };
     inside = omega arith;
   }
@@ -104,7 +107,7 @@ module _ {n m : ℕ} {v r w₀ : List ℕ} (b : Begun n v w₀) where
           notes = rw e at (g .notes);
           kept = record {
             rows = g .kept .rows ∙ begun-rows b;
-            beyond = g .kept .beyond ∙ kept-drop (b .wipes) (40 * (n + 1)) (omega arith);
+            beyond = g .kept .beyond ∙ kept-drop (b .wipes) (listPlace n) (omega arith);
             long = g .kept .long ∙ b .wipes .kept;
           };
         }

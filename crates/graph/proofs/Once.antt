@@ -9,10 +9,12 @@ use lib.ListN.{length}
 use Rattle.spec.specs.Lists.{if, mem}
 use Rattle.lent.proofs.Numbers.{num-prefix}
 use Rattle.lent.proofs.Once.{Bytes, Same, Outside, same-num, same-both, same-as, same-then, same-rows, same-whole}
-use Rattle.initial.specs.Rows.{tagAt}
-use Rattle.tables.specs.Records.{startAt, toAt}
+use Rattle.layout.specs.Edges.{E-TO, E-WITNESS, E-OWN, E-LINKS, E-ENDS, keyAt}
+use Rattle.layout.specs.Fields.{COUNT, LAST, NOTE}
+use Rattle.layout.specs.Parts.{rowPlace, rowsEnd, fieldsPlace, listPlace}
+use Rattle.layout.specs.Records.{recordPlace, startAt, toAt}
+use Rattle.layout.specs.Rows.{tagAt}
 use Rattle.reachable.specs.Marks.{flagged}
-use Rattle.reachable.specs.Links.{keyAt}
 use Rattle.reachable.specs.Pruning.{Chains}
 use Rattle.reachable.proofs.Chaining.{chains-kept}
 use Rattle.reachable.proofs.Once.{but-worklist}
@@ -21,11 +23,11 @@ use Rattle.graph.specs.Contracts.{Graphs, Graphed}
 use Rattle.graph.proofs.Asking.{start-lies}
 
 module _ {n m : ℕ} {w r q v s u t : List ℕ} (a : Graphs n m w r q) (p : Graphed n m w r q v s) (f : Graphed n m w r q u t) where
-  rows : Same v u 0 (20 * (n + 1))
-  rows = same-rows 0 20 (n + 1) (λ x h. same-as (same-both (20 * x) 20 (p .rows x (omega arith)) (f .rows x (omega arith))) (omega arith) refl)
+  rows : Same v u 0 (rowsEnd n)
+  rows = same-rows 0 20 (n + 1) (λ x h. same-as (same-both (rowPlace x) 20 (p .rows x (omega arith)) (f .rows x (omega arith))) (omega arith) refl)
 
   tags : (x : ℕ) → x ≤ n → tagAt v x ≡ tagAt u x
-  tags x h = num-prefix v u (20 * (n + 1)) (rows .is) 1 (20 * x) (omega arith)
+  tags x h = num-prefix v u (rowsEnd n) (rows .is) 1 (rowPlace x) (omega arith)
 
   reached : (x : ℕ) → x ≤ n → mem x (flagged v n) ≡ mem x (flagged u n)
   reached x h =
@@ -49,41 +51,41 @@ module _ {n m : ℕ} {w r q v s u t : List ℕ} (a : Graphs n m w r q) (p : Grap
   -- ---- W
 
   module _ (b : Bytes v) (d : Bytes u) where
-    heads : (x : ℕ) → x ≤ n → Same v u (20 * (n + 1 + x) + 4) 14
+    heads : (x : ℕ) → x ≤ n → Same v u (fieldsPlace n x + NOTE) 14
     heads x h =
         let long : length v ≡ length u = p .longW ∙ sym (f .longW) in
-        let first : Same v u (20 * (n + 1 + x) + 4) 4 = same-num b d long 4 (20 * (n + 1 + x) + 4) (p .places .heads x h ∙ sym (places .heads x h)) in
-        let second : Same v u (20 * (n + 1 + x) + 8) 4 = same-num b d long 4 (20 * (n + 1 + x) + 8) (p .witnesses .heads x h ∙ sym (witnesses .heads x h)) in
-        same-then (same-then first second (omega arith)) (same-both (20 * (n + 1 + x) + 12) 6 (p .fields x h) (f .fields x h)) (omega arith)
+        let first : Same v u (fieldsPlace n x + NOTE) 4 = same-num b d long 4 (fieldsPlace n x + NOTE) (p .places .heads x h ∙ sym (places .heads x h)) in
+        let second : Same v u (fieldsPlace n x + 8) 4 = same-num b d long 4 (fieldsPlace n x + 8) (p .witnesses .heads x h ∙ sym (witnesses .heads x h)) in
+        same-then (same-then first second (omega arith)) (same-both (fieldsPlace n x + COUNT) 6 (p .fields x h) (f .fields x h)) (omega arith)
 
-    graphed-w : Outside (40 * (n + 1)) (2 * (n + 1)) v u
+    graphed-w : Outside (listPlace n) (2 * (n + 1)) v u
     graphed-w =
         but-worklist b d (p .longW ∙ sym (f .longW)) (rows .is) (λ x h. p .fresh .marks x h ∙ marked x h ∙ sym (f .fresh .marks x h)) heads
-        (λ x h. p .fresh .flags x h ∙ marked x h ∙ sym (f .fresh .flags x h)) (λ x h. same-both (20 * (n + 1 + x) + 19) 1 (p .spare x h) (f .spare x h))
+        (λ x h. p .fresh .flags x h ∙ marked x h ∙ sym (f .fresh .flags x h)) (λ x h. same-both (fieldsPlace n x + LAST) 1 (p .spare x h) (f .spare x h))
         (p .beyondW ∙ sym (f .beyondW))
 
   -- ---- R
 
   module _ (b : Bytes s) (d : Bytes t) where
-    edge : (i : ℕ) → i < m → Same s t (32 * i) 32
+    edge : (i : ℕ) → i < m → Same s t (recordPlace i) 32
     edge i h =
         let long : length s ≡ length t = p .longR ∙ sym (f .longR) in
         let x = p .edges i h in
         let y = f .edges i h in
-        let start : Same s t (32 * i) 2 = same-num b d long 2 (32 * i) (x .start ∙ sym (y .start)) in
-        let to : Same s t (32 * i + 2) 2 =
-        same-num b d long 2 (32 * i + 2) (x .edge ∙ ap (λ (k : ℕ). edgeTo k (toAt r i)) (tags (startAt r i) (start-lies (a .fits) i h)) ∙ sym (y .edge)) in
-        let last : Same s t (32 * i + 4) 2 = same-num b d long 2 (32 * i + 4) (x .last ∙ sym (y .last)) in
-        let own : Same s t (32 * i + 6) 2 = same-num b d long 2 (32 * i + 6) (x .to ∙ sym (y .to)) in
-        let place : Same s t (32 * i + 8) 4 = same-num b d long 4 (32 * i + 8) (p .places .links i (omega arith) h ∙ sym (places .links i (omega arith) h)) in
-        let witness : Same s t (32 * i + 12) 4 = same-num b d long 4 (32 * i + 12) (p .witnesses .links i (omega arith) h ∙ sym (witnesses .links i (omega arith) h)) in
-        let end : Same s t (32 * i + 16) 4 = same-num b d long 4 (32 * i + 16) (x .end ∙ sym (y .end)) in
-        let rest : Same s t (32 * i + 20) 12 = same-both (32 * i + 20) 12 (x .rest) (y .rest) in
-        let fields : Same s t (32 * i) 8 = same-then (same-then (same-then start to refl) last refl) own refl in
+        let start : Same s t (recordPlace i) 2 = same-num b d long 2 (recordPlace i) (x .start ∙ sym (y .start)) in
+        let to : Same s t (recordPlace i + E-TO) 2 =
+        same-num b d long 2 (recordPlace i + E-TO) (x .edge ∙ ap (λ (k : ℕ). edgeTo k (toAt r i)) (tags (startAt r i) (start-lies (a .fits) i h)) ∙ sym (y .edge)) in
+        let last : Same s t (recordPlace i + E-WITNESS) 2 = same-num b d long 2 (recordPlace i + E-WITNESS) (x .last ∙ sym (y .last)) in
+        let own : Same s t (recordPlace i + E-OWN) 2 = same-num b d long 2 (recordPlace i + E-OWN) (x .to ∙ sym (y .to)) in
+        let place : Same s t (recordPlace i + E-LINKS) 4 = same-num b d long 4 (recordPlace i + E-LINKS) (p .places .links i (omega arith) h ∙ sym (places .links i (omega arith) h)) in
+        let witness : Same s t (recordPlace i + (E-LINKS + E-WITNESS)) 4 = same-num b d long 4 (recordPlace i + (E-LINKS + E-WITNESS)) (p .witnesses .links i (omega arith) h ∙ sym (witnesses .links i (omega arith) h)) in
+        let end : Same s t (recordPlace i + E-ENDS) 4 = same-num b d long 4 (recordPlace i + E-ENDS) (x .end ∙ sym (y .end)) in
+        let rest : Same s t (recordPlace i + 20) 12 = same-both (recordPlace i + 20) 12 (x .rest) (y .rest) in
+        let fields : Same s t (recordPlace i) 8 = same-then (same-then (same-then start to refl) last refl) own refl in
         same-then (same-then (same-then (same-then fields place refl) witness refl) end refl) rest refl
 
     graphed-r : s ≡ t
-    graphed-r = same-whole (32 * m) (same-rows 0 32 m (λ i h. same-as (edge i h) (omega arith) refl)) (p .beyondR ∙ sym (f .beyondR))
+    graphed-r = same-whole (recordPlace m) (same-rows 0 32 m (λ i h. same-as (edge i h) (omega arith) refl)) (p .beyondR ∙ sym (f .beyondR))
 
-  pub one-graphed : Bytes v → Bytes u → Bytes s → Bytes t → Outside (40 * (n + 1)) (2 * (n + 1)) v u × (s ≡ t)
+  pub one-graphed : Bytes v → Bytes u → Bytes s → Bytes t → Outside (listPlace n) (2 * (n + 1)) v u × (s ≡ t)
   one-graphed b d e g = (graphed-w b d, graphed-r e g)

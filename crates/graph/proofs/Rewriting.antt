@@ -7,13 +7,16 @@ use native.Mathlib.Omega.{arith}
 use lib.ListN.{length, take, drop}
 use borrow.Author.Tests.{eq-eqb, ne-eqb}
 use Rattle.spec.specs.Lists.{little}
-use Rattle.theorems.proofs.Branch.{if-true, if-false}
+use Rattle.spec.specs.Entries.{absent}
+use Rattle.laws.proofs.Branch.{if-true, if-false}
 use Rattle.lent.specs.Bytes.{numAt, Holds, Stored}
 use Rattle.lent.proofs.Parts.{drop-more, part-prefix, part-suffix}
 use Rattle.lent.proofs.Numbers.{num-prefix, num-suffix}
-use Rattle.lent.proofs.Stored.{kept-take, kept-drop, kept-part, kept-num, read-back}
-use Rattle.initial.specs.Rows.{tagAt}
-use Rattle.tables.specs.Records.{none, startAt}
+use Rattle.lent.proofs.Stored.{kept-take, kept-drop, kept-num, read-back, kept-part}
+use Rattle.layout.specs.Edges.{E-TO, E-WITNESS, E-OWN, E-ENDS}
+use Rattle.layout.specs.Parts.{rowPlace}
+use Rattle.layout.specs.Records.{RECORD, recordPlace, R-TO, R-ENDS, startAt}
+use Rattle.layout.specs.Rows.{tagAt}
 use Rattle.graph.specs.Notes.{edgeTo}
 use Rattle.graph.specs.Contracts.{EdgeIs, EdgePut, RewritesRow, EdgeFrom, RewroteRow, Rewrites, Rewrote}
 
@@ -24,39 +27,39 @@ module _ (kind to : ℕ) where
   unfolding edgeTo
   to-dynamic e = if-true _ _ _ (eq-eqb kind 5 e)
 
-  pub to-other : (kind ≡ 5 → ⊥) → edgeTo kind to ≡ none
+  pub to-other : (kind ≡ 5 → ⊥) → edgeTo kind to ≡ absent
   unfolding edgeTo
   to-other h = if-false _ _ _ (ne-eqb kind 5 h)
 
-module _ {a to kind : ℕ} {w : List ℕ} (k : Holds 1 w (20 * a) kind) where
+module _ {a to kind : ℕ} {w : List ℕ} (k : Holds 1 w (rowPlace a) kind) where
   pub edge-dynamic : to < 65536 → kind ≡ 5 → EdgeIs w a to to
   edge-dynamic h e = record { is = sym (to-dynamic (tagAt w a) to (sym (k .is) ∙ e)); small = h }
 
-  pub edge-other : (kind ≡ 5 → ⊥) → EdgeIs w a to none
+  pub edge-other : (kind ≡ 5 → ⊥) → EdgeIs w a to absent
   edge-other ne = record { is = sym (to-other (tagAt w a) to (λ e. ne (k .is ∙ e))); small = omega arith }
 
 -- ---- one record
 
 pub put-edge : {i to last own end : ℕ} {r r₁ r₂ r₃ r₄ : List ℕ} → to < 65536 → last < 65536 → own < 65536 → end < 4294967296
-    → Stored 2 r (32 * i + 2) (little 2 to) r₁ → Stored 2 r₁ (32 * i + 4) (little 2 last) r₂ → Stored 2 r₂ (32 * i + 6) (little 2 own) r₃
-    → Stored 4 r₃ (32 * i + 16) (little 4 end) r₄ → EdgePut r i to last own end r₄
+    → Stored 2 r (recordPlace i + E-TO) (little 2 to) r₁ → Stored 2 r₁ (recordPlace i + E-WITNESS) (little 2 last) r₂ → Stored 2 r₂ (recordPlace i + E-OWN) (little 2 own) r₃
+    → Stored 4 r₃ (recordPlace i + E-ENDS) (little 4 end) r₄ → EdgePut r i to last own end r₄
 put-edge {i} ht hl ho he s₁ s₂ s₃ s₄ = record {
-  start = kept-num s₄ 2 (32 * i) (λ _. omega arith) ∙ kept-num s₃ 2 (32 * i) (λ _. omega arith) ∙ kept-num s₂ 2 (32 * i) (λ _. omega arith)
-      ∙ kept-num s₁ 2 (32 * i) (λ _. omega arith);
-  edge = kept-num s₄ 2 (32 * i + 2) (λ _. omega arith) ∙ kept-num s₃ 2 (32 * i + 2) (λ _. omega arith) ∙ kept-num s₂ 2 (32 * i + 2) (λ _. omega arith)
+  start = kept-num s₄ 2 (recordPlace i) (λ _. omega arith) ∙ kept-num s₃ 2 (recordPlace i) (λ _. omega arith) ∙ kept-num s₂ 2 (recordPlace i) (λ _. omega arith)
+      ∙ kept-num s₁ 2 (recordPlace i) (λ _. omega arith);
+  edge = kept-num s₄ 2 (recordPlace i + E-TO) (λ _. omega arith) ∙ kept-num s₃ 2 (recordPlace i + E-TO) (λ _. omega arith) ∙ kept-num s₂ 2 (recordPlace i + E-TO) (λ _. omega arith)
       ∙ read-back s₁ ht;
-  witness = kept-num s₄ 2 (32 * i + 4) (λ _. omega arith) ∙ kept-num s₃ 2 (32 * i + 4) (λ _. omega arith) ∙ read-back s₂ hl;
-  leads = kept-num s₄ 2 (32 * i + 6) (λ _. omega arith) ∙ read-back s₃ ho;
+  witness = kept-num s₄ 2 (recordPlace i + E-WITNESS) (λ _. omega arith) ∙ kept-num s₃ 2 (recordPlace i + E-WITNESS) (λ _. omega arith) ∙ read-back s₂ hl;
+  leads = kept-num s₄ 2 (recordPlace i + E-OWN) (λ _. omega arith) ∙ read-back s₃ ho;
   ends = read-back s₄ he;
-  rest = kept-part s₄ 12 (32 * i + 20) (λ l. omega arith) ∙ kept-part s₃ 12 (32 * i + 20) (λ l. omega arith) ∙ kept-part s₂ 12 (32 * i + 20) (λ l. omega arith)
-      ∙ kept-part s₁ 12 (32 * i + 20) (λ l. omega arith);
-  before = kept-take s₄ (32 * i) (omega arith) ∙ kept-take s₃ (32 * i) (omega arith) ∙ kept-take s₂ (32 * i) (omega arith) ∙ kept-take s₁ (32 * i) (omega arith);
-  past = kept-drop s₄ (32 * (i + 1)) (omega arith) ∙ kept-drop s₃ (32 * (i + 1)) (omega arith) ∙ kept-drop s₂ (32 * (i + 1)) (omega arith)
-      ∙ kept-drop s₁ (32 * (i + 1)) (omega arith);
+  rest = kept-part s₄ 12 (recordPlace i + 20) (λ l. omega arith) ∙ kept-part s₃ 12 (recordPlace i + 20) (λ l. omega arith) ∙ kept-part s₂ 12 (recordPlace i + 20) (λ l. omega arith)
+      ∙ kept-part s₁ 12 (recordPlace i + 20) (λ l. omega arith);
+  before = kept-take s₄ (recordPlace i) (omega arith) ∙ kept-take s₃ (recordPlace i) (omega arith) ∙ kept-take s₂ (recordPlace i) (omega arith) ∙ kept-take s₁ (recordPlace i) (omega arith);
+  past = kept-drop s₄ (recordPlace (i + 1)) (omega arith) ∙ kept-drop s₃ (recordPlace (i + 1)) (omega arith) ∙ kept-drop s₂ (recordPlace (i + 1)) (omega arith)
+      ∙ kept-drop s₁ (recordPlace (i + 1)) (omega arith);
   long = s₄ .kept ∙ s₃ .kept ∙ s₂ .kept ∙ s₁ .kept;
 }
 
-pub rewrote-row : {i a to end last edge : ℕ} {w r q r′ : List ℕ} → Holds 2 r (32 * i) a → Holds 2 r (32 * i + 2) to → Holds 4 r (32 * i + 4) end
+pub rewrote-row : {i a to end last edge : ℕ} {w r q r′ : List ℕ} → Holds 2 r (recordPlace i) a → Holds 2 r (recordPlace i + R-TO) to → Holds 4 r (recordPlace i + R-ENDS) end
     → Holds 2 q (2 * (end - 1)) last → EdgeIs w a to edge → EdgePut r i edge last to end r′ → RewroteRow w r q i r′
 rewrote-row ha ht he hl e p = record {
   row = record {
@@ -77,7 +80,7 @@ rewrote-row ha ht he hl e p = record {
 -- the first i are rewritten, and all from there on is as it was
 pub record Rewriting (m : ℕ) (w r₀ q r : List ℕ) (i : ℕ) : Type 0 where
   pub rows : (j : ℕ) → j < i → EdgeFrom w r₀ q j r
-  pub back : drop (32 * i) r ≡ drop (32 * i) r₀
+  pub back : drop (recordPlace i) r ≡ drop (recordPlace i) r₀
   pub long : length r ≡ length r₀
   pub inside : i ≤ m
 
@@ -85,38 +88,38 @@ pub rewrite-start : {m : ℕ} {w r q : List ℕ} → Rewriting m w r q r 0
 rewrite-start = record { rows = λ j h. absurd (omega arith); back = refl; long = refl; inside = omega arith }
 
 -- a row before those that change
-edge-kept : {w r₀ q r r′ : List ℕ} {j i : ℕ} → take (32 * i) r′ ≡ take (32 * i) r → j < i → EdgeFrom w r₀ q j r → EdgeFrom w r₀ q j r′
+edge-kept : {w r₀ q r r′ : List ℕ} {j i : ℕ} → take (recordPlace i) r′ ≡ take (recordPlace i) r → j < i → EdgeFrom w r₀ q j r → EdgeFrom w r₀ q j r′
 edge-kept {r} {r′} {j} {i} e h g =
-    let same : (k o : ℕ) → o + k ≤ 32 → numAt k r′ (32 * j + o) ≡ numAt k r (32 * j + o) = λ k o l. num-prefix r′ r (32 * i) e k (32 * j + o) (omega arith) in
+    let same : (k o : ℕ) → o + k ≤ RECORD → numAt k r′ (recordPlace j + o) ≡ numAt k r (recordPlace j + o) = λ k o l. num-prefix r′ r (recordPlace i) e k (recordPlace j + o) (omega arith) in
     record {
-      start = num-prefix r′ r (32 * i) e 2 (32 * j) (omega arith) ∙ g .start;
+      start = num-prefix r′ r (recordPlace i) e 2 (recordPlace j) (omega arith) ∙ g .start;
       edge = same 2 2 (omega arith) ∙ g .edge;
       last = same 2 4 (omega arith) ∙ g .last;
       to = same 2 6 (omega arith) ∙ g .to;
       end = same 4 16 (omega arith) ∙ g .end;
-      rest = part-prefix r′ r (32 * i) e 12 (32 * j + 20) (omega arith) ∙ g .rest;
+      rest = part-prefix r′ r (recordPlace i) e 12 (recordPlace j + 20) (omega arith) ∙ g .rest;
     }
 
 module _ {m i : ℕ} {w r₀ q r : List ℕ} (g : Rewriting m w r₀ q r i) where
   -- the fields of record i are still the first ones
-  same : (k o : ℕ) → numAt k r (32 * i + o) ≡ numAt k r₀ (32 * i + o)
-  same k o = num-suffix r r₀ (32 * i) (g .back) k (32 * i + o) (omega arith)
+  same : (k o : ℕ) → numAt k r (recordPlace i + o) ≡ numAt k r₀ (recordPlace i + o)
+  same k o = num-suffix r r₀ (recordPlace i) (g .back) k (recordPlace i + o) (omega arith)
 
   same-start : startAt r i ≡ startAt r₀ i
-  same-start = num-suffix r r₀ (32 * i) (g .back) 2 (32 * i) (omega arith)
+  same-start = num-suffix r r₀ (recordPlace i) (g .back) 2 (recordPlace i) (omega arith)
 
   pub rewrite-row : Rewrites m w r₀ q → i < m → RewritesRow w r q i
   rewrite-row a h = let x = a .each i h in record {
     inR = omega (arith, x .inR, g .long);
     inW = rw same-start (x .inW);
-    some = rw (same 4 4) (x .some);
-    inQ = rw (same 4 4) (x .inQ);
+    some = rw (same 4 R-ENDS) (x .some);
+    inQ = rw (same 4 R-ENDS) (x .inQ);
   }
 
   pub rewrite-turn : {r′ : List ℕ} → i < m → RewroteRow w r q i r′ → Rewriting m w r₀ q r′ (i + 1)
   rewrite-turn {r′} h t = record {
     rows = λ j l. split j l (ℕ-discrete j i);
-    back = t .past ∙ drop-more r r₀ (32 * i) (g .back) (32 * (i + 1)) (omega arith);
+    back = t .past ∙ drop-more r r₀ (recordPlace i) (g .back) (recordPlace (i + 1)) (omega arith);
     long = t .long ∙ g .long;
     inside = omega arith;
   }
@@ -128,7 +131,7 @@ module _ {m i : ℕ} {w r₀ q r : List ℕ} (g : Rewriting m w r₀ q r i) wher
         last = t .row .last ∙ rw (same 4 4);
         to = t .row .to ∙ same 2 2;
         end = t .row .end ∙ same 4 4;
-        rest = t .row .rest ∙ part-suffix r r₀ (32 * i) (g .back) 12 (32 * i + 20) (omega arith);
+        rest = t .row .rest ∙ part-suffix r r₀ (recordPlace i) (g .back) 12 (recordPlace i + 20) (omega arith);
       }
 
       split : (j : ℕ) → j < i + 1 → Dec (j ≡ i) → EdgeFrom w r₀ q j r′

@@ -11,8 +11,8 @@ use Rattle.spec.specs.Blocks.{Kind, terminate, jump, jumpi, dynamic-jump, dynam
 use Rattle.spec.specs.Stacks.{run}
 use Rattle.spec.specs.Search.{Node, node, sides}
 use Rattle.spec.specs.Answer.{prepared}
-use Rattle.theorems.proofs.Branch.{both}
-use Rattle.theorems.proofs.Members.{In, in-only, in-map}
+use Rattle.laws.proofs.Branch.{both}
+use Rattle.laws.proofs.Members.{In, in-only, in-map}
 use Rattle.theorems.proofs.Sides.{Within, node-within, sides-within}
 use Rattle.initial.specs.Rows.{blocksAt}
 use Rattle.graph.specs.Notes.{noteOf, byNote, mergedKind, mergedBlock}

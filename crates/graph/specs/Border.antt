@@ -1,7 +1,7 @@
 -- The border to the answer: what stands in W and R once the blocks are merged, the rows of edges made, and what is reached flagged. Assumes nothing.
 use mathlib.Core.Path.{_≡_}
 use mathlib.Core.List.{List, [], _∷_, map}
-use Prim.Native.Nat.{ℕ, zero, suc, _+_, _-_, _*_, _^_, _≤_, _<_}
+use Prim.Native.Nat.{ℕ, suc, _+_, _-_, _*_, _^_, _≤_, _<_}
 use lib.ListN.{length, drop}
 use Rattle.spec.specs.Lists.{mem, lastOf}
 use Rattle.spec.specs.Reach.{closure}
@@ -11,26 +11,23 @@ use Rattle.spec.specs.Ending.{Final, finals, final-edges}
 use Rattle.spec.specs.Entries.{destination}
 use Rattle.spec.specs.Answer.{prepared}
 use Rattle.lent.specs.Bytes.{numAt}
+use Rattle.layout.specs.Edges.{E-WITNESS, E-OWN, endAt}
+use Rattle.layout.specs.Records.{RECORD, recordPlace}
 use Rattle.initial.specs.Rows.{blocksAt}
 use Rattle.tables.specs.Addrs.{addrs}
 use Rattle.reachable.specs.Marks.{flagged}
 use Rattle.reachable.specs.Contracts.{Room}
 use Rattle.reachable.specs.Pruning.{Chains}
 
--- where the path of record i ends in Q, counted in addresses: that of the one before is where the next begins
-unfoldable pub endAt : List ℕ → ℕ → ℕ
-endAt r zero = 0
-endAt r (suc i) = numAt 4 r (32 * i + 16)
-
 -- R after the rewriting: row i of m, against the record x
 pub record EdgeOf (n : ℕ) (w r q : List ℕ) (i : ℕ) (x : Rec) : Type 0 where
-  pub start : numAt 2 r (32 * i) ≡ x .start
-  pub to : numAt 2 r (32 * i + 6) ≡ destination (x .to)
-  pub last : numAt 2 r (32 * i + 4) ≡ lastOf (x .path)
+  pub start : numAt 2 r (recordPlace i) ≡ x .start
+  pub to : numAt 2 r (recordPlace i + E-OWN) ≡ destination (x .to)
+  pub last : numAt 2 r (recordPlace i + E-WITNESS) ≡ lastOf (x .path)
   pub path : addrs q (endAt r i) (endAt r (suc i) - endAt r i) ≡ x .path
   pub rises : endAt r i ≤ endAt r (suc i)
   pub inQ : 2 * endAt r (suc i) ≤ length q
-  pub inR : 32 * i + 32 ≤ length r
+  pub inR : recordPlace i + RECORD ≤ length r
   pub starts : x .start ≤ n
   pub lands : (t : ℕ) (s : Stack) → x .to ≡ found t s → t ≤ n
 

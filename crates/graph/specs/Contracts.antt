@@ -5,26 +5,31 @@ use Prim.Native.Nat.{ℕ, _+_, _-_, _*_, _^_, _≤_, _<_}
 use lib.ListN.{length, take, drop, replicate}
 use Rattle.spec.specs.Search.{Node, Rec, dest}
 use Rattle.spec.specs.Answer.{prepared}
-use Rattle.theorems.specs.Lists.{In}
+use Rattle.laws.specs.Lists.{In}
 use Rattle.lent.specs.Bytes.{numAt}
-use Rattle.initial.specs.Rows.{tagAt, rowBlocks, blocksAt}
-use Rattle.tables.specs.Records.{startAt, toAt, recsOf, Row}
+use Rattle.layout.specs.Edges.{E-TO, E-WITNESS, E-OWN, E-ENDS}
+use Rattle.layout.specs.Fields.{noteAt, COUNT, LAST}
+use Rattle.layout.specs.Parts.{ROW, rowPlace, SameRows, fieldsPlace, PastRows, PastFields, PastList}
+use Rattle.layout.specs.Records.{RECORD, recordPlace, R-ENDS, startAt, toAt}
+use Rattle.layout.specs.Rows.{tagAt}
+use Rattle.initial.specs.Rows.{rowBlocks, blocksAt}
+use Rattle.tables.specs.Records.{recsOf, Row}
 use Rattle.reachable.specs.Contracts.{Room, Fresh}
 use Rattle.reachable.specs.Pruning.{Chains}
 use Rattle.graph.specs.Border.{Finished}
-use Rattle.graph.specs.Notes.{noteAt, stepped, noteOf, mergedBy, mergedBlock, mergedRow, edgeTo}
+use Rattle.graph.specs.Notes.{stepped, noteOf, mergedBy, mergedBlock, edgeTo, mergedRow}
 
 -- ---- notes
 
 -- record i stands in R, and starts at an address
 pub record Starts (n : ℕ) (r : List ℕ) (i : ℕ) : Type 0 where
-  pub inR : 32 * i + 32 ≤ length r
+  pub inR : recordPlace i + RECORD ≤ length r
   pub start : startAt r i ≤ n
 
 -- the rows of W stay, and what is past the fields of the addresses
 pub record RowsKept (n : ℕ) (w w′ : List ℕ) : Type 0 where
-  pub rows : take (20 * (n + 1)) w′ ≡ take (20 * (n + 1)) w
-  pub beyond : drop (40 * (n + 1)) w′ ≡ drop (40 * (n + 1)) w
+  pub rows : SameRows n w w′
+  pub beyond : PastFields n w w′
   pub long : length w′ ≡ length w
 
 pub record NotedRow (n : ℕ) (w r : List ℕ) (i : ℕ) (w′ : List ℕ) : Type 0 where
@@ -43,22 +48,22 @@ pub record Noted (n m : ℕ) (w r w′ : List ℕ) : Type 0 where
 
 pub record MergedRow (n : ℕ) (w : List ℕ) (a : ℕ) (w′ : List ℕ) : Type 0 where
   pub same : rowBlocks w′ a ≡ map (mergedBy n (noteAt w n a)) (rowBlocks w a)
-  pub bytes : take 20 (drop (20 * a) w′) ≡ mergedRow n (noteAt w n a) w a
-  pub before : take (20 * a) w′ ≡ take (20 * a) w
-  pub past : drop (20 * (a + 1)) w′ ≡ drop (20 * (a + 1)) w
+  pub bytes : take ROW (drop (rowPlace a) w′) ≡ mergedRow n (noteAt w n a) w a
+  pub before : take (rowPlace a) w′ ≡ take (rowPlace a) w
+  pub past : drop (rowPlace (a + 1)) w′ ≡ drop (rowPlace (a + 1)) w
   pub long : length w′ ≡ length w
 
 -- every block is merged by the note that stands in W, and by that of the records
 pub record Merged (n : ℕ) (w w′ : List ℕ) : Type 0 where
   pub blocks : blocksAt w′ n ≡ map (mergedBlock n (noteAt w n)) (blocksAt w n)
-  pub bytes : (a : ℕ) → a ≤ n → take 20 (drop (20 * a) w′) ≡ mergedRow n (noteAt w n a) w a
-  pub beyond : drop (20 * (n + 1)) w′ ≡ drop (20 * (n + 1)) w
+  pub bytes : (a : ℕ) → a ≤ n → take ROW (drop (rowPlace a) w′) ≡ mergedRow n (noteAt w n a) w a
+  pub beyond : PastRows n w w′
   pub long : length w′ ≡ length w
 
 pub record Settled (n m : ℕ) (w r w′ : List ℕ) : Type 0 where
   pub blocks : blocksAt w′ n ≡ map (mergedBlock n (λ (a : ℕ). noteOf r a m)) (blocksAt w n)
-  pub bytes : (a : ℕ) → a ≤ n → take 20 (drop (20 * a) w′) ≡ mergedRow n (noteOf r a m) w a
-  pub beyond : drop (40 * (n + 1)) w′ ≡ drop (40 * (n + 1)) w
+  pub bytes : (a : ℕ) → a ≤ n → take ROW (drop (rowPlace a) w′) ≡ mergedRow n (noteOf r a m) w a
+  pub beyond : PastFields n w w′
   pub long : length w′ ≡ length w
 
 -- ---- the rows of edges
@@ -70,35 +75,35 @@ pub record EdgeIs (w : List ℕ) (a to v : ℕ) : Type 0 where
 
 -- the fields of row i are stored, and its start and its last twelve bytes stay
 pub record EdgePut (r : List ℕ) (i to last own end : ℕ) (r′ : List ℕ) : Type 0 where
-  pub start : numAt 2 r′ (32 * i) ≡ startAt r i
-  pub edge : numAt 2 r′ (32 * i + 2) ≡ to
-  pub witness : numAt 2 r′ (32 * i + 4) ≡ last
-  pub leads : numAt 2 r′ (32 * i + 6) ≡ own
-  pub ends : numAt 4 r′ (32 * i + 16) ≡ end
-  pub rest : take 12 (drop (32 * i + 20) r′) ≡ take 12 (drop (32 * i + 20) r)
-  pub before : take (32 * i) r′ ≡ take (32 * i) r
-  pub past : drop (32 * (i + 1)) r′ ≡ drop (32 * (i + 1)) r
+  pub start : numAt 2 r′ (recordPlace i) ≡ startAt r i
+  pub edge : numAt 2 r′ (recordPlace i + E-TO) ≡ to
+  pub witness : numAt 2 r′ (recordPlace i + E-WITNESS) ≡ last
+  pub leads : numAt 2 r′ (recordPlace i + E-OWN) ≡ own
+  pub ends : numAt 4 r′ (recordPlace i + E-ENDS) ≡ end
+  pub rest : take 12 (drop (recordPlace i + 20) r′) ≡ take 12 (drop (recordPlace i + 20) r)
+  pub before : take (recordPlace i) r′ ≡ take (recordPlace i) r
+  pub past : drop (recordPlace (i + 1)) r′ ≡ drop (recordPlace (i + 1)) r
   pub long : length r′ ≡ length r
 
 pub record RewritesRow (w r q : List ℕ) (i : ℕ) : Type 0 where
-  pub inR : 32 * i + 32 ≤ length r
-  pub inW : 20 * startAt r i + 20 ≤ length w
-  pub some : 0 < numAt 4 r (32 * i + 4)
-  pub inQ : 2 * numAt 4 r (32 * i + 4) ≤ length q
+  pub inR : recordPlace i + RECORD ≤ length r
+  pub inW : rowPlace (startAt r i) + ROW ≤ length w
+  pub some : 0 < numAt 4 r (recordPlace i + R-ENDS)
+  pub inQ : 2 * numAt 4 r (recordPlace i + R-ENDS) ≤ length q
 
 -- row i of r′, against that of r
 pub record EdgeFrom (w r q : List ℕ) (i : ℕ) (r′ : List ℕ) : Type 0 where
-  pub start : numAt 2 r′ (32 * i) ≡ startAt r i
-  pub edge : numAt 2 r′ (32 * i + 2) ≡ edgeTo (tagAt w (startAt r i)) (toAt r i)
-  pub last : numAt 2 r′ (32 * i + 4) ≡ numAt 2 q (2 * (numAt 4 r (32 * i + 4) - 1))
-  pub to : numAt 2 r′ (32 * i + 6) ≡ toAt r i
-  pub end : numAt 4 r′ (32 * i + 16) ≡ numAt 4 r (32 * i + 4)
-  pub rest : take 12 (drop (32 * i + 20) r′) ≡ take 12 (drop (32 * i + 20) r)
+  pub start : numAt 2 r′ (recordPlace i) ≡ startAt r i
+  pub edge : numAt 2 r′ (recordPlace i + E-TO) ≡ edgeTo (tagAt w (startAt r i)) (toAt r i)
+  pub last : numAt 2 r′ (recordPlace i + E-WITNESS) ≡ numAt 2 q (2 * (numAt 4 r (recordPlace i + R-ENDS) - 1))
+  pub to : numAt 2 r′ (recordPlace i + E-OWN) ≡ toAt r i
+  pub end : numAt 4 r′ (recordPlace i + E-ENDS) ≡ numAt 4 r (recordPlace i + R-ENDS)
+  pub rest : take 12 (drop (recordPlace i + 20) r′) ≡ take 12 (drop (recordPlace i + 20) r)
 
 pub record RewroteRow (w r q : List ℕ) (i : ℕ) (r′ : List ℕ) : Type 0 where
   pub row : EdgeFrom w r q i r′
-  pub before : take (32 * i) r′ ≡ take (32 * i) r
-  pub past : drop (32 * (i + 1)) r′ ≡ drop (32 * (i + 1)) r
+  pub before : take (recordPlace i) r′ ≡ take (recordPlace i) r
+  pub past : drop (recordPlace (i + 1)) r′ ≡ drop (recordPlace (i + 1)) r
   pub long : length r′ ≡ length r
 
 pub record Rewrites (m : ℕ) (w r q : List ℕ) : Type 0 where
@@ -106,7 +111,7 @@ pub record Rewrites (m : ℕ) (w r q : List ℕ) : Type 0 where
 
 pub record Rewrote (m : ℕ) (w r q r′ : List ℕ) : Type 0 where
   pub rows : (i : ℕ) → i < m → EdgeFrom w r q i r′
-  pub beyond : drop (32 * m) r′ ≡ drop (32 * m) r
+  pub beyond : drop (recordPlace m) r′ ≡ drop (recordPlace m) r
   pub long : length r′ ≡ length r
 
 -- ---- the whole
@@ -137,14 +142,14 @@ pub record Graphs (n m : ℕ) (w r q : List ℕ) : Type 0 where
 -- and for each such, all is finished. Of W the worklist is scratch; all else, and every byte of R, is said.
 pub record Graphed (n m : ℕ) (w r q w′ r′ : List ℕ) : Type 0 where
   pub finished : (code s : List ℕ) (room : ℕ) → Fits code s room n m w r q → Finished code (recsOf r q s room m) w′ r′ q
-  pub rows : (a : ℕ) → a ≤ n → take 20 (drop (20 * a) w′) ≡ mergedRow n (noteOf r a m) w a
+  pub rows : (a : ℕ) → a ≤ n → take ROW (drop (rowPlace a) w′) ≡ mergedRow n (noteOf r a m) w a
   pub fresh : Fresh n w′
   pub edges : (i : ℕ) → i < m → EdgeFrom w′ r q i r′
   pub places : Chains n m 0 r′ w′ r′ 0
   pub witnesses : Chains n m 4 r′ w′ r′ 0
-  pub fields : (x : ℕ) → x ≤ n → take 6 (drop (20 * (n + 1 + x) + 12) w′) ≡ replicate 6 0
-  pub spare : (x : ℕ) → x ≤ n → take 1 (drop (20 * (n + 1 + x) + 19) w′) ≡ replicate 1 0
-  pub beyondW : drop (42 * (n + 1)) w′ ≡ drop (42 * (n + 1)) w
-  pub beyondR : drop (32 * m) r′ ≡ drop (32 * m) r
+  pub fields : (x : ℕ) → x ≤ n → take 6 (drop (fieldsPlace n x + COUNT) w′) ≡ replicate 6 0
+  pub spare : (x : ℕ) → x ≤ n → take 1 (drop (fieldsPlace n x + LAST) w′) ≡ replicate 1 0
+  pub beyondW : PastList n w w′
+  pub beyondR : drop (recordPlace m) r′ ≡ drop (recordPlace m) r
   pub longW : length w′ ≡ length w
   pub longR : length r′ ≡ length r

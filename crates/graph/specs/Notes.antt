@@ -2,20 +2,19 @@
 -- among the address's fields of others. Assumes nothing.
 use mathlib.Core.Bool.{not, _&&_}
 use mathlib.Core.List.{List, _++_}
-use Prim.Native.Nat.{ℕ, zero, suc, _+_, _-_, _*_}
+use Prim.Native.Nat.{ℕ, zero, suc, _+_, _-_}
 use lib.Dec.{eqb, leb}
 use lib.ListN.{take, drop}
 use Rattle.spec.specs.Lists.{if}
 use Rattle.spec.specs.Blocks.{Kind, terminate, jump, jumpi, dynamic-jump, dynamic-jumpi, Block, with-kind}
+use Rattle.spec.specs.Entries.{absent}
 use Rattle.lent.specs.Bytes.{numAt}
-use Rattle.initial.specs.Rows.{typed, tagAt, headOf}
-use Rattle.tables.specs.Records.{none, startAt, toAt}
+use Rattle.layout.specs.Records.{startAt, toAt}
+use Rattle.layout.specs.Parts.{ROW, rowPlace}
+use Rattle.layout.specs.Rows.{END, POSITION, typed, tagAt, headOf}
 
 abbrev pub several : ℕ
 several = 0xFFFFFFFF
-
-abbrev pub noteAt : List ℕ → ℕ → ℕ → ℕ
-noteAt w n a = numAt 4 w (20 * (n + 1 + a) + 4)
 
 -- a note with one destination more
 unfoldable pub joined : ℕ → ℕ → ℕ
@@ -23,7 +22,7 @@ joined old to = if (eqb old 0) (to + 1) (if (eqb old (to + 1)) old several)
 
 -- the note of a, with record i more
 unfoldable pub stepped : List ℕ → ℕ → ℕ → ℕ → ℕ
-stepped r i a old = if (eqb a (startAt r i)) (if (eqb (toAt r i) none) old (joined old (toAt r i))) old
+stepped r i a old = if (eqb a (startAt r i)) (if (eqb (toAt r i) absent) old (joined old (toAt r i))) old
 
 -- after the first m records
 unfoldable pub noteOf : List ℕ → ℕ → ℕ → ℕ
@@ -51,9 +50,9 @@ mergedBlock n notes b = mergedBy n (notes (b .start)) b
 -- the twenty bytes of the row of a after that: the kind and the sides are new where the kind is DynamicJump and its note says one destination
 unfoldable pub mergedRow : ℕ → ℕ → List ℕ → ℕ → List ℕ
 mergedRow n note w a =
-    if (eqb (tagAt w a) 5 && not (eqb note 0) && leb note (n + 1)) (headOf (numAt 2 w (20 * a + 2)) (typed 3 (note - 1) 0) ++ take 12 (drop (20 * a + 8) w))
-    (take 20 (drop (20 * a) w))
+    if (eqb (tagAt w a) 5 && not (eqb note 0) && leb note (n + 1)) (headOf (numAt 2 w (rowPlace a + END)) (typed 3 (note - 1) 0) ++ take 12 (drop (rowPlace a + POSITION) w))
+    (take ROW (drop (rowPlace a) w))
 
 -- the destination that a row of edges has: the record's, if its block is still a DynamicJump
 unfoldable pub edgeTo : ℕ → ℕ → ℕ
-edgeTo kind to = if (eqb kind 5) to none
+edgeTo kind to = if (eqb kind 5) to absent

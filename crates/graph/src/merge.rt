@@ -1,13 +1,13 @@
 // A DynamicJump whose records share one destination becomes a Jump.
 // "A DynamicJump whose entries share one target becomes a Jump."
-use crate::note::NOTE;
 use crate::note::note_all;
-use initial::row::BlockType;
-use initial::row::DYNAMIC_JUMP;
-use initial::row::END;
-use initial::row::JUMP;
-use initial::row::ROW;
-use initial::row::put_block;
+use layout::field::NOTE;
+use layout::row::BlockType;
+use layout::row::DYNAMIC_JUMP;
+use layout::row::END;
+use layout::row::JUMP;
+use layout::row::ROW;
+use layout::row::put_block;
 use lent::get8;
 use lent::get16;
 use lent::get32;

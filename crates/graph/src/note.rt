@@ -1,26 +1,21 @@
 // The note of each address, among its fields of others in W: the one destination of its records and 1 more, 0 for none, SEVERAL for more.
 // "A DynamicJump whose entries share one target becomes a Jump."
-use initial::row::ROW;
+use layout::MISSING;
+use layout::field::NOTE;
+use layout::record::RECORD;
+use layout::record::TO;
+use layout::row::ROW;
 use lent::get16;
 use lent::get32;
 use lent::put32;
 use reachable::begin;
-use tables::NONE;
 ghost use mathlib.Core.Path.{_≡_};
 ghost use Prim.Native.Nat.{_<_};
 ghost use Rattle.reachable.specs.Contracts.{Room};
 ghost use Rattle.graph.specs.Notes.{joined};
 ghost use Rattle.graph.specs.Contracts.{Starts, NotedRow, Notes, Noted};
 
-// Where an address's note stands among its 20 bytes.
-pub const NOTE: usize = 4;
-
 const SEVERAL: usize = 0xFFFF_FFFF;
-
-// The bytes of a record, and where its fields stand; its start is first.
-pub const RECORD: usize = 32;
-
-pub const TO: usize = 2;
 
 // Notes the destinations of the m records.
 pub fn note_all(w: &mut [u8], n: usize, r: &[u8], m: usize)
@@ -42,7 +37,7 @@ fn note(w: &mut [u8], n: usize, r: &[u8], i: usize)
     ensures { λ _. ⌜ NotedRow n (now (w .entry)) (now (r .entry)) i (now (w .exit)) ⌝ }
 {
     let to = get16(r, RECORD * i + TO);
-    if to == NONE {
+    if to == MISSING {
         return;
     }
     let a = get16(r, RECORD * i);

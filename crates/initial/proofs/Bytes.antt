@@ -1,48 +1,18 @@
--- What a byte is to the cutting: a rule over a range of bytes is one computed test. Assumes nothing.
+-- What a byte is to the cutting. Assumes nothing.
 use mathlib.Core.Path.{_≡_, refl, sym, ap, _∙_}
-use mathlib.Core.Bool.{Bool, true, false, _&&_, Bool·beq}
+use mathlib.Core.Bool.{Bool, true, false}
 use mathlib.Core.Logic.{_⊎_, inl, inr, ⊎-elim}
-use Prim.Native.Nat.{ℕ, zero, suc, _+_, _≤_, _<_}
+use Prim.Native.Nat.{ℕ, _≤_, _<_}
 use native.Mathlib.Nat.{eq-or-lt-of-le}
 use native.Mathlib.Omega.{arith}
-use native.Mathlib.Decide.{decLt}
 use borrow.Author.Tests.{ne-eqb}
 use Rattle.spec.specs.Lists.{if}
 use Rattle.spec.specs.Opcodes.{row}
 use Rattle.spec.specs.Blocks as spec
 use Rattle.spec.specs.Blocks.{cut}
-use Rattle.theorems.proofs.Branch.{if-true, if-false}
-use Rattle.theorems.proofs.Members.{and-both}
+use Rattle.laws.proofs.Branch.{if-true, if-false}
 use Rattle.initial.specs.Turn.{cutOf}
 use Rattle.initial.specs.declared.turn.Cut.the-variants.{Ends, Unknown, Other}
-
--- f holds of the n numbers from a on
-unfoldable pub all : (ℕ → Bool) → ℕ → ℕ → Bool
-all f a zero = true
-all f a (suc n) = f a && all f (suc a) n
-
-all-at : (f : ℕ → Bool) (a n x : ℕ) → all f a n ≡ true → a ≤ x → x < a + n → f x ≡ true
-unfolding all
-all-at f a zero x e h g = absurd (omega arith)
-all-at f a (suc n) x e h g = let p = and-both (f a) (all f (suc a) n) e in go (decLt a x) (all-at f (suc a) n x (p .1)) (p .0)
-  where
-    go : Dec (a < x) → (suc a ≤ x → x < suc a + n → f x ≡ true) → f a ≡ true → f x ≡ true
-    go (yes l) more now = more (omega arith) (omega arith)
-    go (no l) more now = let q : x ≡ a = omega arith in rw q now
-
-beq-true : (a b : Bool) → Bool·beq a b ≡ true → a ≡ b
-beq-true true true e = refl
-beq-true true false e = sym e
-beq-true false true e = e
-beq-true false false e = refl
-
-abbrev pub known-test : Bool → ℕ → Bool
-known-test v x = Bool·beq v (row x .known)
-
--- ---- known and unknown bytes, a range each
-
-pub known-range : (v : Bool) (a n : ℕ) → all (known-test v) a n ≡ true → (x : ℕ) → a ≤ x → x < a + n → v ≡ row x .known
-known-range v a n e x h g = beq-true v (row x .known) (all-at (known-test v) a n x e h g)
 
 -- ---- the others, which no key of the decision fits
 

@@ -2,7 +2,7 @@
 use mathlib.Core.Path.{_≡_, refl, sym, ap, ap₂, _∙_}
 use mathlib.Core.Bool.{Bool, true, false, not, and-true}
 use mathlib.Core.List.{List, [], _∷_, _++_, map, map-append, append-nil}
-use Prim.Native.Nat.{ℕ, suc, _+_, _*_, _-_, _≤_, _<_}
+use Prim.Native.Nat.{ℕ, suc, _+_, _-_, _≤_, _<_}
 use native.Mathlib.Nat.{zero-add}
 use native.Mathlib.Omega.{arith}
 use lib.Dec.{eqb}
@@ -13,10 +13,12 @@ use Rattle.spec.specs.Blocks.{Kind, jump, jumpi, Block, block, with-kind, start
 use Rattle.lent.specs.Bytes.{numAt, Holds}
 use Rattle.lent.proofs.Parts.{drop-more}
 use Rattle.lent.proofs.Stored.{kept-take, kept-drop}
-use Rattle.theorems.proofs.Branch.{both, if-true, if-false, and-false}
-use Rattle.initial.specs.Rows.{typed, typeOf, kindOf, rowBlocks, blocksFrom, blocksAt, Laid}
-use Rattle.initial.specs.Contracts.{Written, Put, TypeIs, Rows, rechecked, CheckedRow}
-use Rattle.initial.specs.declared.row.BlockType.{BlockType}
+use Rattle.laws.proofs.Branch.{both, if-true, if-false, and-false}
+use Rattle.layout.specs.Parts.{rowPlace, rowsEnd}
+use Rattle.layout.specs.Rows.{END, typed, Put, TypeIs}
+use Rattle.layout.specs.declared.row.BlockType.{BlockType}
+use Rattle.initial.specs.Rows.{typeOf, kindOf, rowBlocks, blocksFrom, blocksAt, Laid}
+use Rattle.initial.specs.Contracts.{Written, Rows, rechecked, CheckedRow}
 use Rattle.initial.proofs.Types.{Good, kind-type, kind-jump, kind-jumpi, good-terminate, good-jump, good}
 use Rattle.initial.proofs.Rows.{here-suffix, from-prefix, from-suffix, from-split, here-block, by-row, start-at, start-past}
 use Rattle.initial.proofs.Writing.{put-here, put-laid}
@@ -27,7 +29,7 @@ module _ (code w : List ℕ) (t : ℕ) where
   pub starts-past : length code < t → false ≡ mem t (starts (blocksAt w (length code)))
   starts-past h = sym (start-past w t (length code) h)
 
-  pub starts-tag : {k : ℕ} → t ≤ length code → Holds 1 w (20 * t) k → not (eqb k 0) ≡ mem t (starts (blocksAt w (length code)))
+  pub starts-tag : {k : ℕ} → t ≤ length code → Holds 1 w (rowPlace t) k → not (eqb k 0) ≡ mem t (starts (blocksAt w (length code)))
   starts-tag h k = rw (k .is) (sym (start-at w t (length code) h))
 
   pub lands-past : length code ≤ t → false ≡ lands code (starts (blocksAt w (length code))) t
@@ -86,7 +88,7 @@ module _ {code w : List ℕ} {a : ℕ} {t : BlockType} (r : Rows code w) (h : a 
   ss : List ℕ
   ss = starts (blocksAt w (length code))
 
-  row-written : {w′ : List ℕ} {end : ℕ} {k : BlockType} → (t .kind ≡ 0 → ⊥) → Holds 2 w (20 * a + 2) end → kindOf k ≡ checked code ss (kindOf t) → Good k → Put w a end k w′
+  row-written : {w′ : List ℕ} {end : ℕ} {k : BlockType} → (t .kind ≡ 0 → ⊥) → Holds 2 w (rowPlace a + END) end → kindOf k ≡ checked code ss (kindOf t) → Good k → Put w a end k w′
       → CheckedRow code w a w′
   unfolding ss
   row-written {w′} {end} {k} z e q g p =
@@ -95,20 +97,20 @@ module _ {code w : List ℕ} {a : ℕ} {t : BlockType} (r : Rows code w) (h : a 
             put-here p g (e .small)
             ∙ rw (q, e .is, y .is)
             (sym (ap (map (rechecked code (starts (blocksAt w (length code))))) (here-block w a (λ n. z (ap (λ (b : BlockType). b .kind) (y .is) ∙ n)))));
-        before = kept-take (p .stored) (20 * a) (omega arith);
-        past = kept-drop (p .stored) (20 * (a + 1)) (omega arith);
+        before = kept-take (p .stored) (rowPlace a) (omega arith);
+        past = kept-drop (p .stored) (rowPlace (a + 1)) (omega arith);
         laid = put-laid p (length code) (r .laid) h g (e .small);
         kept = p .stored .kept;
       }
 
-  pub row-jump : {w′ : List ℕ} {end : ℕ} {k : BlockType} → t .kind ≡ 3 → Holds 2 w (20 * a + 2) end
+  pub row-jump : {w′ : List ℕ} {end : ℕ} {k : BlockType} → t .kind ≡ 3 → Holds 2 w (rowPlace a + END) end
       → k ≡ typeOf (checked code (starts (blocksAt w (length code))) (jump (t .to))) → Put w a end k w′ → CheckedRow code w a w′
   unfolding ss
   row-jump c e q p =
       row-written (λ n. omega arith) e (ap kindOf q ∙ kind-type _ ∙ ap (checked code ss) (sym (kind-jump t c)))
       (rw q (good-checked-jump code ss (t .to) (y .to))) p
 
-  pub row-jumpi : {w′ : List ℕ} {end : ℕ} {k : BlockType} → t .kind ≡ 4 → Holds 2 w (20 * a + 2) end
+  pub row-jumpi : {w′ : List ℕ} {end : ℕ} {k : BlockType} → t .kind ≡ 4 → Holds 2 w (rowPlace a + END) end
       → k ≡ typeOf (checked code (starts (blocksAt w (length code))) (jumpi (t .to) (t .other))) → Put w a end k w′ → CheckedRow code w a w′
   unfolding ss
   row-jumpi c e q p =
@@ -120,7 +122,7 @@ module _ {code w : List ℕ} {a : ℕ} {t : BlockType} (r : Rows code w) (h : a 
       record {
         same =
             by-row w a (λ (bs : List Block). bs ≡ map (rechecked code (starts (blocksAt w (length code)))) bs) (λ _. refl)
-            (λ _. ap {B = List Block} (λ (k : Kind). block a a (numAt 2 w (20 * a + 2)) k ∷ []) (sym (rw (y .is) at (kind-same code (starts (blocksAt w (length code))) t c d))));
+            (λ _. ap {B = List Block} (λ (k : Kind). block a a (numAt 2 w (rowPlace a + END)) k ∷ []) (sym (rw (y .is) at (kind-same code (starts (blocksAt w (length code))) t c d))));
         before = refl;
         past = refl;
         laid = r .laid;
@@ -132,7 +134,7 @@ module _ {code w : List ℕ} {a : ℕ} {t : BlockType} (r : Rows code w) (h : a 
 -- the rows before a are checked, and the others are as they were
 pub record Checking (code w₀ w : List ℕ) (a : ℕ) : Type 0 where
   pub front : blocksFrom w 0 a ≡ map (rechecked code (starts (blocksAt w₀ (length code)))) (blocksFrom w₀ 0 a)
-  pub back : drop (20 * a) w ≡ drop (20 * a) w₀
+  pub back : drop (rowPlace a) w ≡ drop (rowPlace a) w₀
   pub laid : Laid w (length code)
   pub kept : length w ≡ length w₀
   pub inside : a ≤ length code + 1
@@ -158,18 +160,18 @@ module _ {code w₀ w : List ℕ} {a : ℕ} (r : Rows code w₀) (g : Checking c
   starts-kept =
       let k : ℕ = suc (length code) - a in
       let e : suc (length code) ≡ a + k = omega (arith, g .inside) in
-      let rest : blocksFrom w a k ≡ blocksFrom w₀ a k = from-suffix w w₀ a k (20 * a) (g .back) (omega arith) in
+      let rest : blocksFrom w a k ≡ blocksFrom w₀ a k = from-suffix w w₀ a k (rowPlace a) (g .back) (omega arith) in
       rw (e, from-split w a k 0, from-split w₀ a k 0, zero-add, rest, g .front) (starts-front (checked code (starts (blocksAt w₀ (length code)))) (blocksFrom w₀ 0 a) (blocksFrom w₀ a k))
 
   pub check-more : {w′ : List ℕ} → a ≤ length code → CheckedRow code w a w′ → Checking code w₀ w′ (a + 1)
   check-more {w′} h c =
-      let old : rowBlocks w a ≡ rowBlocks w₀ a = here-suffix w w₀ a (20 * a) (g .back) (omega arith) in
+      let old : rowBlocks w a ≡ rowBlocks w₀ a = here-suffix w w₀ a (rowPlace a) (g .back) (omega arith) in
       record {
         front =
             from-snoc w′ a
-            ∙ ap₂ (λ (x y : List Block). x ++ y) (from-prefix w′ w 0 a (20 * a) (c .before) (omega arith) ∙ g .front) (rw (starts-kept, old) at (c .same))
+            ∙ ap₂ (λ (x y : List Block). x ++ y) (from-prefix w′ w 0 a (rowPlace a) (c .before) (omega arith) ∙ g .front) (rw (starts-kept, old) at (c .same))
             ∙ sym (ap (map (rechecked code (starts (blocksAt w₀ (length code))))) (from-snoc w₀ a) ∙ map-append _ (blocksFrom w₀ 0 a) (rowBlocks w₀ a));
-        back = c .past ∙ drop-more w w₀ (20 * a) (g .back) (20 * (a + 1)) (omega arith);
+        back = c .past ∙ drop-more w w₀ (rowPlace a) (g .back) (rowPlace (a + 1)) (omega arith);
         laid = c .laid;
         kept = c .kept ∙ g .kept;
         inside = omega arith;
@@ -178,5 +180,5 @@ module _ {code w₀ w : List ℕ} {a : ℕ} (r : Rows code w₀) (g : Checking c
   pub check-done : length code < a → Written (length code) (check-all code (blocksAt w₀ (length code))) w₀ w
   check-done h =
       let e : a ≡ suc (length code) = omega (arith, g .inside) in
-      let all : 20 * a ≡ 20 * (length code + 1) = omega arith in
+      let all : rowPlace a ≡ rowsEnd (length code) = omega arith in
       record { blocks = rw e at (g .front); laid = g .laid; beyond = record { others = rw all at (g .back); kept = g .kept } }

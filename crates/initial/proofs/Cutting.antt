@@ -3,7 +3,7 @@ use mathlib.Core.Path.{_≡_, refl, sym, ap, _∙_}
 use mathlib.Core.Bool.{Bool, true, false, _||_}
 use mathlib.Core.List.{List, [], _∷_, _++_, map, append-nil}
 use mathlib.Core.Option.{Option, none}
-use Prim.Native.Nat.{ℕ, _+_, _*_, _-_, _≤_, _<_}
+use Prim.Native.Nat.{ℕ, _-_, _≤_, _<_}
 use native.Mathlib.Omega.{arith}
 use native.Mathlib.Decide.{decLe}
 use lib.Dec.{eqb}
@@ -19,11 +19,13 @@ use Rattle.evm.specs.declared.walk.Step.{Step}
 use Rattle.evm.specs.declared.walk.Step.the-variants as step
 use Rattle.evm.proofs.Walks.{next, walk-whole, walk-end, instructions-walk}
 use Rattle.evm.proofs.Steps.{Took, took, ended}
-use Rattle.theorems.proofs.Branch.{both, if-true, if-false}
+use Rattle.laws.proofs.Branch.{both, if-true, if-false}
+use Rattle.layout.specs.Parts.{rowsEnd}
+use Rattle.layout.specs.Rows.{Put}
+use Rattle.layout.specs.declared.row.BlockType.{BlockType}
 use Rattle.initial.specs.Rows.{typeOf, blocksAt, Laid}
 use Rattle.initial.specs.Turn.{clipped, pushedAt, ahead}
-use Rattle.initial.specs.Contracts.{Lent, Beyond, Written, Put, Stands, lowest, Standing, Ready, after, Turned, last, cutting}
-use Rattle.initial.specs.declared.row.BlockType.{BlockType}
+use Rattle.initial.specs.Contracts.{Lent, Beyond, Written, Stands, lowest, Standing, Ready, after, Turned, last, cutting}
 use Rattle.initial.specs.declared.turn.Mode.{Mode}
 use Rattle.initial.specs.declared.turn.Mode.the-variants.{Opened, Waiting, Ended}
 use Rattle.initial.proofs.Types.{Good, kind-type, good-terminate}
@@ -131,7 +133,7 @@ pub record Going (code w₀ w : List ℕ) (m : Mode) (prev at : ℕ) : Type 0 wh
   pub whole : blocksAt w (length code) ++ ahead code at m prev ≡ map clipped (cutting code)
   pub beyond : Beyond (length code) w₀ w
 
-module _ {code w w₀ : List ℕ} (l : Lent code w) (s : Stored (20 * (length code + 1)) w 0 (replicate (20 * (length code + 1)) 0) w₀) where
+module _ {code w w₀ : List ℕ} (l : Lent code w) (s : Stored (rowsEnd (length code)) w 0 (replicate (rowsEnd (length code)) 0) w₀) where
   pub cut-empty : length code ≡ 0 → Written (length code) (map clipped (cutting code)) w w₀
   cut-empty h =
       record {

@@ -9,7 +9,7 @@ use lib.ListN.{length}
 use Rattle.spec.specs.Lists.{if, mem}
 use Rattle.spec.specs.Walk.{instructions}
 use Rattle.spec.specs.Blocks.{Kind, terminate, jump, jumpi, dynamic-jump, dynamic-jumpi, Block, with-kind, lands, checked, starts, check-all, blocks}
-use Rattle.theorems.proofs.Branch.{if-false}
+use Rattle.laws.proofs.Branch.{if-false}
 use Rattle.initial.specs.Rows.{blocksAt}
 use Rattle.initial.specs.Turn.{clip, clipped}
 use Rattle.initial.specs.Contracts.{Lent, Written, cutting, Initial}

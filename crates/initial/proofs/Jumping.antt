@@ -12,11 +12,12 @@ use Rattle.spec.specs.Walk.{big}
 use Rattle.spec.specs.Blocks.{terminate, jumping, branching}
 use Rattle.evm.specs.Argument.{Follow, Spelled}
 use Rattle.evm.proofs.Arguments.{argument-push}
-use Rattle.theorems.proofs.Branch.{if-true, if-false}
-use Rattle.initial.specs.Rows.{typed, typeOf}
+use Rattle.laws.proofs.Branch.{if-true, if-false}
+use Rattle.layout.specs.Rows.{typed}
+use Rattle.layout.specs.declared.row.BlockType.{BlockType}
+use Rattle.initial.specs.Rows.{typeOf}
 use Rattle.initial.specs.Turn.{clip, pushedAt, targetOf, turnOf}
 use Rattle.initial.specs.Contracts.{Whole}
-use Rattle.initial.specs.declared.row.BlockType.{BlockType}
 use Rattle.initial.specs.declared.jump.Target.{Target}
 use Rattle.initial.specs.declared.jump.Target.the-variants.{Static, Dynamic}
 use Rattle.initial.specs.declared.turn.Cut.{Cut}

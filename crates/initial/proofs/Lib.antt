@@ -1,8 +1,7 @@
--- Rows, Types, Writing, Later and Once are what a crate above cites of the rows. The others serve the proofs of this one.
+-- Rows, Types, Writing and Once are what a crate above cites of the rows. The others serve the proofs of this one.
 pub mod Rows
 pub mod Types
 pub mod Writing
-pub mod Later
 pub mod Once
 mod Bytes
 mod Jumping

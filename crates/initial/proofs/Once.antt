@@ -2,7 +2,7 @@
 use mathlib.Core.Path.{_≡_, refl, sym, ap, ap₂, _∙_}
 use mathlib.Core.Bool.{false, not}
 use mathlib.Core.List.{List, [], _∷_, _++_}
-use Prim.Native.Nat.{ℕ, zero, suc, _+_, _*_, _≤_}
+use Prim.Native.Nat.{ℕ, zero, suc, _+_, _≤_}
 use native.Mathlib.Omega.{arith}
 use native.Mathlib.Decide.{ℕ-discrete}
 use lib.Dec.{eqb}
@@ -11,10 +11,10 @@ use lib.Seq.{take-add}
 use borrow.Author.Tests.{eq-eqb, eqb-true, not-false}
 use Rattle.spec.specs.Blocks.{Block}
 use Rattle.lent.proofs.Parts.{by-halves}
-use Rattle.lent.proofs.Once.{one-stored}
-use Rattle.initial.specs.Rows.{tagAt, blockAt, rowBlocks, blocksAt, rowOf, Laid}
-use Rattle.initial.specs.Contracts.{Beyond, Written, Initial, Put, TypeIs}
-use Rattle.initial.specs.declared.row.BlockType.{BlockType}
+use Rattle.layout.specs.Parts.{ROW, rowPlace, rowsEnd}
+use Rattle.layout.specs.Rows.{tagAt}
+use Rattle.initial.specs.Rows.{blockAt, rowBlocks, blocksAt, rowOf, Laid}
+use Rattle.initial.specs.Contracts.{Beyond, Written, Initial}
 use Rattle.initial.proofs.Rows.{here-empty, here-block, start-at, found, block-in}
 
 -- ---- the blocks say each row
@@ -35,17 +35,17 @@ module _ (w v : List ℕ) (n : ℕ) (e : blocksAt w n ≡ blocksAt v n) where
           here-block w a s ∙ ap {B = List Block} (λ (b : Block). b ∷ []) (f .1 .same) ∙ sym (here-block v a (f .1 .starts))
 
   module _ (p : Laid w n) (q : Laid v n) where
-    same-rows : (m : ℕ) → m ≤ suc n → take (20 * m) w ≡ take (20 * m) v
+    same-rows : (m : ℕ) → m ≤ suc n → take (rowPlace m) w ≡ take (rowPlace m) v
     same-rows zero h = refl
     same-rows (suc m) h =
-        let k : 20 * suc m ≡ 20 * m + 20 = omega arith in
-        let row : take 20 (drop (20 * m) w) ≡ take 20 (drop (20 * m) v) = p .row m (omega arith) ∙ ap rowOf (same-row m (omega arith)) ∙ sym (q .row m (omega arith)) in
-        rw (k, take-add (20 * m) 20 w, take-add (20 * m) 20 v) (ap₂ (λ (x y : List ℕ). x ++ y) (same-rows m (omega arith)) row)
+        let k : rowPlace (suc m) ≡ rowPlace m + ROW = omega arith in
+        let row : take ROW (drop (rowPlace m) w) ≡ take ROW (drop (rowPlace m) v) = p .row m (omega arith) ∙ ap rowOf (same-row m (omega arith)) ∙ sym (q .row m (omega arith)) in
+        rw (k, take-add (rowPlace m) ROW w, take-add (rowPlace m) ROW v) (ap₂ (λ (x y : List ℕ). x ++ y) (same-rows m (omega arith)) row)
 
     exact : {u : List ℕ} → Beyond n u w → Beyond n u v → w ≡ v
     exact b d =
-        let k : 20 * suc n ≡ 20 * (n + 1) = omega arith in
-        by-halves (20 * (n + 1)) w v (rw k at (same-rows (suc n) (omega arith))) (b .others ∙ sym (d .others))
+        let k : rowPlace (suc n) ≡ rowsEnd n = omega arith in
+        by-halves (rowsEnd n) w v (rw k at (same-rows (suc n) (omega arith))) (b .others ∙ sym (d .others))
 
 -- ---- so what a function ensures leaves one result
 
@@ -54,9 +54,3 @@ one-written {n} {bs} {u} {w} {v} p q = exact w v n (p .blocks ∙ sym (q .blocks
 
 pub one-initial : {code u w v : List ℕ} → Initial code u w → Initial code u v → w ≡ v
 one-initial {code} {u} {w} {v} p q = exact w v (length code) (p .same ∙ sym (q .same)) (p .laid) (q .laid) (p .beyond) (q .beyond)
-
-pub one-put : {w w′ w″ : List ℕ} {a end : ℕ} {t : BlockType} → Put w a end t w′ → Put w a end t w″ → w′ ≡ w″
-one-put p q = one-stored (p .stored) (q .stored) .1
-
-pub one-type : {w : List ℕ} {a : ℕ} {t u : BlockType} → TypeIs w a t → TypeIs w a u → t ≡ u
-one-type p q = p .is ∙ sym (q .is)

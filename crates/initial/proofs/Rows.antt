@@ -3,7 +3,7 @@ use mathlib.Core.Path.{_≡_, refl, sym, ap, ap₂, _∙_}
 use mathlib.Core.Logic.{_⊎_, inl, inr}
 use mathlib.Core.Bool.{true, false, not, _||_, or-assoc, or-false}
 use mathlib.Core.List.{List, [], _∷_, _++_, append-assoc, map-append}
-use Prim.Native.Nat.{ℕ, zero, suc, _+_, _*_, _-_, _≤_, _<_}
+use Prim.Native.Nat.{ℕ, zero, suc, _+_, _-_, _≤_, _<_}
 use native.Mathlib.Nat.{add-zero, zero-add, suc-add}
 use native.Mathlib.Omega.{arith}
 use native.Mathlib.Decide.{decLt}
@@ -15,33 +15,35 @@ use Rattle.spec.specs.Blocks.{Block, starts}
 use Rattle.lent.specs.Bytes.{numAt}
 use Rattle.lent.proofs.Parts.{part-prefix, part-suffix}
 use Rattle.lent.proofs.Numbers.{num-within}
-use Rattle.theorems.proofs.Branch.{both, if-true, if-false}
-use Rattle.theorems.proofs.Members.{In, here, in-only, in-right, in-cases}
-use Rattle.initial.specs.Rows.{tagAt, blockAt, rowBlocks, blocksFrom, blocksAt}
+use Rattle.laws.proofs.Branch.{both, if-true, if-false}
+use Rattle.laws.proofs.Members.{In, here, in-only, in-right, in-cases}
+use Rattle.layout.specs.Parts.{ROW, rowPlace, rowsEnd, SameRows}
+use Rattle.layout.specs.Rows.{END, TO, OTHER, tagAt}
+use Rattle.initial.specs.Rows.{blockAt, rowBlocks, blocksFrom, blocksAt}
 
 -- ---- what they depend on: a row's own bytes, and of these the kind, the end and the sides
 
 module _ (w v : List ℕ) (a : ℕ) where
-  pub here-fields : tagAt w a ≡ tagAt v a → numAt 2 w (20 * a + 2) ≡ numAt 2 v (20 * a + 2)
-      → numAt 2 w (20 * a + 4) ≡ numAt 2 v (20 * a + 4) → numAt 2 w (20 * a + 6) ≡ numAt 2 v (20 * a + 6) → rowBlocks w a ≡ rowBlocks v a
+  pub here-fields : tagAt w a ≡ tagAt v a → numAt 2 w (rowPlace a + END) ≡ numAt 2 v (rowPlace a + END)
+      → numAt 2 w (rowPlace a + TO) ≡ numAt 2 v (rowPlace a + TO) → numAt 2 w (rowPlace a + OTHER) ≡ numAt 2 v (rowPlace a + OTHER) → rowBlocks w a ≡ rowBlocks v a
   unfolding rowBlocks
   here-fields k e t f = rw (k, e, t, f)
 
-  module _ (e : take 20 (drop (20 * a) w) ≡ take 20 (drop (20 * a) v)) where
-    field : (k o : ℕ) → o + k ≤ 20 → numAt k w (20 * a + o) ≡ numAt k v (20 * a + o)
-    field k o h = num-within w v 20 (20 * a) (20 * a) e k o h
+  module _ (e : take ROW (drop (rowPlace a) w) ≡ take ROW (drop (rowPlace a) v)) where
+    field : (k o : ℕ) → o + k ≤ ROW → numAt k w (rowPlace a + o) ≡ numAt k v (rowPlace a + o)
+    field k o h = num-within w v ROW (rowPlace a) (rowPlace a) e k o h
 
     pub tag-row : tagAt w a ≡ tagAt v a
     tag-row = rw add-zero at (field 1 0 (omega arith))
 
     pub here-row : rowBlocks w a ≡ rowBlocks v a
-    here-row = here-fields tag-row (field 2 2 (omega arith)) (field 2 4 (omega arith)) (field 2 6 (omega arith))
+    here-row = here-fields tag-row (field 2 END (omega arith)) (field 2 TO (omega arith)) (field 2 OTHER (omega arith))
 
-  pub here-prefix : (k : ℕ) → take k w ≡ take k v → 20 * a + 20 ≤ k → rowBlocks w a ≡ rowBlocks v a
-  here-prefix k e h = here-row (part-prefix w v k e 20 (20 * a) h)
+  pub here-prefix : (k : ℕ) → take k w ≡ take k v → rowPlace a + ROW ≤ k → rowBlocks w a ≡ rowBlocks v a
+  here-prefix k e h = here-row (part-prefix w v k e ROW (rowPlace a) h)
 
-  pub here-suffix : (k : ℕ) → drop k w ≡ drop k v → k ≤ 20 * a → rowBlocks w a ≡ rowBlocks v a
-  here-suffix k e h = here-row (part-suffix w v k e 20 (20 * a) h)
+  pub here-suffix : (k : ℕ) → drop k w ≡ drop k v → k ≤ rowPlace a → rowBlocks w a ≡ rowBlocks v a
+  here-suffix k e h = here-row (part-suffix w v k e ROW (rowPlace a) h)
 
 module _ (w v : List ℕ) where
   pub from-rows : (a m : ℕ) → ((x : ℕ) → a ≤ x → x < a + m → rowBlocks w x ≡ rowBlocks v x) → blocksFrom w a m ≡ blocksFrom v a m
@@ -49,15 +51,15 @@ module _ (w v : List ℕ) where
   from-rows a zero h = refl
   from-rows a (suc m) h = ap₂ (λ (x y : List Block). x ++ y) (h a (omega arith) (omega arith)) (from-rows (suc a) m (λ x l g. h x (omega arith) (omega arith)))
 
-  pub from-prefix : (a m k : ℕ) → take k w ≡ take k v → 20 * (a + m) ≤ k → blocksFrom w a m ≡ blocksFrom v a m
+  pub from-prefix : (a m k : ℕ) → take k w ≡ take k v → rowPlace (a + m) ≤ k → blocksFrom w a m ≡ blocksFrom v a m
   from-prefix a m k e h = from-rows a m (λ x l g. here-prefix w v x k e (omega arith))
 
-  pub from-suffix : (a m k : ℕ) → drop k w ≡ drop k v → k ≤ 20 * a → blocksFrom w a m ≡ blocksFrom v a m
+  pub from-suffix : (a m k : ℕ) → drop k w ≡ drop k v → k ≤ rowPlace a → blocksFrom w a m ≡ blocksFrom v a m
   from-suffix a m k e h = from-rows a m (λ x l g. here-suffix w v x k e (omega arith))
 
   -- the rows' part of W says which blocks there are
-  pub blocks-prefix : (n : ℕ) → take (20 * (n + 1)) w ≡ take (20 * (n + 1)) v → blocksAt w n ≡ blocksAt v n
-  blocks-prefix n e = from-prefix 0 (suc n) (20 * (n + 1)) e (omega arith)
+  pub blocks-prefix : (n : ℕ) → SameRows n v w → blocksAt w n ≡ blocksAt v n
+  blocks-prefix n e = from-prefix 0 (suc n) (rowsEnd n) e (omega arith)
 
 -- ---- where they are split
 
@@ -102,11 +104,11 @@ module _ (w : List ℕ) where
 
 -- ---- one row is another: the blocks before it and past it stay
 
-pub row-changed : (w v : List ℕ) (n a : ℕ) → a ≤ n → take (20 * a) w ≡ take (20 * a) v → drop (20 * (a + 1)) w ≡ drop (20 * (a + 1)) v
+pub row-changed : (w v : List ℕ) (n a : ℕ) → a ≤ n → take (rowPlace a) w ≡ take (rowPlace a) v → drop (rowPlace (a + 1)) w ≡ drop (rowPlace (a + 1)) v
     → blocksAt w n ≡ blocksFrom v 0 a ++ (rowBlocks w a ++ blocksFrom v (suc a) (n - a))
 row-changed w v n a h b e =
     blocks-split w n a h
-    ∙ rw (from-prefix w v 0 a (20 * a) b (omega arith), from-suffix w v (suc a) (n - a) (20 * (a + 1)) e (omega arith))
+    ∙ rw (from-prefix w v 0 a (rowPlace a) b (omega arith), from-suffix w v (suc a) (n - a) (rowPlace (a + 1)) e (omega arith))
 
 -- ---- which addresses start a block
 

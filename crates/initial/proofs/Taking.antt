@@ -3,18 +3,20 @@ use mathlib.Core.Path.{_≡_, sym, ap, _∙_, subst}
 use mathlib.Core.Bool.{false}
 use mathlib.Core.List.{List, _++_, append-assoc}
 use mathlib.Core.Option.{Option}
-use Prim.Native.Nat.{ℕ, suc, _+_, _*_, _≤_, _<_}
+use Prim.Native.Nat.{ℕ, suc, _+_, _≤_, _<_}
 use native.Mathlib.Omega.{arith}
 use native.Mathlib.Decide.{decLt}
 use lib.Dec.{eqb}
 use lib.ListN.{length}
 use borrow.Author.Tests.{eqb-false}
 use Rattle.spec.specs.Blocks.{Block, cut}
-use Rattle.theorems.proofs.Branch.{both}
+use Rattle.laws.proofs.Branch.{both}
+use Rattle.layout.specs.Parts.{rowPlace}
+use Rattle.layout.specs.Rows.{BLOCK, Put}
+use Rattle.layout.specs.declared.row.BlockType.{BlockType}
 use Rattle.initial.specs.Rows.{blocksAt, Laid}
 use Rattle.initial.specs.Turn.{pushedAt, cutOf, turnOf, closed, then, ahead}
-use Rattle.initial.specs.Contracts.{Put, Beyond, Stands, Whole, Behind, lowest, Empty, Ready, after, Turned}
-use Rattle.initial.specs.declared.row.BlockType.{BlockType}
+use Rattle.initial.specs.Contracts.{Beyond, Stands, Whole, Behind, lowest, Empty, Ready, after, Turned}
 use Rattle.initial.specs.declared.turn.Cut.{Cut}
 use Rattle.initial.specs.declared.turn.Cut.the-variants.{Jumpdest, Jumpi, Jump, Ends, Unknown, Other}
 use Rattle.initial.specs.declared.turn.Mode.{Mode}
@@ -79,7 +81,7 @@ module _ {code w : List ℕ} {mode : Mode} {prev pc op : ℕ} (r : Ready code w 
   pub turn-asks : Behind code prev pc
   turn-asks = record { before = before-whole; inside = omega (arith, i .whole) }
 
-  pub turn-room : {start : ℕ} → mode ≡ Opened start → 20 * start + 8 ≤ length w
+  pub turn-room : {start : ℕ} → mode ≡ Opened start → rowPlace start + BLOCK ≤ length w
   turn-room o = omega (arith, rw o at (r .rows .low), r .rows .inside, r .rows .room)
 
   readied : {w′ : List ℕ} {m : Mode} → Beyond (length code) w w′ → Laid w′ (length code) → Empty w′ (lowest m (after pc op)) (length code)

@@ -15,7 +15,7 @@ use Rattle.spec.specs.Walk.{ins, walk}
 use Rattle.spec.specs.Blocks as spec
 use Rattle.spec.specs.Blocks.{Block, JUMPDEST, JUMPI, JUMP, UNKNOWN, OTHER, ENDS, cut, closes, cuts}
 use Rattle.evm.proofs.Walks.{walk-whole}
-use Rattle.theorems.proofs.Branch.{if-true, if-false}
+use Rattle.laws.proofs.Branch.{if-true, if-false}
 use Rattle.initial.specs.Turn.{clipped, pushedAt, cutOf, turnOf, closed, then, resume, ahead}
 use Rattle.initial.specs.Contracts.{Stands}
 use Rattle.initial.specs.declared.turn.Mode.{Mode}

@@ -7,9 +7,9 @@ use native.Mathlib.Nat.{min-le-right}
 use native.Mathlib.Omega.{arith}
 use Rattle.spec.specs.Lists.{if}
 use Rattle.spec.specs.Blocks.{Kind, terminate, jump, jumpi, dynamic-jump, dynamic-jumpi, jumping, branching}
+use Rattle.layout.specs.declared.row.BlockType.{BlockType}
 use Rattle.initial.specs.Rows.{typeOf, kindOf}
 use Rattle.initial.specs.Turn.{clip}
-use Rattle.initial.specs.declared.row.BlockType.{BlockType}
 
 pub kind-type : (k : Kind) → kindOf (typeOf k) ≡ k
 unfolding kindOf if

@@ -1,36 +1,24 @@
 -- One row is written: its block stands there, the other rows stay, and each row holds its block and nothing else. Assumes nothing.
 use mathlib.Core.Path.{_≡_, refl, sym, ap, _∙_}
 use mathlib.Core.List.{List, [], _∷_, _++_, append-nil}
-use Prim.Native.Nat.{ℕ, suc, _+_, _*_, _-_, _≤_, _<_}
+use Prim.Native.Nat.{ℕ, suc, _+_, _-_, _≤_, _<_}
 use native.Mathlib.Nat.{add-zero, zero-add}
 use native.Mathlib.Omega.{arith}
 use native.Mathlib.Decide.{ℕ-discrete}
 use lib.ListN.{take, drop, replicate, length-replicate, replicate-append-replicate}
 use lib.Seq.{take-add, take-at, drop-at, drop-drop}
-use Rattle.spec.specs.Lists.{little}
 use Rattle.spec.specs.Blocks.{Block, block}
-use Rattle.lent.specs.Bytes.{numAt, Holds, Stored}
+use Rattle.lent.specs.Bytes.{numAt, Stored}
 use Rattle.lent.proofs.Parts.{part-of-take}
 use Rattle.lent.proofs.Numbers.{number-little, num-zeros}
-use Rattle.lent.proofs.Stored.{kept-drop, kept-part, read-all, read-part, read-num, stored-join}
-use Rattle.initial.specs.Rows.{typed, kindOf, tagAt, rowBlocks, blocksFrom, blocksAt, headOf, rowOf, Laid}
-use Rattle.initial.specs.Contracts.{Put, TypeIs, Empty, Beyond}
-use Rattle.initial.specs.declared.row.BlockType.{BlockType}
+use Rattle.lent.proofs.Stored.{kept-drop, kept-part, read-all, read-part, read-num}
+use Rattle.layout.specs.Parts.{ROW, rowPlace, rowsEnd}
+use Rattle.layout.specs.Rows.{END, TO, OTHER, BLOCK, REST, tagAt, headOf, Put}
+use Rattle.layout.specs.declared.row.BlockType.{BlockType}
+use Rattle.initial.specs.Rows.{kindOf, rowBlocks, blocksFrom, blocksAt, rowOf, Laid}
+use Rattle.initial.specs.Contracts.{Empty, Beyond}
 use Rattle.initial.proofs.Types.{Good}
 use Rattle.initial.proofs.Rows.{here-row, tag-row, here-empty, here-block, from-rows, from-empty, blocks-split}
-
--- ---- a row's first eight bytes, two at a time, and its type read back
-
-module _ (a end : ℕ) (t : BlockType) {w w₁ w₂ w₃ w₄ : List ℕ} where
-  pub put-fields : Stored 2 w (20 * a) (little 2 (t .kind)) w₁ → Stored 2 w₁ (20 * a + 2) (little 2 end) w₂ → Stored 2 w₂ (20 * a + 4) (little 2 (t .to)) w₃
-      → Stored 2 w₃ (20 * a + 6) (little 2 (t .other)) w₄ → Put w a end t w₄
-  put-fields k e o f =
-      let four : 20 * a + 4 ≡ 20 * a + 2 + 2 = omega arith in
-      let six : 20 * a + 6 ≡ 20 * a + 2 + 2 + 2 = omega arith in
-      record { stored = stored-join k (stored-join e (stored-join (rw four at o) (rw six at f))) }
-
-pub read-type : {w : List ℕ} (a : ℕ) {k t f : ℕ} → Holds 1 w (20 * a) k → Holds 2 w (20 * a + 4) t → Holds 2 w (20 * a + 6) f → TypeIs w a (typed k t f)
-read-type a k t f = record { is = rw (k .is, t .is, f .is); to = t .small; other = f .small }
 
 -- ---- the fields of a row's first eight bytes
 
@@ -39,25 +27,25 @@ module _ (end : ℕ) (t : BlockType) where
   unfolding numAt
   head-tag h = number-little 1 (t .kind) h
 
-  head-end : end < 65536 → numAt 2 (headOf end t) 2 ≡ end
+  head-end : end < 65536 → numAt 2 (headOf end t) END ≡ end
   unfolding numAt
   head-end h = number-little 2 end h
 
-  head-to : t .to < 65536 → numAt 2 (headOf end t) 4 ≡ t .to
+  head-to : t .to < 65536 → numAt 2 (headOf end t) TO ≡ t .to
   unfolding numAt
   head-to h = number-little 2 (t .to) h
 
-  head-other : t .other < 65536 → numAt 2 (headOf end t) 6 ≡ t .other
+  head-other : t .other < 65536 → numAt 2 (headOf end t) OTHER ≡ t .other
   unfolding numAt
   head-other h = number-little 2 (t .other) h
 
-later-zero : (bs : List Block) → drop 8 (rowOf bs) ≡ replicate 12 0
+later-zero : (bs : List Block) → drop BLOCK (rowOf bs) ≡ replicate REST 0
 later-zero [] = refl
 later-zero (b ∷ bs) = refl
 
-pub laid-later : {w : List ℕ} {n : ℕ} → Laid w n → (a : ℕ) → a ≤ n → take 12 (drop (20 * a + 8) w) ≡ replicate 12 0
+pub laid-later : {w : List ℕ} {n : ℕ} → Laid w n → (a : ℕ) → a ≤ n → take REST (drop (rowPlace a + BLOCK) w) ≡ replicate REST 0
 laid-later {w} l a h =
-    rw (← drop-drop 8 (20 * a) w) (part-of-take 12 8 (drop (20 * a) w) ∙ ap (λ (bs : List ℕ). drop 8 bs) (l .row a h) ∙ later-zero (rowBlocks w a))
+    rw (← drop-drop BLOCK (rowPlace a) w) (part-of-take REST BLOCK (drop (rowPlace a) w) ∙ ap (λ (bs : List ℕ). drop BLOCK bs) (l .row a h) ∙ later-zero (rowBlocks w a))
 
 -- ---- the row that is written
 
@@ -70,18 +58,18 @@ module _ {w w′ : List ℕ} {a end : ℕ} {t : BlockType} (p : Put w a end t w�
       here-block w′ a (λ z. omega (arith, put-tag (omega (arith, g .range .1)), g .range .0))
       ∙ rw (
         put-tag (omega (arith, g .range .1)),
-        read-num (p .stored) 2 2 (omega arith),
+        read-num (p .stored) 2 END (omega arith),
         head-end end t e,
-        read-num (p .stored) 2 4 (omega arith),
+        read-num (p .stored) 2 TO (omega arith),
         head-to end t (g .to),
-        read-num (p .stored) 2 6 (omega arith),
+        read-num (p .stored) 2 OTHER (omega arith),
         head-other end t (g .other),
       )
 
   -- ---- the other rows
 
-  put-other : (x : ℕ) → (x ≡ a → ⊥) → take 20 (drop (20 * x) w′) ≡ take 20 (drop (20 * x) w)
-  put-other x h = kept-part (p .stored) 20 (20 * x) (λ l. omega arith)
+  put-other : (x : ℕ) → (x ≡ a → ⊥) → take ROW (drop (rowPlace x) w′) ≡ take ROW (drop (rowPlace x) w)
+  put-other x h = kept-part (p .stored) ROW (rowPlace x) (λ l. omega arith)
 
   pub put-tag-other : (x : ℕ) → (x ≡ a → ⊥) → tagAt w′ x ≡ tagAt w x
   put-tag-other x h = tag-row w′ w x (put-other x h)
@@ -91,15 +79,15 @@ module _ {w w′ : List ℕ} {a end : ℕ} {t : BlockType} (p : Put w a end t w�
 
   -- ---- the row holds its block and nothing else, where it held nothing past its first eight bytes
 
-  put-row : take 20 (drop (20 * a) w′) ≡ headOf end t ++ take 12 (drop (20 * a + 8) w)
+  put-row : take ROW (drop (rowPlace a) w′) ≡ headOf end t ++ take REST (drop (rowPlace a + BLOCK) w)
   put-row =
-      take-add 8 12 (drop (20 * a) w′)
-      ∙ rw (read-all (p .stored), drop-drop 8 (20 * a) w′, kept-part (p .stored) 12 (20 * a + 8) (λ l. omega arith))
+      take-add BLOCK REST (drop (rowPlace a) w′)
+      ∙ rw (read-all (p .stored), drop-drop BLOCK (rowPlace a) w′, kept-part (p .stored) REST (rowPlace a + BLOCK) (λ l. omega arith))
 
   pub put-laid : (n : ℕ) → Laid w n → a ≤ n → Good t → end < 65536 → Laid w′ n
   put-laid n l h g e = record { row = λ x k. go x k (ℕ-discrete x a) }
     where
-      go : (x : ℕ) → x ≤ n → Dec (x ≡ a) → take 20 (drop (20 * x) w′) ≡ rowOf (rowBlocks w′ x)
+      go : (x : ℕ) → x ≤ n → Dec (x ≡ a) → take ROW (drop (rowPlace x) w′) ≡ rowOf (rowBlocks w′ x)
       go x k (yes q) = rw (q, put-here g e, g .canon) (put-row ∙ ap (λ (bs : List ℕ). headOf end t ++ bs) (laid-later l a h))
       go x k (no q) = put-other x q ∙ l .row x k ∙ ap rowOf (sym (put-here-other x q))
 
@@ -117,7 +105,7 @@ module _ {w w′ : List ℕ} {a end : ℕ} {t : BlockType} (p : Put w a end t w�
   put-empty lo n z h = record { none = λ x l k. put-tag-other x (λ q. omega arith) ∙ z .none x (omega arith) k }
 
   pub put-beyond : (n : ℕ) → a ≤ n → Beyond n w w′
-  put-beyond n h = record { others = kept-drop (p .stored) (20 * (n + 1)) (omega arith); kept = p .stored .kept }
+  put-beyond n h = record { others = kept-drop (p .stored) (rowsEnd n) (omega arith); kept = p .stored .kept }
 
 pub less-empty : {w : List ℕ} {lo hi n : ℕ} → Empty w lo n → lo ≤ hi → Empty w hi n
 less-empty z h = record { none = λ x l k. z .none x (omega arith) k }
@@ -136,16 +124,16 @@ part-zeros k i m h =
     rw (← e, ← replicate-append-replicate {A = ℕ} i (k + (m - (i + k))) 0, drop-at (replicate {A = ℕ} i 0) _ i (length-replicate i 0), ← replicate-append-replicate {A = ℕ} k (m - (i + k)) 0)
     (take-at (replicate {A = ℕ} k 0) _ k (length-replicate k 0))
 
-module _ (n : ℕ) {w w′ : List ℕ} (s : Stored (20 * (n + 1)) w 0 (replicate (20 * (n + 1)) 0) w′) where
+module _ (n : ℕ) {w w′ : List ℕ} (s : Stored (rowsEnd n) w 0 (replicate (rowsEnd n) 0) w′) where
   pub wiped-empty : Empty w′ 0 n
-  wiped-empty = record { none = λ a l h. rw zero-add at (read-num s 1 (20 * a) (omega arith)) ∙ num-zeros 1 (20 * (n + 1)) (20 * a) }
+  wiped-empty = record { none = λ a l h. rw zero-add at (read-num s 1 (rowPlace a) (omega arith)) ∙ num-zeros 1 (rowsEnd n) (rowPlace a) }
 
   pub wiped-blocks : blocksAt w′ n ≡ []
   wiped-blocks = from-empty w′ 0 (suc n) (λ x l k. wiped-empty .none x (omega arith) (omega arith))
 
   pub wiped-laid : Laid w′ n
   wiped-laid =
-      record { row = λ a h. rw (here-empty w′ a (wiped-empty .none a (omega arith) h)) (rw zero-add at (read-part s 20 (20 * a) (omega arith)) ∙ part-zeros 20 (20 * a) (20 * (n + 1)) (omega arith)) }
+      record { row = λ a h. rw (here-empty w′ a (wiped-empty .none a (omega arith) h)) (rw zero-add at (read-part s ROW (rowPlace a) (omega arith)) ∙ part-zeros ROW (rowPlace a) (rowsEnd n) (omega arith)) }
 
   pub wiped-beyond : Beyond n w w′
-  wiped-beyond = record { others = kept-drop s (20 * (n + 1)) (omega arith); kept = s .kept }
+  wiped-beyond = record { others = kept-drop s (rowsEnd n) (omega arith); kept = s .kept }

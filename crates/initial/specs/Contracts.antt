@@ -2,27 +2,28 @@
 use mathlib.Core.Path.{_≡_}
 use mathlib.Core.List.{List, [], _∷_, _++_, map}
 use mathlib.Core.Option.{none}
-use Prim.Native.Nat.{ℕ, suc, _+_, _*_, _≤_, _<_}
+use Prim.Native.Nat.{ℕ, suc, _+_, _≤_, _<_}
 use lib.ListN.{length, getD, take, drop}
 use Rattle.spec.specs.Opcodes.{argument}
 use Rattle.spec.specs.Walk.{instructions}
 use Rattle.spec.specs.Blocks.{Block, with-kind, opened, cuts, checked, starts, blocks}
-use Rattle.lent.specs.Bytes.{Stored}
-use Rattle.initial.specs.Rows.{tagAt, typeAt, rowBlocks, blocksAt, headOf, Laid}
+use Rattle.spec.specs.Rooms.{longest, work-need}
+use Rattle.layout.specs.Parts.{rowPlace, rowsEnd, PastRows}
+use Rattle.layout.specs.Rows.{tagAt}
+use Rattle.initial.specs.Rows.{rowBlocks, blocksAt, Laid}
 use Rattle.initial.specs.Turn.{clipped, rest, ahead}
-use Rattle.initial.specs.declared.row.BlockType.{BlockType}
 use Rattle.initial.specs.declared.turn.Mode.{Mode}
 use Rattle.initial.specs.declared.turn.Mode.the-variants.{Opened, Waiting, Ended}
 
 -- ---- what the callers of the whole lend: "code over 24,576 bytes" is refused, and W short of "64 × code length + 256 bytes"
 
 pub record Lent (code w : List ℕ) : Type 0 where
-  pub short : length code ≤ 24576
-  pub room : 64 * length code + 256 ≤ length w
+  pub short : length code ≤ longest
+  pub room : work-need (length code) ≤ length w
 
 -- nothing past the rows changed
 pub record Beyond (n : ℕ) (w w′ : List ℕ) : Type 0 where
-  pub others : drop (20 * (n + 1)) w′ ≡ drop (20 * (n + 1)) w
+  pub others : PastRows n w w′
   pub kept : length w′ ≡ length w
 
 -- the rows hold these blocks and nothing else, which says each of their bytes, and nothing past the rows changed
@@ -30,18 +31,6 @@ pub record Written (n : ℕ) (bs : List Block) (w w′ : List ℕ) : Type 0 wher
   pub blocks : blocksAt w′ n ≡ bs
   pub laid : Laid w′ n
   pub beyond : Beyond n w w′
-
--- ---- one row
-
--- the block from a to end was written
-pub record Put (w : List ℕ) (a end : ℕ) (t : BlockType) (w′ : List ℕ) : Type 0 where
-  pub stored : Stored 8 w (20 * a) (headOf end t) w′
-
--- t is the type that stands in the row of a
-pub record TypeIs (w : List ℕ) (a : ℕ) (t : BlockType) : Type 0 where
-  pub is : t ≡ typeAt w a
-  pub to : t .to < 65536
-  pub other : t .other < 65536
 
 -- ---- the cutting
 
@@ -71,8 +60,8 @@ pub record Empty (w : List ℕ) (lo n : ℕ) : Type 0 where
 
 -- how the rows of a code of n bytes stand where the walk is at a place, with the last instruction at prev
 pub record Standing (n : ℕ) (w : List ℕ) (m : Mode) (prev at : ℕ) : Type 0 where
-  pub short : n ≤ 24576
-  pub room : 20 * (n + 1) ≤ length w
+  pub short : n ≤ longest
+  pub room : rowsEnd n ≤ length w
   pub laid : Laid w n
   pub empty : Empty w (lowest m at) n
   pub low : lowest m at ≤ at
@@ -117,8 +106,8 @@ rechecked code ss b = with-kind (checked code ss (b .kind)) b
 -- the row of one address was checked
 pub record CheckedRow (code w : List ℕ) (a : ℕ) (w′ : List ℕ) : Type 0 where
   pub same : rowBlocks w′ a ≡ map (rechecked code (starts (blocksAt w (length code)))) (rowBlocks w a)
-  pub before : take (20 * a) w′ ≡ take (20 * a) w
-  pub past : drop (20 * (a + 1)) w′ ≡ drop (20 * (a + 1)) w
+  pub before : take (rowPlace a) w′ ≡ take (rowPlace a) w
+  pub past : drop (rowPlace (a + 1)) w′ ≡ drop (rowPlace (a + 1)) w
   pub laid : Laid w′ (length code)
   pub kept : length w′ ≡ length w
 

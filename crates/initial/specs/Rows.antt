@@ -1,22 +1,18 @@
--- The rows of W: one of 20 bytes for each address from 0 to the code's length, in address order, which is the blocks' order.
--- A row: kind (1 byte, 0 where no block starts), turn flag (1), end (2), to or true side (2), false side (2), position (4),
--- first parent link (2), next link of each side (2, 2), next taker (2). The flag and all from the position on are for later stages, and 0 here.
--- Assumes nothing.
+-- The blocks that the rows of W hold, one for each address from 0 to the code's length, in address order, which is the blocks' order. Assumes nothing.
 use mathlib.Core.Path.{_≡_}
 use mathlib.Core.Bool.{true, false}
 use mathlib.Core.List.{List, [], _∷_, _++_}
-use Prim.Native.Nat.{ℕ, zero, suc, _+_, _*_, _≤_}
+use Prim.Native.Nat.{ℕ, zero, suc, _+_, _≤_}
 use lib.Dec.{eqb}
 use lib.ListN.{take, drop, replicate}
-use Rattle.spec.specs.Lists.{if, little}
+use Rattle.spec.specs.Lists.{if}
 use Rattle.spec.specs.Blocks.{Kind, terminate, jump, jumpi, dynamic-jump, dynamic-jumpi, Block, block}
 use Rattle.lent.specs.Bytes.{numAt}
-use Rattle.initial.specs.declared.row.BlockType.{BlockType}
+use Rattle.layout.specs.Parts.{ROW, rowPlace}
+use Rattle.layout.specs.Rows.{END, REST, typed, tagAt, typeAt, headOf}
+use Rattle.layout.specs.declared.row.BlockType.{BlockType}
 
 -- ---- kinds, by their byte and the two sides
-
-abbrev pub typed : ℕ → ℕ → ℕ → BlockType
-typed k to other = record { kind = k; to = to; other = other }
 
 -- the kind that is written so; a side that it does not have is 0
 abbrev pub typeOf : Kind → BlockType
@@ -38,18 +34,12 @@ kindOf t =
 
 -- ---- what stands in the row of an address
 
-abbrev pub tagAt : List ℕ → ℕ → ℕ
-tagAt w a = numAt 1 w (20 * a)
-
-abbrev pub typeAt : List ℕ → ℕ → BlockType
-typeAt w a = typed (tagAt w a) (numAt 2 w (20 * a + 4)) (numAt 2 w (20 * a + 6))
-
 abbrev pub kindAt : List ℕ → ℕ → Kind
 kindAt w a = kindOf (typeAt w a)
 
 -- "`id` equals `start`"
 abbrev pub blockAt : List ℕ → ℕ → Block
-blockAt w a = block a a (numAt 2 w (20 * a + 2)) (kindAt w a)
+blockAt w a = block a a (numAt 2 w (rowPlace a + END)) (kindAt w a)
 
 -- the block that starts at the address, if one does
 unfoldable pub rowBlocks : List ℕ → ℕ → List Block
@@ -66,13 +56,10 @@ blocksAt w n = blocksFrom w 0 (suc n)
 
 -- ---- a row's bytes
 
-abbrev pub headOf : ℕ → BlockType → List ℕ
-headOf end t = little 2 (t .kind) ++ (little 2 end ++ (little 2 (t .to) ++ little 2 (t .other)))
-
 abbrev pub rowOf : List Block → List ℕ
-rowOf [] = replicate 20 0
-rowOf (b ∷ bs) = headOf (b .end) (typeOf (b .kind)) ++ replicate 12 0
+rowOf [] = replicate ROW 0
+rowOf (b ∷ bs) = headOf (b .end) (typeOf (b .kind)) ++ replicate REST 0
 
 -- Each row holds its block and nothing else: so the blocks say every byte of the rows.
 pub record Laid (w : List ℕ) (n : ℕ) : Type 0 where
-  pub row : (a : ℕ) → a ≤ n → take 20 (drop (20 * a) w) ≡ rowOf (rowBlocks w a)
+  pub row : (a : ℕ) → a ≤ n → take ROW (drop (rowPlace a) w) ≡ rowOf (rowBlocks w a)

@@ -1,15 +1,15 @@
 // The checks afterwards, one row a turn.
 // "Afterwards a Jump to no block, or to a block whose first byte isn't 5B, becomes Terminate false. So does a Jumpi whose false side starts no block;
 // otherwise, if its true side starts none or isn't 5B, it becomes a Jump to its false side."
-use crate::op::JUMPDEST;
-use crate::row::BlockType;
-use crate::row::END;
-use crate::row::JUMP;
-use crate::row::JUMPI;
-use crate::row::ROW;
-use crate::row::TERMINATE;
-use crate::row::put_block;
-use crate::row::type_at;
+use evm::op::JUMPDEST;
+use layout::row::BlockType;
+use layout::row::END;
+use layout::row::JUMP;
+use layout::row::JUMPI;
+use layout::row::ROW;
+use layout::row::TERMINATE;
+use layout::row::put_block;
+use layout::row::type_at;
 use lent::get8;
 use lent::get16;
 ghost use mathlib.Core.Path.{_≡_};
@@ -17,6 +17,7 @@ ghost use Prim.Native.Nat.{_+_, _*_, _≤_};
 ghost use lib.ListN.{length};
 ghost use Rattle.spec.specs.Lists.{mem};
 ghost use Rattle.spec.specs.Blocks.{jump, jumpi, starts, lands, checked, check-all};
+ghost use Rattle.layout.specs.Parts.{rowsEnd};
 ghost use Rattle.initial.specs.Rows.{typeOf, blocksAt};
 ghost use Rattle.initial.specs.Contracts.{Written, Rows, CheckedRow};
 
@@ -56,7 +57,7 @@ fn check_row(code: &[u8], w: &mut [u8], a: usize)
 
 // A Jump to no block, or to one without a JUMPDEST, becomes Terminate false.
 fn checked_jump(code: &[u8], w: &[u8], to: usize) -> BlockType
-    requires { ⌜ 20 * (length (now code) + 1) ≤ length (now w) ⌝ }
+    requires { ⌜ rowsEnd (length (now code)) ≤ length (now w) ⌝ }
     ensures { λ r. ⌜ r ≡ typeOf (checked (now (code .entry)) (starts (blocksAt (now (w .entry)) (length (now (code .entry)))))
         (jump to)) ⌝ }
 {
@@ -76,7 +77,7 @@ fn checked_jump(code: &[u8], w: &[u8], to: usize) -> BlockType
 
 // A Jumpi whose false side starts no block becomes Terminate false; otherwise, if its true side does not land, a Jump to its false side.
 fn checked_jumpi(code: &[u8], w: &[u8], to: usize, other: usize) -> BlockType
-    requires { ⌜ 20 * (length (now code) + 1) ≤ length (now w) ⌝ }
+    requires { ⌜ rowsEnd (length (now code)) ≤ length (now w) ⌝ }
     ensures { λ r. ⌜ r ≡ typeOf (checked (now (code .entry)) (starts (blocksAt (now (w .entry)) (length (now (code .entry)))))
         (jumpi to other)) ⌝ }
 {
@@ -103,7 +104,7 @@ fn checked_jumpi(code: &[u8], w: &[u8], to: usize, other: usize) -> BlockType
 
 // Does a block start at t?
 fn starts(code: &[u8], w: &[u8], t: usize) -> bool
-    requires { ⌜ 20 * (length (now code) + 1) ≤ length (now w) ⌝ }
+    requires { ⌜ rowsEnd (length (now code)) ≤ length (now w) ⌝ }
     ensures { λ r. ⌜ r ≡ mem t (starts (blocksAt (now (w .entry)) (length (now (code .entry))))) ⌝ }
 {
     if code.len() < t {
@@ -114,7 +115,7 @@ fn starts(code: &[u8], w: &[u8], t: usize) -> bool
 
 // Does a block start at t, with a JUMPDEST?
 fn lands(code: &[u8], w: &[u8], t: usize) -> bool
-    requires { ⌜ 20 * (length (now code) + 1) ≤ length (now w) ⌝ }
+    requires { ⌜ rowsEnd (length (now code)) ≤ length (now w) ⌝ }
     ensures { λ r. ⌜ r ≡ lands (now (code .entry)) (starts (blocksAt (now (w .entry)) (length (now (code .entry))))) t ⌝ }
 {
     if code.len() <= t {

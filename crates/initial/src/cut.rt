@@ -1,15 +1,15 @@
 // Cutting code into blocks, one instruction a turn.
 // "Empty code has no blocks. ... A last open block is kept, Terminate false, if its start is not beyond the last instruction."
-use crate::op::JUMPDEST;
-use crate::row::ROW;
-use crate::row::put_block;
 use crate::turn::Mode;
 use crate::turn::Turn;
 use crate::turn::closes;
 use crate::turn::cut_of;
 use crate::turn::terminate;
+use evm::op::JUMPDEST;
 use evm::walk::Step;
 use evm::walker::step_from;
+use layout::row::ROW;
+use layout::row::put_block;
 use lent::wipe_part;
 ghost use mathlib.Core.List.{_++_, map};
 ghost use lib.ListN.{length};

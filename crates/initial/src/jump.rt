@@ -1,13 +1,13 @@
 // Jumps: "static only if the previous instruction is PUSH1 to PUSH4".
-use crate::op::PUSH0;
-use crate::op::PUSH1;
-use crate::op::PUSH4;
-use crate::row::BlockType;
-use crate::row::DYNAMIC_JUMP;
-use crate::row::DYNAMIC_JUMPI;
-use crate::row::JUMP;
-use crate::row::JUMPI;
+use evm::op::PUSH0;
+use evm::op::PUSH1;
+use evm::op::PUSH4;
 use evm::walk::argument_at;
+use layout::row::BlockType;
+use layout::row::DYNAMIC_JUMP;
+use layout::row::DYNAMIC_JUMPI;
+use layout::row::JUMP;
+use layout::row::JUMPI;
 ghost use mathlib.Core.Path.{_≡_};
 ghost use Rattle.spec.specs.Blocks.{jumping, branching};
 ghost use Rattle.initial.specs.Rows.{typeOf};

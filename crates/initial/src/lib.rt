@@ -3,8 +3,6 @@
 mod check;
 mod cut;
 mod jump;
-mod op;
-pub mod row;
 mod turn;
 
 use crate::check::check;

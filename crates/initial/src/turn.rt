@@ -3,13 +3,13 @@
 // false, unless the block starts at that byte; then no block is kept."
 use crate::jump::branching;
 use crate::jump::jumping;
-use crate::op;
-use crate::row::BlockType;
-use crate::row::JUMP;
-use crate::row::SUCCESS;
-use crate::row::TERMINATE;
+use evm::op;
+use evm::rows::known;
+use layout::row::BlockType;
+use layout::row::JUMP;
+use layout::row::SUCCESS;
+use layout::row::TERMINATE;
 ghost use mathlib.Core.Path.{_≡_};
-ghost use Rattle.spec.specs.Opcodes.{row};
 ghost use Rattle.spec.specs.Blocks.{cut, terminate};
 ghost use Rattle.initial.specs.Rows.{typeOf};
 ghost use Rattle.initial.specs.Turn.{pushedAt, cutOf, turnOf};
@@ -55,17 +55,6 @@ pub fn cut_of(op: u8) -> Cut
         op::STOP | op::RETURN | op::SELFDESTRUCT => Cut::Ends(true),
         op::REVERT | op::INVALID => Cut::Ends(false),
         _ => { if known(op) { Cut::Other } else { Cut::Unknown } }
-    }
-}
-
-// Is the byte known? By its range: of a row no more is needed here.
-fn known(op: u8) -> bool
-    ensures { λ r. ⌜ r ≡ row op .known ⌝ }
-{
-    match op {
-        0x0c..=0x0f | 0x1e..=0x1f | 0x21..=0x2f | 0x4b..=0x4f => false,
-        0xa5..=0xef | 0xf6..=0xf9 | 0xfb..=0xfc => false,
-        _ => true,
     }
 }
 

@@ -4,10 +4,10 @@ use crate::field::add_comma;
 use crate::field::add_decimal;
 use crate::field::add_named;
 use crate::field::add_text;
-use entries::EDGE;
-use entries::GOAL;
-use entries::NOWHERE;
 use entries::path_of;
+use layout::MISSING;
+use layout::edge::OWN;
+use layout::record::RECORD;
 use lent::get16;
 ghost use mathlib.Core.List.{_++_};
 ghost use Prim.Native.Nat.{_+_, _*_, _^_, _≤_, _<_};
@@ -47,7 +47,7 @@ fn add_goal(out: &mut [u8], at: usize, to: usize) -> usize
     requires { ⌜ (to < 65536) × (at + 13 ≤ 2 ^ 62) ⌝ }
     ensures { λ end. ⌜ PutsFew 13 (now (out .entry)) at (goalText (goalTo to)) (now (out .exit)) end ⌝ }
 {
-    if to == NOWHERE {
+    if to == MISSING {
         return add_text(out, at, b"],\"to\":null}");
     }
     let end = add_named(out, at, b"],\"to\":", to);
@@ -62,5 +62,5 @@ pub fn add_way(out: &mut [u8], at: usize, r: &[u8], q: &[u8], i: usize) -> usize
     let s = path_of(r, q, i);
     let path = add_text(out, at, b"{\"path\":[");
     let goal = add_path(out, path, q, s.from, s.steps);
-    add_goal(out, goal, get16(r, EDGE * i + GOAL))
+    add_goal(out, goal, get16(r, RECORD * i + OWN))
 }

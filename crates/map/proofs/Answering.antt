@@ -12,7 +12,7 @@ use Rattle.spec.specs.Answer.{answer, written}
 use Rattle.spec.specs.Program.{lends, prints}
 use Rattle.theorems.proofs.Refusals.{made, Verdict, code-over, limit-over, work-short, room-short, output-short, all-fits, verdict}
 use Rattle.lent.specs.Bytes.{Stored}
-use Rattle.steps.specs.Runs.{Mem}
+use Rattle.layout.specs.Buffers.{Mem}
 use Rattle.answer.specs.Contracts.{lentOf, Tells, Mapped}
 use Rattle.answer.specs.declared.map.Answer.{Answer}
 use Rattle.map.specs.Contracts as contracts

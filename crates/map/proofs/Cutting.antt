@@ -9,7 +9,7 @@ use lib.Seq.{take-at, drop-at, drop-drop, append-snoc}
 use Rattle.spec.specs.Lists.{gather}
 use Rattle.spec.specs.Entries.{item, joined}
 use Rattle.spec.specs.Program.{hex, line}
-use Rattle.theorems.proofs.Members.{gather-append}
+use Rattle.laws.proofs.Members.{gather-append}
 use Rattle.lent.specs.Bytes.{numAt, Holds, Stored}
 use Rattle.lent.proofs.Numbers.{number-little}
 use Rattle.lent.proofs.Stored.{stored-none, stored-join}

@@ -10,7 +10,7 @@ use lib.Seq.{drop-cons, append-snoc}
 use borrow.Author.Tests.{eq-eqb, ne-eqb}
 use Rattle.spec.specs.Lists.{little}
 use Rattle.spec.specs.Program.{digit, pair, decoded, says-refused, program}
-use Rattle.theorems.proofs.Branch.{if-true, if-false}
+use Rattle.laws.proofs.Branch.{if-true, if-false}
 use Rattle.lent.specs.Bytes.{Holds, Stored}
 use Rattle.lent.proofs.Stored.{stored-none, stored-join, read-all, kept-drop}
 use Rattle.map.specs.Contracts.{Worth, Decodes}

@@ -9,8 +9,8 @@ use lib.Seq.{take-suc, getD-drop}
 use borrow.Author.Tests.{le-leb, lt-leb}
 use Rattle.spec.specs.Lists.{gather, little}
 use Rattle.spec.specs.Program.{nibble, hex, line}
-use Rattle.theorems.proofs.Branch.{if-true, if-false}
-use Rattle.theorems.proofs.Members.{gather-append}
+use Rattle.laws.proofs.Branch.{if-true, if-false}
+use Rattle.laws.proofs.Members.{gather-append}
 use Rattle.lent.specs.Bytes.{Holds, Stored}
 use Rattle.lent.proofs.Numbers.{num-byte}
 use Rattle.lent.proofs.Stored.{stored-join}

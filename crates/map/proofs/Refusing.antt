@@ -12,7 +12,7 @@ use borrow.Author.Tests.{ltb-true, ltb-false, lt-ltb, le-ltb}
 use Rattle.spec.specs.Lists.{little}
 use Rattle.spec.specs.Answer.{answer}
 use Rattle.spec.specs.Program.{digit, pair, decoded, prints, says-refused, decimal, lends, runs-on, program}
-use Rattle.theorems.proofs.Branch.{both, if-true, if-false}
+use Rattle.laws.proofs.Branch.{both, if-true, if-false}
 use Rattle.lent.specs.Bytes.{Stored}
 use Rattle.lent.proofs.Stored.{stored-join}
 

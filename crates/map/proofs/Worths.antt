@@ -8,8 +8,8 @@ use lib.Dec.{leb}
 use borrow.Author.Tests.{le-leb, lt-leb}
 use Rattle.spec.specs.Lists.{within}
 use Rattle.spec.specs.Program.{digit}
-use Rattle.theorems.proofs.Branch.{if-true, if-false, and-false}
-use Rattle.theorems.proofs.Members.{and-true}
+use Rattle.laws.proofs.Branch.{if-true, if-false, and-false}
+use Rattle.laws.proofs.Members.{and-true}
 use Rattle.map.specs.Contracts.{Worth}
 
 module _ (lo hi c : ℕ) where

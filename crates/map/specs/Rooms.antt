@@ -3,7 +3,7 @@ use mathlib.Core.Path.{_≡_}
 use mathlib.Core.List.{List}
 use Prim.Native.Nat.{ℕ, _≤_}
 use lib.ListN.{length}
-use Rattle.steps.specs.Runs.{Mem}
+use Rattle.layout.specs.Buffers.{Mem}
 
 -- the seven buffers are as long as document 01 says, and what is printed has room
 pub record Lends (m : Mem) (raw out : List ℕ) : Type 0 where

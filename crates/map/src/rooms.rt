@@ -7,7 +7,7 @@ ghost use lib.ListN.{length};
 ghost use Rattle.spec.specs.Answer.{answer};
 ghost use Rattle.spec.specs.Program.{lends, prints};
 ghost use Rattle.lent.specs.Bytes.{Stored};
-ghost use Rattle.steps.specs.Runs.{buffers};
+ghost use Rattle.layout.specs.Buffers.{buffers};
 ghost use Rattle.map.specs.Rooms.{Lends};
 
 // The answer for a code, printed.

@@ -13,10 +13,13 @@ use Rattle.spec.specs.Blocks.{Block, blocks}
 use Rattle.spec.specs.Stacks.{Sym, before}
 use Rattle.spec.specs.Search.{Node, nodes, takers}
 use Rattle.spec.specs.Answer.{prepared}
+use Rattle.spec.specs.Rooms.{longest}
 use Rattle.theorems.proofs.Cutting.{made}
+use Rattle.layout.specs.Parts.{ROW, rowPlace}
+use Rattle.layout.specs.Rows.{FIRST, NEXT, LINKS, typed, tagAt, typeAt}
+use Rattle.layout.specs.declared.row.BlockType.{BlockType}
+use Rattle.initial.specs.Rows.{typeOf, rowBlocks, blocksFrom, blocksAt}
 use Rattle.theorems.proofs.Sides.{node-within}
-use Rattle.initial.specs.Rows.{typed, typeOf, tagAt, rowBlocks, blocksFrom, blocksAt}
-use Rattle.initial.specs.declared.row.BlockType.{BlockType}
 use Rattle.initial.proofs.Types.{kind-type}
 use Rattle.initial.proofs.Rows.{here-empty, here-block}
 use Rattle.parents.specs.Links.{turnOf, Parents, no-parent, Takers, no-taker, directTo, fromOf}
@@ -27,13 +30,13 @@ use Rattle.parents.proofs.Slots.{own, first, links, first-is, own-tag, 
 use Rattle.parents.proofs.Pass.{Pass, nodeAt, block-of, nodes-split, nodes-end, good-within}
 use Rattle.parents.proofs.Chains.{small-parents, shape, more-takers, more-parents}
 
-row-parts : (w : List ℕ) (a : ℕ) → take 20 (drop (20 * a) w) ≡ own w a ++ (first w a ++ links w a)
+row-parts : (w : List ℕ) (a : ℕ) → take ROW (drop (rowPlace a) w) ≡ own w a ++ (first w a ++ links w a)
 row-parts w a =
-    let e : drop 2 (drop (20 * a + 12) w) ≡ drop (20 * a + 14) w = drop-drop 2 (20 * a + 12) w ∙ ap (λ (i : ℕ). drop i w) (let q : 20 * a + 12 + 2 ≡ 20 * a + 14 = omega arith in q) in
-    let f : take 8 (drop (20 * a + 12) w) ≡ first w a ++ links w a = take-add 2 6 (drop (20 * a + 12) w) ∙ ap (λ (l : List ℕ). first w a ++ take 6 l) e in
-    take-add 12 8 (drop (20 * a) w) ∙ ap (λ (l : List ℕ). own w a ++ l) (rw drop-drop f)
+    let e : drop 2 (drop (rowPlace a + FIRST) w) ≡ drop (rowPlace a + NEXT) w = drop-drop 2 (rowPlace a + FIRST) w ∙ ap (λ (i : ℕ). drop i w) (let q : rowPlace a + FIRST + 2 ≡ rowPlace a + NEXT = omega arith in q) in
+    let f : take 8 (drop (rowPlace a + FIRST) w) ≡ first w a ++ links w a = take-add 2 LINKS (drop (rowPlace a + FIRST) w) ∙ ap (λ (l : List ℕ). first w a ++ take LINKS l) e in
+    take-add FIRST 8 (drop (rowPlace a) w) ∙ ap (λ (l : List ℕ). own w a ++ l) (rw drop-drop f)
 
-goes-small : (n : ℕ) (g : Option Sym) → n ≤ 24576 → Goes (17 * n + 17) g → (p : ℕ) → g ≡ some (before p) → p < 4294967296
+goes-small : (n : ℕ) (g : Option Sym) → n ≤ longest → Goes (17 * n + 17) g → (p : ℕ) → g ≡ some (before p) → p < 4294967296
 goes-small n g s h p e = let f : p < 17 * n + 17 = rw e at h in omega arith
 
 module _ {code w₀ : List ℕ} {end : ℕ} (l : Lent code w₀ end) {w : List ℕ} {head : ℕ} (p : Pass code w₀ end w 0 head) where
@@ -53,7 +56,7 @@ module _ {code w₀ : List ℕ} {end : ℕ} (l : Lent code w₀ end) {w : List �
     links-row : links w a ≡ linksOf (nodesHere code w₀ a) (nodesFrom code w₀ (suc a))
     links-row = p .links-done a (omega arith) h
 
-    row-is : take 20 (drop (20 * a) w) ≡ rowFor code w₀ a
+    row-is : take ROW (drop (rowPlace a) w) ≡ rowFor code w₀ a
     unfolding rowFor
     row-is = row-parts w a ∙ rw (own-row, p .firsts a h, links-row)
 
@@ -64,13 +67,19 @@ module _ {code w₀ : List ℕ} {end : ℕ} (l : Lent code w₀ end) {w : List �
       links-there : links w a ≡ linksOf (nodeAt code w₀ a ∷ []) (nodesFrom code w₀ (suc a))
       links-there = links-row ∙ rw (here-block w₀ a there)
 
+      type-there : typeAt w a ≡ typeOf (nodeAt code w₀ a .block .kind)
+      type-there =
+          let k = nodeAt code w₀ a .block .kind in
+          let g = good-within (length code) (l .short) k (node-within code (block-of l a h there)) in
+          own-type w a (typeOf k) _ _ own-there (omega (arith, g .range .1)) (g .to) (g .other)
+
       block-row : rowBlocks w a ≡ nodeAt code w₀ a .block ∷ []
       block-row =
           let i = block-of l a h there in
           let k = nodeAt code w₀ a .block .kind in
           let g = good-within (length code) (l .short) k (node-within code i) in
-          let t = own-type w a (typeOf k) _ _ _ own-there (omega (arith, g .range .1)) (g .to) (g .other) in
-          let e = own-end w a (typeOf k) _ _ _ own-there (omega (arith, made code i .end-inside, l .short)) in
+          let t = type-there in
+          let e = own-end w a (typeOf k) _ _ own-there (omega (arith, made code i .end-inside, l .short)) in
           here-block w a (λ z. omega (arith, g .range .0, ap (λ (b : BlockType). b .kind) t)) ∙ rw (t, e, kind-type k)
 
     rows-block : rowBlocks w a ≡ map (λ (x : Node). x .block) (nodesHere code w₀ a)
@@ -79,7 +88,7 @@ module _ {code w₀ : List ℕ} {end : ℕ} (l : Lent code w₀ end) {w : List �
         go : Dec (tagAt w₀ a ≡ 0) → rowBlocks w a ≡ map (λ (x : Node). x .block) (nodesHere code w₀ a)
         go (yes z) =
             let e = here-empty w₀ a z in
-            rw e (here-empty w a (own-tag w a (typed 0 0 0) 0 0 0 (own-row ∙ rw e) (omega arith)))
+            rw e (here-empty w a (own-tag w a (typed 0 0 0) 0 0 (own-row ∙ rw e) (omega arith)))
         go (no n) = rw (here-block w₀ a n) (block-row n)
 
   -- ---- all of them
@@ -92,7 +101,7 @@ module _ {code w₀ : List ℕ} {end : ℕ} (l : Lent code w₀ end) {w : List �
       ∙ sym (map-append (λ (x : Node). x .block) (nodesHere code w₀ a) _) ∙ ap (map (λ (x : Node). x .block)) (sym (map-append _ (rowBlocks w₀ a) (blocksFrom w₀ (suc a) m)))
 
   abbrev Chained : List Node → Type 0
-  Chained rs = Takers w (length code) (firstTaker (takers rs)) (map turnOf (takers rs)) × ((t : ℕ) → Parents w (length code) (firstTo t rs) (map fromOf (directTo t rs)))
+  Chained rs = Takers w (length code) (firstTaker (takers rs)) (map turnOf (takers rs)) × ((t : ℕ) → Parents w (length code) t (firstTo t rs) (map fromOf (directTo t rs)))
 
   chained : (k a : ℕ) → a + k ≡ suc (length code) → Chained (nodesFrom code w₀ a)
   unfolding firstTo
@@ -108,7 +117,8 @@ module _ {code w₀ : List ℕ} {end : ℕ} (l : Lent code w₀ end) {w : List �
           rw (here-block w₀ a n) (
             more-takers w (length code) (l .short) r h later (shape r (r .block .kind)) (goes-small (length code) _ (l .short) (run-goes code (r .block .start)))
                 (typeOf (r .block .kind)) _ _ _ (own-there a h n) (links-there a h n) (more .0),
-            more-parents w (length code) (l .short) a (takerPast (turnsOf r) later) h (r .own .stack) later (more .1) (r .block .kind) (links-there a h n),
+            more-parents w (length code) (l .short) a (takerPast (turnsOf r) later) h (r .own .stack) later (more .1) (r .block .kind) (node-within code (block-of l a h n))
+                (ap (λ (b : BlockType). b .to) (type-there a h n)) (links-there a h n),
           )
 
   prepared-rows : Prepared code w₀ end w head

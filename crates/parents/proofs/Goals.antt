@@ -10,8 +10,8 @@ use Rattle.spec.specs.Lists.{within}
 use Rattle.spec.specs.Opcodes.{row}
 use Rattle.spec.specs.Walk.{Ins, instructions, from}
 use Rattle.spec.specs.Stacks.{Sym, before, constant, jumpdest, other, known-value, from-value, is, mask, anded, summed, Stack, entry, reads, read, span, pops, push, pushes, swap, trade, Does, pushes-value, pushes-pc, dups, swaps, ands, adds, jumps, jumpis, lands, halts, plain, does, act, Ran, after, runs, joins, settle, trims, trim, run}
-use Rattle.theorems.proofs.Branch.{both}
-use Rattle.theorems.proofs.Members.{and-both}
+use Rattle.laws.proofs.Branch.{both}
+use Rattle.laws.proofs.Members.{and-both}
 use Rattle.theorems.proofs.Counts.{few}
 use Rattle.theorems.proofs.Walking.{Walked, stops, steps, walked}
 use Rattle.state.specs.Cells.{depth, deepest, reach}

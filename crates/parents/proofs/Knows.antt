@@ -5,16 +5,18 @@ use mathlib.Core.List.{List, [], _∷_, map}
 use Prim.Native.Nat.{ℕ, _+_, _*_, _≤_, _<_}
 use native.Mathlib.Omega.{arith}
 use lib.Dec.{eqb}
-use lib.ListN.{length, take, drop}
+use lib.ListN.{length}
 use borrow.Author.Tests.{eqb-true}
-use Rattle.spec.specs.Walk.{walk, instructions, from}
+use Rattle.spec.specs.Walk.{instructions}
 use Rattle.spec.specs.Blocks.{Block, blocks}
 use Rattle.spec.specs.Stacks.{Sym, before, Stack, Ran, run}
 use Rattle.spec.specs.Search.{Node, node, Taker, takes, takers, sides, Parent, parent, direct}
 use Rattle.spec.specs.Answer.{prepared}
 use Rattle.lent.proofs.Numbers.{num-prefix}
-use Rattle.theorems.proofs.Members.{In, here, there, in-keep, in-gather, in-map}
+use Rattle.laws.proofs.Members.{In, here, there, in-keep, in-gather, in-map}
 use Rattle.theorems.proofs.Cutting.{block-afresh}
+use Rattle.layout.specs.Parts.{rowPlace, rowsEnd, SameRows}
+use Rattle.layout.specs.Rows.{FIRST}
 use Rattle.theorems.proofs.Sides.{node-within, sides-within}
 use Rattle.initial.proofs.Rows.{blocks-prefix}
 pub use Rattle.parents.specs.Links.{parentOf, Comes}
@@ -24,13 +26,13 @@ use Rattle.parents.proofs.Goals.{Goes, run-goes}
 use Rattle.parents.proofs.Chains.{parents-prefix, takers-prefix, Shape, takes-none, takes-one, shape}
 
 -- all of it depends on the rows alone
-pub known-prefix : {code w : List ℕ} {head : ℕ} (v : List ℕ) → take (20 * (length code + 1)) w ≡ take (20 * (length code + 1)) v → Known code w head → Known code v head
+pub known-prefix : {code w : List ℕ} {head : ℕ} (v : List ℕ) → SameRows (length code) v w → Known code w head → Known code v head
 known-prefix {code} {w} v e k =
     let n : ℕ = length code in
     record {
       blocks = sym (blocks-prefix w v n e) ∙ k .blocks;
       takers = takers-prefix w v n e (k .takers);
-      parents = λ t h. rw (sym (num-prefix w v (20 * (n + 1)) e 2 (20 * t + 12) (omega arith))) (parents-prefix w v n e (k .parents t h));
+      parents = λ t h. rw (sym (num-prefix w v (rowsEnd n) e 2 (rowPlace t + FIRST) (omega arith))) (parents-prefix w v n e (k .parents t h));
     }
 
 -- a list is made of what a function keeps of each element

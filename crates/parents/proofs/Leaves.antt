@@ -10,16 +10,16 @@ use Rattle.spec.specs.Lists.{little}
 use Rattle.spec.specs.Walk.{instructions}
 use Rattle.spec.specs.Stacks.{run}
 use Rattle.lent.specs.Bytes.{numAt, Holds, Stored}
-use Rattle.theorems.proofs.Branch.{if-true, if-false}
-use Rattle.initial.specs.Rows.{typed, tagAt, typeAt}
-use Rattle.initial.specs.Contracts.{TypeIs, Put}
+use Rattle.laws.proofs.Branch.{if-true, if-false}
+use Rattle.layout.specs.Parts.{rowPlace}
+use Rattle.layout.specs.Rows.{END, TO, POSITION, FIRST, NEXT, NEXT-OTHER, TAKER, nextAt, typed, tagAt, typeAt, TypeIs, Put}
+use Rattle.layout.specs.declared.row.BlockType.{BlockType}
 use Rattle.state.specs.Symbols.{symOf}
 use Rattle.state.specs.Owns.{goesOf, Runs, Owned}
 use Rattle.state.specs.declared.sym.StackSym.{StackSym}
 use Rattle.state.specs.declared.sym.StackSym.the-variants.{Before, Constant, Jumpdest, Other}
 use Rattle.state.specs.declared.run.Goes.the-variants.{To, Nowhere}
 use Rattle.state.specs.declared.run.Own.{Own}
-use Rattle.initial.specs.declared.row.BlockType.{BlockType}
 use Rattle.parents.specs.Writes.{link, linkSides, takeTurn, staticType, place, goesAt}
 use Rattle.parents.specs.Contracts.{Sides, LinkRoom, Wrote, Settles, Ran, Settled, Placed, Number}
 
@@ -28,8 +28,8 @@ number-is h = record { is = h .is; small = h .small }
 
 -- ---- one side
 
-pub link-wrote : (a side t : ℕ) {first : ℕ} {w w₁ w₂ : List ℕ} → Holds 2 w (20 * t + 12) first → Stored 2 w (20 * a + 14 + 2 * side) (little 2 first) w₁
-    → Stored 2 w₁ (20 * t + 12) (little 2 (2 * a + side + 1)) w₂ → Wrote w w₂ (link w a side t)
+pub link-wrote : (a side t : ℕ) {first : ℕ} {w w₁ w₂ : List ℕ} → Holds 2 w (rowPlace t + FIRST) first → Stored 2 w (rowPlace a + NEXT + 2 * side) (little 2 first) w₁
+    → Stored 2 w₁ (rowPlace t + FIRST) (little 2 (a + 1)) w₂ → Wrote w w₂ (link w a side t)
 unfolding link
 link-wrote a side t h p q = record { is = q .is ∙ rw (p .is, h .is); kept = q .kept ∙ p .kept }
 
@@ -85,12 +85,21 @@ unfolding linkSides
 sides-none y n m e =
     as-type y (record { is = sym (if-false _ _ _ (ne-eqb _ _ n) ∙ if-false _ _ _ (ne-eqb _ _ m) ∙ if-false _ _ _ (ne-eqb _ _ e)); kept = refl })
 
+-- ---- the next parent
+
+module _ (w : List ℕ) (t link : ℕ) {x y : ℕ} (h : Holds 2 w (rowPlace (link - 1) + TO) x) where
+  pub next-to : x ≡ t → Holds 2 w (rowPlace (link - 1) + NEXT) y → Number y (nextAt w t link) 2
+  next-to e n = record { is = n .is ∙ sym (if-true _ _ _ (eq-eqb _ _ (sym (h .is) ∙ e))); small = n .small }
+
+  pub next-other : (x ≡ t → ⊥) → Holds 2 w (rowPlace (link - 1) + NEXT-OTHER) y → Number y (nextAt w t link) 2
+  next-other d n = record { is = n .is ∙ sym (if-false _ _ _ (ne-eqb _ _ (λ e. d (h .is ∙ e)))); small = n .small }
+
 -- ---- a turn
 
-pub turn-wrote : (a p head : ℕ) {w w₁ w₂ w₃ : List ℕ} → Stored 1 w (20 * a + 1) (little 1 1) w₁ → Stored 4 w₁ (20 * a + 8) (little 4 p) w₂
-    → Stored 2 w₂ (20 * a + 18) (little 2 head) w₃ → Wrote w w₃ (takeTurn w a p head)
+pub turn-wrote : (a p head : ℕ) {w w₁ w₂ : List ℕ} → Stored 4 w (rowPlace a + POSITION) (little 4 p) w₁ → Stored 2 w₁ (rowPlace a + TAKER) (little 2 head) w₂
+    → Wrote w w₂ (takeTurn w a p head)
 unfolding takeTurn
-turn-wrote a x head p q r = record { is = r .is ∙ rw (q .is, p .is); kept = r .kept ∙ q .kept ∙ p .kept }
+turn-wrote a x head p q = record { is = q .is ∙ rw (p .is); kept = q .kept ∙ p .kept }
 
 -- ---- a static type
 
@@ -103,7 +112,7 @@ static-jumpi t to e = sym (if-false _ _ _ (ne-eqb _ _ e))
 -- ---- what a run settles
 
 module _ {w : List ℕ} {a : ℕ} {t : BlockType} (head : ℕ) where
-  pub place-jumpdest : (x : StackSym) {to last : ℕ} {k : BlockType} {w′ : List ℕ} → x ≡ Jumpdest to → Holds 2 w (20 * a + 2) last → k ≡ staticType t to → Put w a last k w′
+  pub place-jumpdest : (x : StackSym) {to last : ℕ} {k : BlockType} {w′ : List ℕ} → x ≡ Jumpdest to → Holds 2 w (rowPlace a + END) last → k ≡ staticType t to → Put w a last k w′
       → Placed w a t (some (symOf x)) head w′ head
   unfolding place
   place-jumpdest x e h q p = rw e (record { is = p .stored .is ∙ rw (q, h .is); first = refl; kept = p .stored .kept })

@@ -1,10 +1,11 @@
 -- The contracts leave no choice: two results of one call are the same; of `prepare`, all but what the runs leave in their part of W. Assumes nothing.
 use mathlib.Core.Path.{_≡_, refl, sym, _∙_}
 use mathlib.Core.List.{List, [], _∷_}
-use Prim.Native.Nat.{ℕ, _+_, _-_, _*_}
+use Prim.Native.Nat.{ℕ, _+_, _-_}
 use native.Mathlib.Omega.{arith}
 use lib.ListN.{length}
 use Rattle.lent.proofs.Once.{Same, Outside, same-both, same-as, same-then, same-rows, same-outside}
+use Rattle.layout.specs.Parts.{rowPlace}
 use Rattle.state.specs.Owns.{roomOf}
 use Rattle.parents.specs.Links.{Turn, Takers, no-taker, next-taker}
 use Rattle.parents.specs.Contracts.{Lent, Wrote, Number, Prepared}
@@ -30,8 +31,8 @@ pub one-prepared : {code w v u : List ℕ} {end r s : ℕ} → Lent code w end �
     → (r ≡ s) × Outside (end - roomOf code) (roomOf code) v u
 one-prepared {code} {w} {v} {u} {end} lent p q =
     let n : ℕ = length code + 1 in
-    let rows : Same v u 0 (20 * n) = same-rows 0 20 n (λ a h. same-as (same-both (20 * a) 20 (p .row a (omega arith)) (q .row a (omega arith))) (omega arith) refl) in
-    let between : Same v u (20 * n) (end - roomOf code - 20 * n) = same-both (20 * n) (end - roomOf code - 20 * n) (p .beside .between) (q .beside .between) in
+    let rows : Same v u 0 (rowPlace n) = same-rows 0 20 n (λ a h. same-as (same-both (rowPlace a) 20 (p .row a (omega arith)) (q .row a (omega arith))) (omega arith) refl) in
+    let between : Same v u (rowPlace n) (end - roomOf code - rowPlace n) = same-both (rowPlace n) (end - roomOf code - rowPlace n) (p .beside .between) (q .beside .between) in
     let front : Same v u 0 (end - roomOf code) = same-as (same-then rows between (omega arith)) refl (omega (arith, lent .room)) in (
       first-taker (p .known .takers) ∙ sym (first-taker (q .known .takers)),
       same-outside end front (p .beside .past ∙ sym (q .beside .past)) (omega (arith, lent .room)) (p .beside .kept ∙ sym (q .beside .kept)),

@@ -3,7 +3,7 @@ use mathlib.Core.Path.{_≡_, refl, ap, _∙_, subst}
 use mathlib.Core.Bool.{true, false}
 use mathlib.Core.Option.{Option}
 use mathlib.Core.List.{List, [], _∷_, _++_, map-append}
-use Prim.Native.Nat.{ℕ, zero, suc, _+_, _-_, _*_, _≤_, _<_}
+use Prim.Native.Nat.{ℕ, zero, suc, _+_, _-_, _≤_, _<_}
 use native.Mathlib.Omega.{arith}
 use native.Mathlib.Decide.{ℕ-discrete}
 use native.Mathlib.Nat.{add-zero, sub-self}
@@ -14,16 +14,19 @@ use Rattle.spec.specs.Walk.{instructions}
 use Rattle.spec.specs.Blocks.{Kind, terminate, jump, jumpi, dynamic-jump, dynamic-jumpi, Block, block, blocks}
 use Rattle.spec.specs.Stacks.{Sym, run}
 use Rattle.spec.specs.Search.{Node, settled, node, nodes, takers}
+use Rattle.spec.specs.Rooms.{longest}
 use Rattle.lent.specs.Bytes.{numAt}
 use Rattle.lent.proofs.Numbers.{num-within}
-use Rattle.theorems.proofs.Branch.{both}
-use Rattle.theorems.proofs.Members.{In}
+use Rattle.laws.proofs.Branch.{both}
+use Rattle.laws.proofs.Members.{In}
 use Rattle.theorems.proofs.Cutting.{made, block-afresh}
+use Rattle.layout.specs.Parts.{rowPlace}
+use Rattle.layout.specs.Rows.{END, FIRST, typed, tagAt, typeAt}
+use Rattle.layout.specs.declared.row.BlockType.{BlockType}
+use Rattle.initial.specs.Rows.{typeOf, kindAt, blockAt, rowBlocks, blocksFrom}
 use Rattle.theorems.proofs.Sides.{Within, block-within, node-within}
-use Rattle.initial.specs.Rows.{typed, typeOf, tagAt, typeAt, kindAt, blockAt, rowBlocks, blocksFrom}
 use Rattle.initial.proofs.Types.{Good, good}
 use Rattle.initial.proofs.Rows.{here-empty, here-block, by-row, from-one, block-in}
-use Rattle.initial.specs.declared.row.BlockType.{BlockType}
 use Rattle.parents.specs.Rows.{ownBytes, linkBytes, turnsOf, firstTaker, takerPast, edgeTo, firstTo, ownOf, linksOf, nodesHere, nodesFrom}
 use Rattle.parents.specs.Writes.{linkSides, place, goesAt}
 use Rattle.parents.specs.Contracts.{Lent, Beside, Sides, Wrote, Settles, Settled}
@@ -38,7 +41,7 @@ abbrev pub goesFrom : List ℕ → ℕ → Option Sym
 goesFrom code a = run code (instructions code) a .goes
 
 abbrev pub lastAt : List ℕ → ℕ → ℕ
-lastAt w a = numAt 2 w (20 * a + 2)
+lastAt w a = numAt 2 w (rowPlace a + END)
 
 -- ---- the blocks from an address on
 
@@ -52,24 +55,24 @@ pub nodes-end : (code w : List ℕ) → nodesFrom code w (suc (length code)) ≡
 unfolding blocksFrom
 nodes-end code w = rw (sub-self (suc (length code)))
 
-edge-small : (n x a : ℕ) → a ≤ n → (k : Kind) (later : ℕ) → later ≤ 2 * n + 2 → edgeTo x a k later ≤ 2 * n + 2
+edge-small : (n x a : ℕ) → a ≤ n → (k : Kind) (later : ℕ) → later ≤ n + 1 → edgeTo x a k later ≤ n + 1
 edge-small n x a h (terminate success) later l = l
-edge-small n x a h (jump u) later l = both (λ (v : ℕ). v ≤ 2 * n + 2) (eqb x u) (λ _. omega arith) (λ _. l)
+edge-small n x a h (jump u) later l = both (λ (v : ℕ). v ≤ n + 1) (eqb x u) (λ _. omega arith) (λ _. l)
 edge-small n x a h (jumpi u f) later l =
-    both (λ (v : ℕ). v ≤ 2 * n + 2) (eqb x u) (λ _. omega arith) (λ _. both (λ (v : ℕ). v ≤ 2 * n + 2) (eqb x f) (λ _. omega arith) (λ _. l))
+    both (λ (v : ℕ). v ≤ n + 1) (eqb x u) (λ _. omega arith) (λ _. both (λ (v : ℕ). v ≤ n + 1) (eqb x f) (λ _. omega arith) (λ _. l))
 edge-small n x a h dynamic-jump later l = l
-edge-small n x a h (dynamic-jumpi f) later l = both (λ (v : ℕ). v ≤ 2 * n + 2) (eqb x f) (λ _. omega arith) (λ _. l)
+edge-small n x a h (dynamic-jumpi f) later l = both (λ (v : ℕ). v ≤ n + 1) (eqb x f) (λ _. omega arith) (λ _. l)
 
 module _ (code w : List ℕ) where
-  from-small : (x a m : ℕ) → a + m ≤ suc (length code) → firstTo x (nodes code (instructions code) (blocksFrom w a m)) ≤ 2 * length code + 2
+  from-small : (x a m : ℕ) → a + m ≤ suc (length code) → firstTo x (nodes code (instructions code) (blocksFrom w a m)) ≤ length code + 1
   unfolding blocksFrom firstTo
   from-small x a zero h = omega arith
   from-small x a (suc m) h =
       let later = from-small x (suc a) m (omega arith) in
-      by-row w a (λ (bs : List Block). firstTo x (nodes code (instructions code) (bs ++ blocksFrom w (suc a) m)) ≤ 2 * length code + 2) (λ _. later)
+      by-row w a (λ (bs : List Block). firstTo x (nodes code (instructions code) (bs ++ blocksFrom w (suc a) m)) ≤ length code + 1) (λ _. later)
       (λ _. edge-small (length code) x a (omega arith) (settled (run code (instructions code) a .goes) (kindAt w a)) (firstTo x (nodes code (instructions code) (blocksFrom w (suc a) m))) later)
 
-  pub first-small : length code ≤ 24576 → (a : ℕ) → a ≤ suc (length code) → (x : ℕ) → firstTo x (nodesFrom code w a) < 65536
+  pub first-small : length code ≤ longest → (a : ℕ) → a ≤ suc (length code) → (x : ℕ) → firstTo x (nodesFrom code w a) < 65536
   first-small h a l x = omega (arith, from-small x a (suc (length code) - a) (omega arith))
 
 -- ---- kinds whose sides lie in the code
@@ -89,9 +92,9 @@ module _ (n : ℕ) where
   type-other (jump t) h = omega arith
   type-other (jumpi t f) h = h .1
   type-other dynamic-jump h = omega arith
-  type-other (dynamic-jumpi f) h = h
+  type-other (dynamic-jumpi f) h = h .1
 
-  pub good-within : n ≤ 24576 → (k : Kind) → Within n k → Good (typeOf k)
+  pub good-within : n ≤ longest → (k : Kind) → Within n k → Good (typeOf k)
   good-within s k h = good k (omega (arith, type-to k h)) (omega (arith, type-other k h))
 
 -- ---- the pass
@@ -133,7 +136,7 @@ module _ {code w₀ : List ℕ} {end : ℕ} (l : Lent code w₀ end) {w : List �
   here = omega (arith, p .inside)
 
   tag-same : tagAt w a ≡ tagAt w₀ a
-  tag-same = rw add-zero at (num-within w w₀ 12 (20 * a) (20 * a) (p .own-ahead a (omega arith)) 1 0 (omega arith))
+  tag-same = rw add-zero at (num-within w w₀ FIRST (rowPlace a) (rowPlace a) (p .own-ahead a (omega arith)) 1 0 (omega arith))
 
   block-there : (tagAt w₀ a ≡ 0 → ⊥) → In (blockAt w₀ a) (blocks code (instructions code))
   block-there h = block-of l a here h
@@ -169,15 +172,15 @@ module _ {code w₀ : List ℕ} {end : ℕ} (l : Lent code w₀ end) {w : List �
 
     -- where no block starts
     module _ (none-there : tagAt w₀ a ≡ 0) where
-      half-none : Half (replicate 12 0) (linkBytes 0 0 0) (typed 0 0 0)
+      half-none : Half (replicate FIRST 0) (linkBytes 0 0 0) (typed 0 0 0)
       unfolding place goesAt if
       half-none =
           let e : rowBlocks w₀ a ≡ [] = here-empty w₀ a none-there in
-          let o : own w a ≡ replicate 12 0 = p .own-ahead a (omega arith) ∙ none-own (l .laid) a here e in
+          let o : own w a ≡ replicate FIRST 0 = p .own-ahead a (omega arith) ∙ none-own (l .laid) a here e in
           let k : links w a ≡ linkBytes 0 0 0 = p .links-ahead a (omega arith) ∙ none-links (l .laid) a here e in
           let q : w₁ ≡ s .after = s .is ∙ rw (tag-same, none-there) in
-          let d : Rows code w₀ end a w w₁ (replicate 12 0) (linkBytes 0 0 0) (λ x. firstTo x (nodesFrom code w₀ (suc a))) = rw (q, ← o, ← k) ran in
-          record { rows = d; type = own-type w₁ a (typed 0 0 0) 0 0 0 (d .own-here) (omega arith) (omega arith) (omega arith); to = omega arith; other = omega arith }
+          let d : Rows code w₀ end a w w₁ (replicate FIRST 0) (linkBytes 0 0 0) (λ x. firstTo x (nodesFrom code w₀ (suc a))) = rw (q, ← o, ← k) ran in
+          record { rows = d; type = own-type w₁ a (typed 0 0 0) 0 0 (d .own-here) (omega arith) (omega arith) (omega arith); to = omega arith; other = omega arith }
 
       head-none : r ≡ firstTaker (takers (nodesFrom code w₀ (suc a)))
       unfolding goesAt if
@@ -191,20 +194,16 @@ module _ {code w₀ : List ℕ} {end : ℕ} (l : Lent code w₀ end) {w : List �
       small : lastAt w₀ a < 65536
       small = omega (arith, made code (block-there there) .end-inside, l .short)
 
-      row-own : own w a ≡ ownBytes (typeOf (kindAt w₀ a) .kind) 0 (lastAt w₀ a) (typeOf (kindAt w₀ a) .to) (typeOf (kindAt w₀ a) .other) 0
-      row-own =
-          let g = good-within (length code) (l .short) (kindAt w₀ a) within in
-          p .own-ahead a (omega arith) ∙ block-own (l .laid) a here (here-block w₀ a there) (omega (arith, g .range .1))
+      row-own : own w a ≡ ownBytes (lastAt w₀ a) (typeOf (kindAt w₀ a)) 0
+      row-own = p .own-ahead a (omega arith) ∙ block-own (l .laid) a here (here-block w₀ a there)
 
       row-links : links w a ≡ linkBytes 0 0 0
-      row-links =
-          let g = good-within (length code) (l .short) (kindAt w₀ a) within in
-          p .links-ahead a (omega arith) ∙ block-links (l .laid) a here (here-block w₀ a there) (omega (arith, g .range .1))
+      row-links = p .links-ahead a (omega arith) ∙ block-links (l .laid) a here (here-block w₀ a there)
 
       row-type : typeAt w a ≡ typeOf (kindAt w₀ a)
       row-type =
           let g = good-within (length code) (l .short) (kindAt w₀ a) within in
-          own-type w a (typeOf (kindAt w₀ a)) 0 (lastAt w₀ a) 0 row-own (omega (arith, g .range .1)) (g .to) (g .other)
+          own-type w a (typeOf (kindAt w₀ a)) (lastAt w₀ a) 0 row-own (omega (arith, g .range .1)) (g .to) (g .other)
 
       goes-looks : goesAt code w a ≡ looks (kindAt w₀ a) (goesFrom code a)
       unfolding goesAt
@@ -220,7 +219,7 @@ module _ {code w₀ : List ℕ} {end : ℕ} (l : Lent code w₀ end) {w : List �
           let g = good-within (length code) (l .short) (nodeAt code w₀ a .block .kind) v in
           record {
             rows = f;
-            type = own-type w₁ a (typeOf (nodeAt code w₀ a .block .kind)) _ (lastAt w₀ a) _ (f .own-here) (omega (arith, g .range .1)) (g .to) (g .other);
+            type = own-type w₁ a (typeOf (nodeAt code w₀ a .block .kind)) (lastAt w₀ a) _ (f .own-here) (omega (arith, g .range .1)) (g .to) (g .other);
             to = type-to (length code) (nodeAt code w₀ a .block .kind) v;
             other = type-other (length code) (nodeAt code w₀ a .block .kind) v;
           }

@@ -7,7 +7,7 @@ use Rattle.spec.specs.Blocks.{Block, blocks, starts}
 use Rattle.spec.specs.Stacks.{run}
 use Rattle.spec.specs.Search.{Node, node, nodes, Taker, takers}
 use Rattle.spec.specs.Answer.{prepared}
-use Rattle.theorems.proofs.Lists.{Rising, none-left, one-more, rising-from}
+use Rattle.laws.proofs.Lists.{Rising, none-left, one-more, rising-from}
 use Rattle.theorems.proofs.Cutting.{starts-rise}
 use Rattle.parents.proofs.Chains.{Shape, takes-none, takes-one, shape}
 

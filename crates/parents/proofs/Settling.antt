@@ -3,7 +3,7 @@ use mathlib.Core.Path.{_≡_, refl, ap, _∙_}
 use mathlib.Core.Bool.{true, false}
 use mathlib.Core.Option.{Option, none, some}
 use mathlib.Core.List.{List, [], _∷_}
-use Prim.Native.Nat.{ℕ, _+_, _*_, _/_, _%_, _≤_, _<_}
+use Prim.Native.Nat.{ℕ, _+_, _≤_, _<_}
 use native.Mathlib.Nat.{add-zero, zero-add}
 use native.Mathlib.Omega.{arith}
 use lib.Dec.{ltb}
@@ -13,6 +13,8 @@ use Rattle.spec.specs.Blocks.{Kind, terminate, jump, jumpi, dynamic-jump, dynam
 use Rattle.spec.specs.Stacks.{Sym, before, constant, jumpdest, other, Stack}
 use Rattle.spec.specs.Search.{Node, settled, node, takers}
 use Rattle.lent.proofs.Parts.{part-within}
+use Rattle.layout.specs.Parts.{ROW, rowPlace}
+use Rattle.layout.specs.Rows.{FIRST, NEXT, LINKS}
 use Rattle.initial.specs.Rows.{typeOf, rowBlocks, rowOf, Laid}
 use Rattle.parents.specs.Rows.{ownBytes, linkBytes, turnsOf, firstTaker, takerPast, ownOf}
 use Rattle.parents.specs.Writes.{headPast}
@@ -21,32 +23,32 @@ use Rattle.parents.proofs.Slots.{own, links, first, ownPlaced, linksPla
 -- ---- a row as `initial_blocks` leaves it
 
 module _ {w : List ℕ} {n : ℕ} (l : Laid w n) (a : ℕ) (h : a ≤ n) where
-  row-part : (bs : List Block) → rowBlocks w a ≡ bs → (k o : ℕ) → o + k ≤ 20 → take k (drop (20 * a + o) w) ≡ take k (drop o (rowOf bs))
-  row-part bs e k o g = rw zero-add at (part-within w (rowOf bs) 20 (20 * a) 0 (l .row a h ∙ ap rowOf e ∙ whole bs) k o g)
+  row-part : (bs : List Block) → rowBlocks w a ≡ bs → (k o : ℕ) → o + k ≤ ROW → take k (drop (rowPlace a + o) w) ≡ take k (drop o (rowOf bs))
+  row-part bs e k o g = rw zero-add at (part-within w (rowOf bs) ROW (rowPlace a) 0 (l .row a h ∙ ap rowOf e ∙ whole bs) k o g)
     where
-      whole : (cs : List Block) → rowOf cs ≡ take 20 (drop 0 (rowOf cs))
+      whole : (cs : List Block) → rowOf cs ≡ take ROW (drop 0 (rowOf cs))
       whole [] = refl
       whole (c ∷ cs) = refl
 
-  pub none-own : rowBlocks w a ≡ [] → own w a ≡ replicate 12 0
-  none-own e = rw add-zero at (row-part [] e 12 0 (omega arith))
+  pub none-own : rowBlocks w a ≡ [] → own w a ≡ replicate FIRST 0
+  none-own e = rw add-zero at (row-part [] e FIRST 0 (omega arith))
 
   pub none-links : rowBlocks w a ≡ [] → links w a ≡ linkBytes 0 0 0
-  none-links e = row-part [] e 6 14 (omega arith)
+  none-links e = row-part [] e LINKS NEXT (omega arith)
 
   pub first-zero : first w a ≡ little 2 0
-  first-zero = row-part (rowBlocks w a) refl 2 12 (omega arith) ∙ zeros (rowBlocks w a)
+  first-zero = row-part (rowBlocks w a) refl 2 FIRST (omega arith) ∙ zeros (rowBlocks w a)
     where
-      zeros : (bs : List Block) → take 2 (drop 12 (rowOf bs)) ≡ little 2 0
+      zeros : (bs : List Block) → take 2 (drop FIRST (rowOf bs)) ≡ little 2 0
       zeros [] = refl
       zeros (b ∷ bs) = refl
 
-  module _ {b : Block} (e : rowBlocks w a ≡ b ∷ []) (small : typeOf (b .kind) .kind / 256 % 256 ≡ 0) where
-    pub block-own : own w a ≡ ownBytes (typeOf (b .kind) .kind) 0 (b .end) (typeOf (b .kind) .to) (typeOf (b .kind) .other) 0
-    block-own = rw small at (rw add-zero at (row-part (b ∷ []) e 12 0 (omega arith)))
+  module _ {b : Block} (e : rowBlocks w a ≡ b ∷ []) where
+    pub block-own : own w a ≡ ownBytes (b .end) (typeOf (b .kind)) 0
+    block-own = rw add-zero at (row-part (b ∷ []) e FIRST 0 (omega arith))
 
     pub block-links : links w a ≡ linkBytes 0 0 0
-    block-links = row-part (b ∷ []) e 6 14 (omega arith)
+    block-links = row-part (b ∷ []) e LINKS NEXT (omega arith)
 
 -- ---- what a run settles
 

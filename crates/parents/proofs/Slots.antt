@@ -3,7 +3,7 @@ use mathlib.Core.Path.{_≡_, refl, sym, ap, _∙_}
 use mathlib.Core.Bool.{true, false}
 use mathlib.Core.Option.{Option, none, some}
 use mathlib.Core.List.{List}
-use Prim.Native.Nat.{ℕ, _+_, _-_, _*_, _/_, _%_, _≤_, _<_}
+use Prim.Native.Nat.{ℕ, _+_, _-_, _*_, _≤_, _<_}
 use native.Mathlib.Nat.{add-zero, zero-add, le-of-lt}
 use native.Mathlib.Omega.{arith}
 use native.Mathlib.Decide.{ℕ-discrete}
@@ -18,11 +18,12 @@ use Rattle.lent.specs.Bytes.{number, numAt, patch, Stored}
 use Rattle.lent.proofs.Parts.{part-prefix}
 use Rattle.lent.proofs.Numbers.{num-within, number-little}
 use Rattle.lent.proofs.Stored.{stored, kept-drop, kept-part, read-all}
-use Rattle.theorems.proofs.Branch.{both, if-true, if-false}
+use Rattle.laws.proofs.Branch.{if-true, if-false}
+use Rattle.layout.specs.Parts.{rowPlace, rowsEnd}
+use Rattle.layout.specs.Rows.{END, TO, OTHER, POSITION, FIRST, NEXT, TAKER, LINKS, BLOCK, tagAt, typeAt, headOf, firstAt}
+use Rattle.layout.specs.declared.row.BlockType.{BlockType}
+use Rattle.initial.specs.Rows.{typeOf}
 use Rattle.theorems.proofs.Sides.{Within}
-use Rattle.initial.specs.Rows.{typeOf, tagAt, typeAt, headOf}
-use Rattle.initial.specs.declared.row.BlockType.{BlockType}
-use Rattle.parents.specs.Links.{firstAt}
 use Rattle.parents.specs.Rows.{ownBytes, linkBytes, edgeTo, firstTo, toPast, otherPast}
 use Rattle.parents.specs.Writes.{link, linkSides, takeTurn, staticType, place}
 use Rattle.state.specs.Owns.{roomOf}
@@ -30,13 +31,13 @@ use Rattle.parents.specs.Contracts.{Beside, Ran}
 use Rattle.parents.proofs.Parts.{part-stored}
 
 abbrev pub own : List ℕ → ℕ → List ℕ
-own w a = take 12 (drop (20 * a) w)
+own w a = take FIRST (drop (rowPlace a) w)
 
 abbrev pub first : List ℕ → ℕ → List ℕ
-first w a = take 2 (drop (20 * a + 12) w)
+first w a = take 2 (drop (rowPlace a + FIRST) w)
 
 abbrev pub links : List ℕ → ℕ → List ℕ
-links w a = take 6 (drop (20 * a + 14) w)
+links w a = take LINKS (drop (rowPlace a + NEXT) w)
 
 -- ---- numbers that are read in them
 
@@ -45,25 +46,25 @@ module _ (w : List ℕ) (a : ℕ) where
   unfolding numAt
   first-is v h e = ap number e ∙ number-little 2 v h
 
-  module _ (t : BlockType) (g e p : ℕ) (q : own w a ≡ ownBytes (t .kind) g e (t .to) (t .other) p) where
-    at : (k o : ℕ) → o + k ≤ 12 → numAt k w (20 * a + o) ≡ numAt k (ownBytes (t .kind) g e (t .to) (t .other) p) o
-    at k o h = rw zero-add at (num-within w (ownBytes (t .kind) g e (t .to) (t .other) p) 12 (20 * a) 0 q k o h)
+  module _ (t : BlockType) (e p : ℕ) (q : own w a ≡ ownBytes e t p) where
+    at : (k o : ℕ) → o + k ≤ FIRST → numAt k w (rowPlace a + o) ≡ numAt k (ownBytes e t p) o
+    at k o h = rw zero-add at (num-within w (ownBytes e t p) FIRST (rowPlace a) 0 q k o h)
 
     pub own-tag : t .kind < 256 → tagAt w a ≡ t .kind
     unfolding numAt
     own-tag h = rw add-zero at (at 1 0 (omega arith)) ∙ number-little 1 (t .kind) h
 
-    pub own-end : e < 65536 → numAt 2 w (20 * a + 2) ≡ e
+    pub own-end : e < 65536 → numAt 2 w (rowPlace a + END) ≡ e
     unfolding numAt
-    own-end h = at 2 2 (omega arith) ∙ number-little 2 e h
+    own-end h = at 2 END (omega arith) ∙ number-little 2 e h
 
     pub own-type : t .kind < 256 → t .to < 65536 → t .other < 65536 → typeAt w a ≡ t
     unfolding numAt
-    own-type h i j = rw (own-tag h, at 2 4 (omega arith) ∙ number-little 2 (t .to) i, at 2 6 (omega arith) ∙ number-little 2 (t .other) j)
+    own-type h i j = rw (own-tag h, at 2 TO (omega arith) ∙ number-little 2 (t .to) i, at 2 OTHER (omega arith) ∙ number-little 2 (t .other) j)
 
-    pub own-position : p < 4294967296 → numAt 4 w (20 * a + 8) ≡ p
+    pub own-position : p < 4294967296 → numAt 4 w (rowPlace a + POSITION) ≡ p
     unfolding numAt
-    own-position h = at 4 8 (omega arith) ∙ number-little 4 p h
+    own-position h = at 4 POSITION (omega arith) ∙ number-little 4 p h
 
 -- ---- the rows while that of a is written: the other rows are as they were in w, and F says which links are first
 
@@ -76,20 +77,20 @@ module _ (code w₀ : List ℕ) (end a : ℕ) (w : List ℕ) where
     pub firsts : (x : ℕ) → x ≤ length code → first w′ x ≡ little 2 (F x)
     pub beside : Beside code w₀ end w′
 
-module _ {code w₀ : List ℕ} {end : ℕ} (room : 20 * (length code + 1) + roomOf code ≤ end) (inside : end ≤ length w₀) where
-  beside-row : {w w′ bs : List ℕ} {m at : ℕ} → Beside code w₀ end w → Stored m w at bs w′ → at + m ≤ 20 * (length code + 1) → Beside code w₀ end w′
+module _ {code w₀ : List ℕ} {end : ℕ} (room : rowsEnd (length code) + roomOf code ≤ end) (inside : end ≤ length w₀) where
+  beside-row : {w w′ bs : List ℕ} {m at : ℕ} → Beside code w₀ end w → Stored m w at bs w′ → at + m ≤ rowsEnd (length code) → Beside code w₀ end w′
   beside-row {w} {w′} b s h =
       record {
-        between = ap (λ (v : List ℕ). take (end - roomOf code - 20 * (length code + 1)) v) (kept-drop s (20 * (length code + 1)) h) ∙ b .between;
+        between = ap (λ (v : List ℕ). take (end - roomOf code - rowsEnd (length code)) v) (kept-drop s (rowsEnd (length code)) h) ∙ b .between;
         past = kept-drop s end (omega arith) ∙ b .past;
         kept = s .kept ∙ b .kept;
       }
 
   pub beside-ran : {w w′ : List ℕ} → Beside code w₀ end w → Ran code w end w′ → Beside code w₀ end w′
   beside-ran {w} {w′} b r =
-      let k : ℕ = end - roomOf code - 20 * (length code + 1) in
+      let k : ℕ = end - roomOf code - rowsEnd (length code) in
       record {
-        between = part-prefix w′ w (end - roomOf code) (r .front) k (20 * (length code + 1)) (omega arith) ∙ b .between;
+        between = part-prefix w′ w (end - roomOf code) (r .front) k (rowsEnd (length code)) (omega arith) ∙ b .between;
         past = r .back ∙ b .past;
         kept = r .kept ∙ b .kept;
       }
@@ -98,58 +99,58 @@ module _ {code w₀ : List ℕ} {end : ℕ} (room : 20 * (length code + 1) + roo
     pub rows-ran : {w′ : List ℕ} {F : ℕ → ℕ} → Beside code w₀ end w → ((x : ℕ) → x ≤ length code → first w x ≡ little 2 (F x)) → Ran code w end w′
         → Rows code w₀ end a w w′ (own w a) (links w a) F
     rows-ran {w′} b f r =
-        let part : (k i : ℕ) → i + k ≤ 20 * (length code + 1) → take k (drop i w′) ≡ take k (drop i w) =
+        let part : (k i : ℕ) → i + k ≤ rowsEnd (length code) → take k (drop i w′) ≡ take k (drop i w) =
         λ k i h. part-prefix w′ w (end - roomOf code) (r .front) k i (omega arith) in
         record {
-          own-here = part 12 (20 * a) (omega arith);
-          links-here = part 6 (20 * a + 14) (omega arith);
-          own-other = λ x h _. part 12 (20 * x) (omega arith);
-          links-other = λ x h _. part 6 (20 * x + 14) (omega arith);
-          firsts = λ x h. part 2 (20 * x + 12) (omega arith) ∙ f x h;
+          own-here = part FIRST (rowPlace a) (omega arith);
+          links-here = part LINKS (rowPlace a + NEXT) (omega arith);
+          own-other = λ x h _. part FIRST (rowPlace x) (omega arith);
+          links-other = λ x h _. part LINKS (rowPlace x + NEXT) (omega arith);
+          firsts = λ x h. part 2 (rowPlace x + FIRST) (omega arith) ∙ f x h;
           beside = beside-ran b r;
         }
 
     module _ {w₁ o l : List ℕ} {F : ℕ → ℕ} (r : Rows code w₀ end a w w₁ o l F) where
-      long : 20 * (length code + 1) ≤ length w₁
+      long : rowsEnd (length code) ≤ length w₁
       long = omega (arith, r .beside .kept)
 
       -- a run in the row's own part, in its links, and the link to the first parent of t
-      pub put-own : (i : ℕ) {m : ℕ} {bs w₂ : List ℕ} → Stored m w₁ (20 * a + i) bs w₂ → i + m ≤ 12 → Rows code w₀ end a w w₂ (patch o i bs) l F
+      pub put-own : (i : ℕ) {m : ℕ} {bs w₂ : List ℕ} → Stored m w₁ (rowPlace a + i) bs w₂ → i + m ≤ FIRST → Rows code w₀ end a w w₂ (patch o i bs) l F
       put-own i {m} {bs} s h =
           record {
-            own-here = part-stored (20 * a) i s 12 h (omega (arith, long)) ∙ ap (λ (v : List ℕ). patch v i bs) (r .own-here);
-            links-here = kept-part s 6 (20 * a + 14) (λ q. omega arith) ∙ r .links-here;
-            own-other = λ x g n. kept-part s 12 (20 * x) (λ q. omega arith) ∙ r .own-other x g n;
-            links-other = λ x g n. kept-part s 6 (20 * x + 14) (λ q. omega arith) ∙ r .links-other x g n;
-            firsts = λ x g. kept-part s 2 (20 * x + 12) (λ q. omega arith) ∙ r .firsts x g;
+            own-here = part-stored (rowPlace a) i s FIRST h (omega (arith, long)) ∙ ap (λ (v : List ℕ). patch v i bs) (r .own-here);
+            links-here = kept-part s LINKS (rowPlace a + NEXT) (λ q. omega arith) ∙ r .links-here;
+            own-other = λ x g n. kept-part s FIRST (rowPlace x) (λ q. omega arith) ∙ r .own-other x g n;
+            links-other = λ x g n. kept-part s LINKS (rowPlace x + NEXT) (λ q. omega arith) ∙ r .links-other x g n;
+            firsts = λ x g. kept-part s 2 (rowPlace x + FIRST) (λ q. omega arith) ∙ r .firsts x g;
             beside = beside-row (r .beside) s (omega arith);
           }
 
-      pub put-links : (i : ℕ) {m : ℕ} {bs w₂ : List ℕ} → Stored m w₁ (20 * a + 14 + i) bs w₂ → i + m ≤ 6 → Rows code w₀ end a w w₂ o (patch l i bs) F
+      pub put-links : (i : ℕ) {m : ℕ} {bs w₂ : List ℕ} → Stored m w₁ (rowPlace a + NEXT + i) bs w₂ → i + m ≤ LINKS → Rows code w₀ end a w w₂ o (patch l i bs) F
       put-links i {m} {bs} s h =
           record {
-            own-here = kept-part s 12 (20 * a) (λ q. omega arith) ∙ r .own-here;
-            links-here = part-stored (20 * a + 14) i s 6 h (omega (arith, long)) ∙ ap (λ (v : List ℕ). patch v i bs) (r .links-here);
-            own-other = λ x g n. kept-part s 12 (20 * x) (λ q. omega arith) ∙ r .own-other x g n;
-            links-other = λ x g n. kept-part s 6 (20 * x + 14) (λ q. omega arith) ∙ r .links-other x g n;
-            firsts = λ x g. kept-part s 2 (20 * x + 12) (λ q. omega arith) ∙ r .firsts x g;
+            own-here = kept-part s FIRST (rowPlace a) (λ q. omega arith) ∙ r .own-here;
+            links-here = part-stored (rowPlace a + NEXT) i s LINKS h (omega (arith, long)) ∙ ap (λ (v : List ℕ). patch v i bs) (r .links-here);
+            own-other = λ x g n. kept-part s FIRST (rowPlace x) (λ q. omega arith) ∙ r .own-other x g n;
+            links-other = λ x g n. kept-part s LINKS (rowPlace x + NEXT) (λ q. omega arith) ∙ r .links-other x g n;
+            firsts = λ x g. kept-part s 2 (rowPlace x + FIRST) (λ q. omega arith) ∙ r .firsts x g;
             beside = beside-row (r .beside) s (omega arith);
           }
 
-      pub put-first : (t v : ℕ) {w₂ : List ℕ} → t ≤ length code → Stored 2 w₁ (20 * t + 12) (little 2 v) w₂ → Rows code w₀ end a w w₂ o l (λ x. if (eqb x t) v (F x))
+      pub put-first : (t v : ℕ) {w₂ : List ℕ} → t ≤ length code → Stored 2 w₁ (rowPlace t + FIRST) (little 2 v) w₂ → Rows code w₀ end a w w₂ o l (λ x. if (eqb x t) v (F x))
       put-first t v {w₂} h s =
           record {
-            own-here = kept-part s 12 (20 * a) (λ q. omega arith) ∙ r .own-here;
-            links-here = kept-part s 6 (20 * a + 14) (λ q. omega arith) ∙ r .links-here;
-            own-other = λ x g n. kept-part s 12 (20 * x) (λ q. omega arith) ∙ r .own-other x g n;
-            links-other = λ x g n. kept-part s 6 (20 * x + 14) (λ q. omega arith) ∙ r .links-other x g n;
+            own-here = kept-part s FIRST (rowPlace a) (λ q. omega arith) ∙ r .own-here;
+            links-here = kept-part s LINKS (rowPlace a + NEXT) (λ q. omega arith) ∙ r .links-here;
+            own-other = λ x g n. kept-part s FIRST (rowPlace x) (λ q. omega arith) ∙ r .own-other x g n;
+            links-other = λ x g n. kept-part s LINKS (rowPlace x + NEXT) (λ q. omega arith) ∙ r .links-other x g n;
             firsts = λ x g. at x g (ℕ-discrete x t);
             beside = beside-row (r .beside) s (omega arith);
           }
         where
           at : (x : ℕ) → x ≤ length code → Dec (x ≡ t) → first w₂ x ≡ little 2 (if (eqb x t) v (F x))
           at x g (yes e) = rw (if-true (eqb x t) v (F x) (eq-eqb x t e), e) (read-all s)
-          at x g (no n) = rw (if-false (eqb x t) v (F x) (ne-eqb x t n)) (kept-part s 2 (20 * x + 12) (λ q. omega arith) ∙ r .firsts x g)
+          at x g (no n) = rw (if-false (eqb x t) v (F x) (ne-eqb x t n)) (kept-part s 2 (rowPlace x + FIRST) (λ q. omega arith) ∙ r .firsts x g)
 
       pub rows-firsts : (G : ℕ → ℕ) → ((x : ℕ) → F x ≡ G x) → Rows code w₀ end a w w₁ o l G
       rows-firsts G e =
@@ -164,26 +165,26 @@ module _ {code w₀ : List ℕ} {end : ℕ} (room : 20 * (length code + 1) + roo
 
 -- ---- sides are linked
 
-module _ {code w₀ : List ℕ} {end : ℕ} (room : 20 * (length code + 1) + roomOf code ≤ end) (inside : end ≤ length w₀) {a : ℕ} {w : List ℕ} (here : a ≤ length code) where
+module _ {code w₀ : List ℕ} {end : ℕ} (room : rowsEnd (length code) + roomOf code ≤ end) (inside : end ≤ length w₀) {a : ℕ} {w : List ℕ} (here : a ≤ length code) where
   rows-link : {w₁ o l : List ℕ} {F : ℕ → ℕ} → Rows code w₀ end a w w₁ o l F → (side t : ℕ) {w₂ : List ℕ} → side ≤ 1 → t ≤ length code → F t < 65536
-      → w₂ ≡ link w₁ a side t → Rows code w₀ end a w w₂ o (patch l (2 * side) (little 2 (F t))) (λ x. if (eqb x t) (2 * a + side + 1) (F x))
+      → w₂ ≡ link w₁ a side t → Rows code w₀ end a w w₂ o (patch l (2 * side) (little 2 (F t))) (λ x. if (eqb x t) (a + 1) (F x))
   unfolding link
   rows-link {w₁} {o} {l} {F} r side t {w₂} g h f e =
       let q : firstAt w₁ t ≡ F t = first-is w₁ t (F t) f (r .firsts t h) in
-      let mid : List ℕ = patch w₁ (20 * a + 14 + 2 * side) (little 2 (F t)) in
-      let s : Stored 2 w₁ (20 * a + 14 + 2 * side) (little 2 (F t)) mid = stored 2 w₁ (20 * a + 14 + 2 * side) (little 2 (F t)) mid refl refl (omega (arith, r .beside .kept)) in
-      let s₂ : Stored 2 mid (20 * t + 12) (little 2 (2 * a + side + 1)) w₂ =
-      stored 2 mid (20 * t + 12) (little 2 (2 * a + side + 1)) w₂ (e ∙ rw q) refl (omega (arith, r .beside .kept, s .kept)) in
-      put-first room inside here (put-links room inside here r (2 * side) s (omega arith)) t (2 * a + side + 1) h s₂
+      let mid : List ℕ = patch w₁ (rowPlace a + NEXT + 2 * side) (little 2 (F t)) in
+      let s : Stored 2 w₁ (rowPlace a + NEXT + 2 * side) (little 2 (F t)) mid = stored 2 w₁ (rowPlace a + NEXT + 2 * side) (little 2 (F t)) mid refl refl (omega (arith, r .beside .kept)) in
+      let s₂ : Stored 2 mid (rowPlace t + FIRST) (little 2 (a + 1)) w₂ =
+      stored 2 mid (rowPlace t + FIRST) (little 2 (a + 1)) w₂ (e ∙ rw q) refl (omega (arith, r .beside .kept, s .kept)) in
+      put-first room inside here (put-links room inside here r (2 * side) s (omega arith)) t (a + 1) h s₂
 
   module _ (rs : List Node) (u : ℕ) (small : (x : ℕ) → firstTo x rs < 65536) {w₁ o : List ℕ} where
     to-sided : (y t : ℕ) {F : ℕ → ℕ} {w₂ : List ℕ} → Rows code w₀ end a w w₁ o (linkBytes 0 y u) F → t ≤ length code → F t ≡ firstTo t rs → w₂ ≡ link w₁ a 0 t
-        → Rows code w₀ end a w w₂ o (linkBytes (firstTo t rs) y u) (λ x. if (eqb x t) (2 * a + 0 + 1) (F x))
+        → Rows code w₀ end a w w₂ o (linkBytes (firstTo t rs) y u) (λ x. if (eqb x t) (a + 1) (F x))
     unfolding patch
     to-sided y t r h f e = rw f at (rows-link r 0 t (omega arith) h (rw f (small t)) e)
 
     other-sided : (t : ℕ) {w₂ : List ℕ} → Rows code w₀ end a w w₁ o (linkBytes 0 0 u) (λ x. firstTo x rs) → t ≤ length code → w₂ ≡ link w₁ a 1 t
-        → Rows code w₀ end a w w₂ o (linkBytes 0 (firstTo t rs) u) (λ x. if (eqb x t) (2 * a + 1 + 1) (firstTo x rs))
+        → Rows code w₀ end a w w₂ o (linkBytes 0 (firstTo t rs) u) (λ x. if (eqb x t) (a + 1) (firstTo x rs))
     unfolding patch
     other-sided t r h e = rows-link r 1 t (omega arith) h (small t) e
 
@@ -203,7 +204,7 @@ module _ {code w₀ : List ℕ} {end : ℕ} (room : 20 * (length code + 1) + roo
           rw (if-true (eqb t f) 0 (firstTo f rs) (eq-eqb t f q))
           (rows-firsts room inside here (to-sided rs u small 0 t r (le-of-lt (h .0)) refl once) _ (λ x. same x (ℕ-discrete x t)))
         where
-          same : (x : ℕ) → Dec (x ≡ t) → if (eqb x t) (2 * a + 0 + 1) (firstTo x rs) ≡ edgeTo x a (jumpi t f) (firstTo x rs)
+          same : (x : ℕ) → Dec (x ≡ t) → if (eqb x t) (a + 1) (firstTo x rs) ≡ edgeTo x a (jumpi t f) (firstTo x rs)
           same x (yes p) = rw (eq-eqb x t p)
           same x (no n) = rw (ne-eqb x t n, ne-eqb x f (λ p. n (p ∙ sym q)))
       go (no n) =
@@ -212,16 +213,16 @@ module _ {code w₀ : List ℕ} {end : ℕ} (room : 20 * (length code + 1) + roo
           rw (if-false (eqb t f) 0 (firstTo f rs) (ne-eqb t f n))
           (to-sided rs u small (firstTo f rs) t (other-sided rs u small f r (h .1) refl) (le-of-lt (h .0)) (if-false (eqb t f) _ _ (ne-eqb t f n)) twice)
   rows-sides rs u small dynamic-jump h r e = rw e r
-  rows-sides rs u small (dynamic-jumpi f) h r e = other-sided rs u small f r h e
+  rows-sides rs u small (dynamic-jumpi f) h r e = other-sided rs u small f r (h .1) e
 
 -- ---- what a run settles
 
 abbrev pub ownPlaced : BlockType → ℕ → Option Sym → List ℕ
-ownPlaced t e none = ownBytes (t .kind) 0 e (t .to) (t .other) 0
-ownPlaced t e (some (before p)) = ownBytes (t .kind) 1 e (t .to) (t .other) p
-ownPlaced t e (some (constant v)) = ownBytes (t .kind) 0 e (t .to) (t .other) 0
-ownPlaced t e (some (jumpdest u)) = ownBytes (staticType t u .kind) 0 e (staticType t u .to) (staticType t u .other) 0
-ownPlaced t e (some (other pc)) = ownBytes (t .kind) 0 e (t .to) (t .other) 0
+ownPlaced t e none = ownBytes e t 0
+ownPlaced t e (some (before p)) = ownBytes e t p
+ownPlaced t e (some (constant v)) = ownBytes e t 0
+ownPlaced t e (some (jumpdest u)) = ownBytes e (staticType t u) 0
+ownPlaced t e (some (other pc)) = ownBytes e t 0
 
 abbrev pub linksPlaced : Option Sym → ℕ → List ℕ
 linksPlaced none head = linkBytes 0 0 0
@@ -230,32 +231,27 @@ linksPlaced (some (constant v)) head = linkBytes 0 0 0
 linksPlaced (some (jumpdest u)) head = linkBytes 0 0 0
 linksPlaced (some (other pc)) head = linkBytes 0 0 0
 
-static-small : (t : BlockType) (u : ℕ) → staticType t u .kind / 256 % 256 ≡ 0
-static-small t u = both (λ (k : BlockType). k .kind / 256 % 256 ≡ 0) (eqb (t .kind) 5) (λ _. refl) (λ _. refl)
-
-module _ {code w₀ : List ℕ} {end : ℕ} (room : 20 * (length code + 1) + roomOf code ≤ end) (inside : end ≤ length w₀) {a : ℕ} {w : List ℕ} (here : a ≤ length code)
+module _ {code w₀ : List ℕ} {end : ℕ} (room : rowsEnd (length code) + roomOf code ≤ end) (inside : end ≤ length w₀) {a : ℕ} {w : List ℕ} (here : a ≤ length code)
     (t : BlockType) (e head : ℕ) (small : e < 65536) {F : ℕ → ℕ} {w₁ : List ℕ}
-    (r : Rows code w₀ end a w w₁ (ownBytes (t .kind) 0 e (t .to) (t .other) 0) (linkBytes 0 0 0) F) where
+    (r : Rows code w₀ end a w w₁ (ownBytes e t 0) (linkBytes 0 0 0) F) where
   turn-placed : (p : ℕ) {w₂ : List ℕ} → w₂ ≡ takeTurn w₁ a p head → Rows code w₀ end a w w₂ (ownPlaced t e (some (before p))) (linksPlaced (some (before p)) head) F
   unfolding takeTurn patch
   turn-placed p {w₂} q =
-      let x : List ℕ = patch w₁ (20 * a + 1) (little 1 1) in
-      let y : List ℕ = patch x (20 * a + 8) (little 4 p) in
-      let s : Stored 1 w₁ (20 * a + 1) (little 1 1) x = stored 1 w₁ (20 * a + 1) (little 1 1) x refl refl (omega (arith, r .beside .kept)) in
-      let s₂ : Stored 4 x (20 * a + 8) (little 4 p) y = stored 4 x (20 * a + 8) (little 4 p) y refl refl (omega (arith, r .beside .kept, s .kept)) in
-      let place : 20 * a + 18 ≡ 20 * a + 14 + 4 = omega arith in
-      let s₃ : Stored 2 y (20 * a + 14 + 4) (little 2 head) w₂ = stored 2 y (20 * a + 14 + 4) (little 2 head) w₂ (q ∙ rw place) refl (omega (arith, r .beside .kept, s .kept, s₂ .kept)) in
-      put-links room inside here (put-own room inside here (put-own room inside here r 1 s (omega arith)) 8 s₂ (omega arith)) 4 s₃ (omega arith)
+      let x : List ℕ = patch w₁ (rowPlace a + POSITION) (little 4 p) in
+      let s : Stored 4 w₁ (rowPlace a + POSITION) (little 4 p) x = stored 4 w₁ (rowPlace a + POSITION) (little 4 p) x refl refl (omega (arith, r .beside .kept)) in
+      let place : rowPlace a + TAKER ≡ rowPlace a + NEXT + 4 = omega arith in
+      let s₂ : Stored 2 x (rowPlace a + NEXT + 4) (little 2 head) w₂ = stored 2 x (rowPlace a + NEXT + 4) (little 2 head) w₂ (q ∙ rw place) refl (omega (arith, r .beside .kept, s .kept)) in
+      put-links room inside here (put-own room inside here r POSITION s (omega arith)) 4 s₂ (omega arith)
 
-  block-placed : (u : ℕ) {w₂ : List ℕ} → w₂ ≡ patch w₁ (20 * a) (headOf (numAt 2 w₁ (20 * a + 2)) (staticType t u))
+  block-placed : (u : ℕ) {w₂ : List ℕ} → w₂ ≡ patch w₁ (rowPlace a) (headOf (numAt 2 w₁ (rowPlace a + END)) (staticType t u))
       → Rows code w₀ end a w w₂ (ownPlaced t e (some (jumpdest u))) (linkBytes 0 0 0) F
   unfolding patch
   block-placed u {w₂} q =
-      let last : numAt 2 w₁ (20 * a + 2) ≡ e = own-end w₁ a t 0 e 0 (r .own-here) small in
-      let zero : 20 * a ≡ 20 * a + 0 = omega arith in
+      let last : numAt 2 w₁ (rowPlace a + END) ≡ e = own-end w₁ a t e 0 (r .own-here) small in
+      let zero : rowPlace a ≡ rowPlace a + 0 = omega arith in
       let bs : List ℕ = headOf e (staticType t u) in
-      let s : Stored 8 w₁ (20 * a + 0) bs w₂ = stored 8 w₁ (20 * a + 0) bs w₂ (q ∙ rw (last, ← zero)) refl (omega (arith, r .beside .kept)) in
-      rw (static-small t u) at (put-own room inside here r 0 s (omega arith))
+      let s : Stored BLOCK w₁ (rowPlace a + 0) bs w₂ = stored BLOCK w₁ (rowPlace a + 0) bs w₂ (q ∙ rw (last, ← zero)) refl (omega (arith, r .beside .kept)) in
+      put-own room inside here r 0 s (omega arith)
 
   pub rows-placed : (g : Option Sym) {w₂ : List ℕ} → w₂ ≡ place w₁ a t g head → Rows code w₀ end a w w₂ (ownPlaced t e g) (linksPlaced g head) F
   unfolding place

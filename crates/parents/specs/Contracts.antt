@@ -2,46 +2,49 @@
 use mathlib.Core.Path.{_≡_}
 use mathlib.Core.List.{List, map}
 use mathlib.Core.Option.{Option}
-use Prim.Native.Nat.{ℕ, _+_, _-_, _*_, _^_, _≤_, _<_}
+use Prim.Native.Nat.{ℕ, _+_, _-_, _^_, _≤_, _<_}
 use lib.ListN.{length, take, drop}
 use Rattle.spec.specs.Walk.{walk, instructions, from}
 use Rattle.spec.specs.Blocks.{blocks}
 use Rattle.spec.specs.Stacks.{Sym}
 use Rattle.spec.specs.Search.{Node, takers}
 use Rattle.spec.specs.Answer.{prepared}
-use Rattle.initial.specs.Rows.{tagAt, typeAt, blocksAt, Laid}
-use Rattle.initial.specs.declared.row.BlockType.{BlockType}
+use Rattle.spec.specs.Rooms.{longest}
+use Rattle.layout.specs.Parts.{ROW, rowPlace, rowsEnd}
+use Rattle.layout.specs.Rows.{tagAt, typeAt, firstAt, startOf}
+use Rattle.layout.specs.declared.row.BlockType.{BlockType}
+use Rattle.initial.specs.Rows.{blocksAt, Laid}
 use Rattle.state.specs.Owns.{roomOf}
-use Rattle.parents.specs.Links.{firstAt, startOf, Parents, turnOf, Takers, directTo, fromOf}
+use Rattle.parents.specs.Links.{Parents, turnOf, Takers, directTo, fromOf}
 use Rattle.parents.specs.Rows.{rowFor}
 use Rattle.parents.specs.Writes.{place, headPast, goesAt}
 
 -- ---- what is lent: the rows as `initial_blocks` leaves them, and past them a part for the runs, which ends at `end`
 
 pub record Lent (code w : List ℕ) (end : ℕ) : Type 0 where
-  pub short : length code ≤ 24576
+  pub short : length code ≤ longest
   pub same : blocksAt w (length code) ≡ blocks code (instructions code)
   pub laid : Laid w (length code)
-  pub room : 20 * (length code + 1) + roomOf code ≤ end
+  pub room : rowsEnd (length code) + roomOf code ≤ end
   pub inside : end ≤ length w
 
 -- W changed in its rows and in the part for the runs alone
 pub record Beside (code w : List ℕ) (end : ℕ) (w′ : List ℕ) : Type 0 where
-  pub between : take (end - roomOf code - 20 * (length code + 1)) (drop (20 * (length code + 1)) w′) ≡ take (end - roomOf code - 20 * (length code + 1)) (drop (20 * (length code + 1)) w)
+  pub between : take (end - roomOf code - rowsEnd (length code)) (drop (rowsEnd (length code)) w′) ≡ take (end - roomOf code - rowsEnd (length code)) (drop (rowsEnd (length code)) w)
   pub past : drop end w′ ≡ drop end w
   pub kept : length w′ ≡ length w
 
 -- ---- one side, and the sides of a block
 
 pub record LinkRoom (w : List ℕ) (a side t : ℕ) : Type 0 where
-  pub own : 20 * a + 20 ≤ length w
-  pub to : 20 * t + 20 ≤ length w
+  pub own : rowPlace a + ROW ≤ length w
+  pub to : rowPlace t + ROW ≤ length w
   pub one : side ≤ 1
 
 pub record Sides (w : List ℕ) (a : ℕ) : Type 0 where
-  pub own : 20 * a + 20 ≤ length w
-  pub to : 20 * typeAt w a .to + 20 ≤ length w
-  pub other : 20 * typeAt w a .other + 20 ≤ length w
+  pub own : rowPlace a + ROW ≤ length w
+  pub to : rowPlace (typeAt w a .to) + ROW ≤ length w
+  pub other : rowPlace (typeAt w a .other) + ROW ≤ length w
 
 -- w became w′, which is v
 pub record Wrote (w w′ v : List ℕ) : Type 0 where
@@ -52,9 +55,9 @@ pub record Wrote (w w′ v : List ℕ) : Type 0 where
 
 pub record Settles (code w : List ℕ) (end a : ℕ) : Type 0 where
   pub stands : 5 ≤ tagAt w a → from a (instructions code) ≡ walk (drop a code) a 0
-  pub short : length code ≤ 24576
+  pub short : length code ≤ longest
   pub row : a ≤ length code
-  pub room : 20 * (length code + 1) + roomOf code ≤ end
+  pub room : rowsEnd (length code) + roomOf code ≤ end
   pub inside : end ≤ length w
 
 -- the run changed its part alone
@@ -81,11 +84,11 @@ pub record Placed (w : List ℕ) (a : ℕ) (t : BlockType) (goes : Option Sym) (
 pub record Known (code w : List ℕ) (head : ℕ) : Type 0 where
   pub blocks : blocksAt w (length code) ≡ map (λ (x : Node). x .block) (prepared code)
   pub takers : Takers w (length code) head (map turnOf (takers (prepared code)))
-  pub parents : (t : ℕ) → t ≤ length code → Parents w (length code) (firstAt w t) (map fromOf (directTo t (prepared code)))
+  pub parents : (t : ℕ) → t ≤ length code → Parents w (length code) t (firstAt w t) (map fromOf (directTo t (prepared code)))
 
 -- the blocks of the code are prepared for the search: every byte of the rows, and what they say; r is the link to the first block that takes turns
 pub record Prepared (code w : List ℕ) (end : ℕ) (w′ : List ℕ) (r : ℕ) : Type 0 where
-  pub row : (a : ℕ) → a ≤ length code → take 20 (drop (20 * a) w′) ≡ rowFor code w a
+  pub row : (a : ℕ) → a ≤ length code → take ROW (drop (rowPlace a) w′) ≡ rowFor code w a
   pub known : Known code w′ r
   pub beside : Beside code w end w′
 
@@ -98,4 +101,4 @@ pub record Number (r v k : ℕ) : Type 0 where
 -- a link of some parents, whose row is there
 pub record Link (w : List ℕ) (link : ℕ) : Type 0 where
   pub some : 1 ≤ link
-  pub inside : 20 * startOf link + 20 ≤ length w
+  pub inside : rowPlace (startOf link) + ROW ≤ length w

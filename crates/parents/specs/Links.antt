@@ -2,43 +2,21 @@
 -- Assumes nothing.
 use mathlib.Core.Path.{_≡_}
 use mathlib.Core.List.{List, [], _∷_}
-use Prim.Native.Nat.{ℕ, _+_, _-_, _*_, _/_, _%_, _≤_}
+use Prim.Native.Nat.{ℕ, _+_, _≤_}
+use Rattle.spec.specs.Lists.{lastOf, keep}
+use Rattle.spec.specs.Search.{Node, Taker, Parent, direct, parent}
+use Rattle.layout.specs.Rows.{positionAt, takerAt, nextOf}
 use lib.Dec.{eqb}
 use lib.ListN.{drop}
-use Rattle.spec.specs.Lists.{lastOf, keep}
 use Rattle.spec.specs.Walk.{walk, instructions, from}
 use Rattle.spec.specs.Stacks.{run}
-use Rattle.spec.specs.Search.{Node, Taker, Parent, parent, direct}
-use Rattle.lent.specs.Bytes.{numAt}
-
--- ---- a row's fields past its block
-
--- the position that the block asks for, where it takes turns
-abbrev pub positionAt : List ℕ → ℕ → ℕ
-positionAt w a = numAt 4 w (20 * a + 8)
-
--- the link to the next block that takes turns: its address and 1
-abbrev pub takerAt : List ℕ → ℕ → ℕ
-takerAt w a = numAt 2 w (20 * a + 18)
-
--- the link to the first direct parent of an address: an edge, 2 * start + side, and 1; the true side is 0, the false side 1
-abbrev pub firstAt : List ℕ → ℕ → ℕ
-firstAt w t = numAt 2 w (20 * t + 12)
-
--- the start of the block that a link leads to
-abbrev pub startOf : ℕ → ℕ
-startOf link = (link - 1) / 2
-
--- the link past it, to the next parent of the same address
-abbrev pub nextAt : List ℕ → ℕ → ℕ
-nextAt w link = numAt 2 w (20 * startOf link + 14 + 2 * ((link - 1) % 2))
 
 -- ---- the lists
 
--- the blocks that a list of parents has from a link on
-pub data Parents (w : List ℕ) (n : ℕ) : ℕ → List ℕ → Type 0 where
-  no-parent : Parents w n 0 []
-  next-parent : {a side : ℕ} {starts : List ℕ} → a ≤ n → side ≤ 1 → Parents w n (numAt 2 w (20 * a + 14 + 2 * side)) starts → Parents w n (2 * a + side + 1) (a ∷ starts)
+-- the blocks that the list of t's parents has from a link on
+pub data Parents (w : List ℕ) (n t : ℕ) : ℕ → List ℕ → Type 0 where
+  no-parent : Parents w n t 0 []
+  next-parent : {a : ℕ} {starts : List ℕ} → a ≤ n → Parents w n t (nextOf w t a) starts → Parents w n t (a + 1) (a ∷ starts)
 
 -- a block that takes turns, by its start, with the position that it asks for
 pub record Turn : Type 0 where

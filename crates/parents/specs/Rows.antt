@@ -1,18 +1,20 @@
 -- The rows of W after the first stage, byte for byte: the block with its settled kind, its turn, and the links. Assumes nothing.
 use mathlib.Core.List.{List, [], _∷_, _++_}
-use Prim.Native.Nat.{ℕ, suc, _+_, _-_, _*_}
+use Prim.Native.Nat.{ℕ, suc, _+_, _-_}
 use lib.Dec.{eqb}
 use lib.ListN.{length, replicate}
 use Rattle.spec.specs.Lists.{if, little}
 use Rattle.spec.specs.Walk.{instructions}
 use Rattle.spec.specs.Blocks.{Kind, terminate, jump, jumpi, dynamic-jump, dynamic-jumpi}
 use Rattle.spec.specs.Search.{Node, nodes, Taker, takes, takers}
+use Rattle.layout.specs.Rows.{FIRST, LINKS, headOf}
+use Rattle.layout.specs.declared.row.BlockType.{BlockType}
 use Rattle.initial.specs.Rows.{typeOf, rowBlocks, blocksFrom}
 
 -- ---- the parts of a row: twelve bytes of the block and its turn, the link to the first parent, and six bytes of further links
 
-abbrev pub ownBytes : ℕ → ℕ → ℕ → ℕ → ℕ → ℕ → List ℕ
-ownBytes kind turn end to other position = little 1 kind ++ (little 1 turn ++ (little 2 end ++ (little 2 to ++ (little 2 other ++ little 4 position))))
+abbrev pub ownBytes : ℕ → BlockType → ℕ → List ℕ
+ownBytes end t position = headOf end t ++ little 4 position
 
 abbrev pub linkBytes : ℕ → ℕ → ℕ → List ℕ
 linkBytes to other taker = little 2 to ++ (little 2 other ++ little 2 taker)
@@ -21,10 +23,6 @@ linkBytes to other taker = little 2 to ++ (little 2 other ++ little 2 taker)
 
 abbrev pub turnsOf : Node → List Taker
 turnsOf r = takes r (r .block .kind)
-
-abbrev pub flagged : List Taker → ℕ
-flagged [] = 0
-flagged (k ∷ ks) = 1
 
 abbrev pub positioned : List Taker → ℕ
 positioned [] = 0
@@ -44,10 +42,10 @@ takerPast (k ∷ ks) rs = firstTaker (takers rs)
 
 abbrev pub edgeTo : ℕ → ℕ → Kind → ℕ → ℕ
 edgeTo t a (terminate success) later = later
-edgeTo t a (jump u) later = if (eqb t u) (2 * a + 0 + 1) later
-edgeTo t a (jumpi u f) later = if (eqb t u) (2 * a + 0 + 1) (if (eqb t f) (2 * a + 1 + 1) later)
+edgeTo t a (jump u) later = if (eqb t u) (a + 1) later
+edgeTo t a (jumpi u f) later = if (eqb t u) (a + 1) (if (eqb t f) (a + 1) later)
 edgeTo t a dynamic-jump later = later
-edgeTo t a (dynamic-jumpi f) later = if (eqb t f) (2 * a + 1 + 1) later
+edgeTo t a (dynamic-jumpi f) later = if (eqb t f) (a + 1) later
 
 -- the link to the first parent of t among some blocks
 unfoldable pub firstTo : ℕ → List Node → ℕ
@@ -72,13 +70,11 @@ otherPast (dynamic-jumpi f) rs = firstTo f rs
 -- ---- the row of an address, by the block there, if one starts there, and those past it
 
 abbrev pub ownOf : List Node → List ℕ
-ownOf [] = replicate 12 0
-ownOf (r ∷ rs) =
-    ownBytes (typeOf (r .block .kind) .kind) (flagged (turnsOf r)) (r .block .end) (typeOf (r .block .kind) .to) (typeOf (r .block .kind) .other)
-    (positioned (turnsOf r))
+ownOf [] = replicate FIRST 0
+ownOf (r ∷ rs) = ownBytes (r .block .end) (typeOf (r .block .kind)) (positioned (turnsOf r))
 
 abbrev pub linksOf : List Node → List Node → List ℕ
-linksOf [] later = replicate 6 0
+linksOf [] later = replicate LINKS 0
 linksOf (r ∷ rs) later = linkBytes (toPast (r .block .kind) later) (otherPast (r .block .kind) later) (takerPast (turnsOf r) later)
 
 -- the blocks of W's rows, each with its own run: at an address, and from one on

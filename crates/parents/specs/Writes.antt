@@ -7,15 +7,15 @@ use Rattle.spec.specs.Lists.{if, little}
 use Rattle.spec.specs.Walk.{instructions}
 use Rattle.spec.specs.Stacks.{Sym, before, constant, jumpdest, other, run}
 use Rattle.lent.specs.Bytes.{numAt, patch}
-use Rattle.initial.specs.Rows.{typed, tagAt, headOf}
-use Rattle.initial.specs.declared.row.BlockType.{BlockType}
-use Rattle.parents.specs.Links.{firstAt}
+use Rattle.layout.specs.Parts.{rowPlace}
+use Rattle.layout.specs.Rows.{END, POSITION, FIRST, NEXT, TAKER, typed, tagAt, headOf, firstAt}
+use Rattle.layout.specs.declared.row.BlockType.{BlockType}
 
 -- ---- links
 
 -- a side of the block at a is put in front of t's parents
 unfoldable pub link : List ℕ → ℕ → ℕ → ℕ → List ℕ
-link w a side t = patch (patch w (20 * a + 14 + 2 * side) (little 2 (firstAt w t))) (20 * t + 12) (little 2 (2 * a + side + 1))
+link w a side t = patch (patch w (rowPlace a + NEXT + 2 * side) (little 2 (firstAt w t))) (rowPlace t + FIRST) (little 2 (a + 1))
 
 -- the sides of a block type: "equal sides once", "of a DynamicJumpi the false side only"
 unfoldable pub linkSides : List ℕ → ℕ → BlockType → List ℕ
@@ -28,7 +28,7 @@ linkSides w a t =
 
 -- the block at a takes turns, for a position, in front of those from `head` on
 unfoldable pub takeTurn : List ℕ → ℕ → ℕ → ℕ → List ℕ
-takeTurn w a p head = patch (patch (patch w (20 * a + 1) (little 1 1)) (20 * a + 8) (little 4 p)) (20 * a + 18) (little 2 head)
+takeTurn w a p head = patch (patch w (rowPlace a + POSITION) (little 4 p)) (rowPlace a + TAKER) (little 2 head)
 
 -- "each dynamic block whose own run ends in Jumpdest becomes static"
 abbrev pub staticType : BlockType → ℕ → BlockType
@@ -39,7 +39,7 @@ unfoldable pub place : List ℕ → ℕ → BlockType → Option Sym → ℕ →
 place w a t none head = w
 place w a t (some (before p)) head = takeTurn w a p head
 place w a t (some (constant v)) head = w
-place w a t (some (jumpdest to)) head = patch w (20 * a) (headOf (numAt 2 w (20 * a + 2)) (staticType t to))
+place w a t (some (jumpdest to)) head = patch w (rowPlace a) (headOf (numAt 2 w (rowPlace a + END)) (staticType t to))
 place w a t (some (other pc)) head = w
 
 abbrev pub headPast : ℕ → Option Sym → ℕ → ℕ

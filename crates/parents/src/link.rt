@@ -1,24 +1,23 @@
 // The direct parents of each address, as a list that is linked through the rows.
 // "each block with its own stack, for every static side (equal sides once), of a DynamicJumpi the false side only"
-use initial::row::DYNAMIC_JUMPI;
-use initial::row::JUMP;
-use initial::row::JUMPI;
-use initial::row::ROW;
-use initial::row::type_at;
+use layout::row::DYNAMIC_JUMPI;
+use layout::row::FIRST;
+use layout::row::JUMP;
+use layout::row::JUMPI;
+use layout::row::NEXT;
+use layout::row::NEXT_OTHER;
+use layout::row::ROW;
+use layout::row::TO;
+use layout::row::type_at;
 use lent::get16;
 use lent::put16;
 ghost use mathlib.Core.Path.{_≡_};
 ghost use Prim.Native.Nat.{_+_, _*_, _≤_};
 ghost use lib.ListN.{length};
-ghost use Rattle.initial.specs.Rows.{typeAt};
-ghost use Rattle.parents.specs.Links.{firstAt, startOf, nextAt};
+ghost use Rattle.layout.specs.Parts.{ROW, rowPlace};
+ghost use Rattle.layout.specs.Rows.{typeAt, firstAt, startOf, nextAt};
 ghost use Rattle.parents.specs.Writes.{link, linkSides};
 ghost use Rattle.parents.specs.Contracts.{LinkRoom, Sides, Wrote, Number, Link};
-
-// Where a row has the link to its address's first parent, and those of its block's two sides.
-const FIRST: usize = 12;
-
-const NEXT: usize = 14;
 
 // Puts a side of the block at a in front of the parents of t.
 fn link(w: &mut [u8], a: usize, side: usize, t: usize)
@@ -27,7 +26,7 @@ fn link(w: &mut [u8], a: usize, side: usize, t: usize)
 {
     let first = get16(w, ROW * t + FIRST);
     put16(w, ROW * a + NEXT + 2 * side, first);
-    put16(w, ROW * t + FIRST, 2 * a + side + 1);
+    put16(w, ROW * t + FIRST, a + 1);
 }
 
 // Puts every static side of the block at a in front of its parents: equal sides once, of a DynamicJumpi the false side only.
@@ -56,7 +55,7 @@ pub fn link_sides(w: &mut [u8], a: usize)
 
 // The link to the first parent of t.
 pub fn first_parent(w: &[u8], t: usize) -> usize
-    requires { ⌜ 20 * t + 20 ≤ length (now w) ⌝ }
+    requires { ⌜ rowPlace t + ROW ≤ length (now w) ⌝ }
     ensures { λ r. ⌜ Number r (firstAt (now (w .entry)) t) 2 ⌝ }
 {
     get16(w, ROW * t + FIRST)
@@ -67,14 +66,17 @@ pub fn parent_start(link: usize) -> usize
     requires { ⌜ 1 ≤ link ⌝ }
     ensures { λ r. ⌜ r ≡ startOf link ⌝ }
 {
-    (link - 1) / 2
+    link - 1
 }
 
-// The link to the next parent.
-pub fn next_parent(w: &[u8], link: usize) -> usize
+// The link to the parent of t after the one that a link leads to: past its true side, if this is t, else past its false side.
+pub fn next_parent(w: &[u8], t: usize, link: usize) -> usize
     requires { ⌜ Link (now w) link ⌝ }
-    ensures { λ r. ⌜ Number r (nextAt (now (w .entry)) link) 2 ⌝ }
+    ensures { λ r. ⌜ Number r (nextAt (now (w .entry)) t link) 2 ⌝ }
 {
-    let edge = link - 1;
-    get16(w, ROW * (edge / 2) + NEXT + 2 * (edge % 2))
+    let at = ROW * (link - 1);
+    if get16(w, at + TO) == t {
+        return get16(w, at + NEXT);
+    }
+    get16(w, at + NEXT_OTHER)
 }

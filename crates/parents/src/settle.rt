@@ -1,14 +1,14 @@
 // The first stage: each dynamic block is run, and what its jump takes settles it.
 // "First, each dynamic block whose own run ends in Jumpdest becomes static, with no test that a block starts there."
 use crate::taker::take_turn;
-use initial::row::BlockType;
-use initial::row::DYNAMIC_JUMP;
-use initial::row::END;
-use initial::row::JUMP;
-use initial::row::JUMPI;
-use initial::row::ROW;
-use initial::row::put_block;
-use initial::row::type_at;
+use layout::row::BlockType;
+use layout::row::DYNAMIC_JUMP;
+use layout::row::END;
+use layout::row::JUMP;
+use layout::row::JUMPI;
+use layout::row::ROW;
+use layout::row::put_block;
+use layout::row::type_at;
 use lent::get16;
 use state::run::Goes;
 use state::run::run;
@@ -17,6 +17,7 @@ ghost use mathlib.Core.Path.{_≡_};
 ghost use mathlib.Core.Option.{some};
 ghost use Prim.Native.Nat.{_+_, _*_, _≤_};
 ghost use lib.ListN.{length};
+ghost use Rattle.layout.specs.Parts.{ROW, rowPlace};
 ghost use Rattle.state.specs.Symbols.{symOf};
 ghost use Rattle.parents.specs.Writes.{staticType};
 ghost use Rattle.parents.specs.Contracts.{Settles, Settled, Placed};
@@ -40,7 +41,7 @@ pub fn settle(code: &[u8], w: &mut [u8], end: usize, a: usize, head: usize) -> u
 
 // A Jumpdest makes the block static, with no test that a block starts there; a Before has it take turns.
 fn place(w: &mut [u8], a: usize, t: BlockType, x: StackSym, head: usize) -> usize
-    requires { ⌜ 20 * a + 20 ≤ length (now w) ⌝ }
+    requires { ⌜ rowPlace a + ROW ≤ length (now w) ⌝ }
     ensures { λ r. ⌜ Placed (now (w .entry)) a t (some (symOf x)) head (now (w .exit)) r ⌝ }
 {
     match x {

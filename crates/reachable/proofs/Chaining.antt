@@ -1,7 +1,7 @@
 -- The laws of `link`: one row is put before the rows of its key, and then all rows are linked. Assumes nothing.
 use mathlib.Core.Path.{_≡_, refl, sym, _∙_}
 use mathlib.Core.List.{List}
-use Prim.Native.Nat.{ℕ, suc, _+_, _*_, _-_, _≤_, _<_}
+use Prim.Native.Nat.{ℕ, suc, _+_, _-_, _≤_, _<_}
 use native.Mathlib.Decide.{ℕ-discrete}
 use native.Mathlib.Nat.{sub-self}
 use native.Mathlib.Omega.{arith}
@@ -9,10 +9,14 @@ use lib.Dec.{eqb}
 use lib.ListN.{length}
 use borrow.Author.Tests.{eq-eqb, ne-eqb}
 use Rattle.spec.specs.Lists.{if, little}
-use Rattle.theorems.proofs.Branch.{if-true, if-false}
+use Rattle.laws.proofs.Branch.{if-true, if-false}
 use Rattle.lent.specs.Bytes.{numAt, Holds, Stored}
 use Rattle.lent.proofs.Stored.{kept-take, kept-drop, kept-part, kept-num, read-back}
-use Rattle.reachable.specs.Links.{keyAt, linkAt, headAt, firstFrom}
+use Rattle.layout.specs.Edges.{E-LINKS, keyAt, linkAt}
+use Rattle.layout.specs.Fields.{HEADS, headAt}
+use Rattle.layout.specs.Parts.{rowsEnd, fieldsPlace, listPlace}
+use Rattle.layout.specs.Records.{recordPlace}
+use Rattle.reachable.specs.Links.{firstFrom}
 use Rattle.reachable.specs.Contracts.{Room, Address}
 use Rattle.reachable.specs.Pruning.{EdgeRow, EdgeRows, Key, LinkedRow, HeadsOnly, LinksOnly, Chains, Links, Linked}
 use Rattle.reachable.proofs.Frames.{num-in}
@@ -20,15 +24,15 @@ use Rattle.reachable.proofs.EdgeRows.{key-within, first-of, first-kept,
 
 -- ---- one row
 
-module _ {n by i x : ℕ} {w r : List ℕ} (l : Room n w) (e : EdgeRow n r i) (k : Key by) (h : Holds 2 r (32 * i + by) x) where
+module _ {n by i x : ℕ} {w r : List ℕ} (l : Room n w) (e : EdgeRow n r i) (k : Key by) (h : Holds 2 r (recordPlace i + by) x) where
   pub row-address : Address n w x
   row-address = record { lent = l; inside = rw (h .is) (key-within e k) }
 
-  pub head-room : 20 * (n + 1 + x) + (4 + by) + 4 ≤ length w
+  pub head-room : fieldsPlace n x + (HEADS + by) + 4 ≤ length w
   head-room = omega (arith, l .room, k .small, row-address .inside)
 
-  pub linked-row : {next : ℕ} {w′ r′ : List ℕ} → next ≡ headAt w n by x → Stored 4 r (32 * i + (8 + by)) (little 4 next) r′
-      → Stored 4 w (20 * (n + 1 + x) + (4 + by)) (little 4 (i + 1)) w′ → LinkedRow n by w r i w′ r′
+  pub linked-row : {next : ℕ} {w′ r′ : List ℕ} → next ≡ headAt w n by x → Stored 4 r (recordPlace i + (E-LINKS + by)) (little 4 next) r′
+      → Stored 4 w (fieldsPlace n x + (HEADS + by)) (little 4 (i + 1)) w′ → LinkedRow n by w r i w′ r′
   linked-row g s t = record { head = rw (← h .is) t; link = rw (← h .is, ← g) s }
 
 -- ---- what stays
@@ -56,27 +60,27 @@ links-after p q = record {
   long = q .long ∙ p .long;
 }
 
-head-only : {n by x : ℕ} {w bs w′ : List ℕ} → by ≤ 4 → x ≤ n → Stored 4 w (20 * (n + 1 + x) + (4 + by)) bs w′ → HeadsOnly n by w w′
+head-only : {n by x : ℕ} {w bs w′ : List ℕ} → by ≤ 4 → x ≤ n → Stored 4 w (fieldsPlace n x + (HEADS + by)) bs w′ → HeadsOnly n by w w′
 head-only {n} {by} {x} k h s = record {
-  rows = kept-take s (20 * (n + 1)) (omega arith);
-  before = λ y l. kept-part s (4 + by) (20 * (n + 1 + y)) (λ g. omega arith);
-  after = λ y l. kept-part s (12 - by) (20 * (n + 1 + y) + (8 + by)) (λ g. omega arith);
-  beyond = kept-drop s (40 * (n + 1)) (omega arith);
+  rows = kept-take s (rowsEnd n) (omega arith);
+  before = λ y l. kept-part s (HEADS + by) (fieldsPlace n y) (λ g. omega arith);
+  after = λ y l. kept-part s (12 - by) (fieldsPlace n y + (8 + by)) (λ g. omega arith);
+  beyond = kept-drop s (listPlace n) (omega arith);
   long = s .kept;
 }
 
-link-only : {m by i : ℕ} {r bs r′ : List ℕ} → by ≤ 4 → i < m → Stored 4 r (32 * i + (8 + by)) bs r′ → LinksOnly m by r r′
+link-only : {m by i : ℕ} {r bs r′ : List ℕ} → by ≤ 4 → i < m → Stored 4 r (recordPlace i + (E-LINKS + by)) bs r′ → LinksOnly m by r r′
 link-only {m} {by} {i} k h s = record {
-  before = λ j l. kept-part s (8 + by) (32 * j) (λ g. omega arith);
-  after = λ j l. kept-part s (20 - by) (32 * j + (12 + by)) (λ g. omega arith);
-  beyond = kept-drop s (32 * m) (omega arith);
+  before = λ j l. kept-part s (E-LINKS + by) (recordPlace j) (λ g. omega arith);
+  after = λ j l. kept-part s (20 - by) (recordPlace j + (12 + by)) (λ g. omega arith);
+  beyond = kept-drop s (recordPlace m) (omega arith);
   long = s .kept;
 }
 
 -- the keys and the destination of a row stand before its links
 module _ {m by : ℕ} {r r′ : List ℕ} (l : LinksOnly m by r r′) where
-  field : (i : ℕ) → i < m → (k o : ℕ) → o + k ≤ 8 + by → numAt k r′ (32 * i + o) ≡ numAt k r (32 * i + o)
-  field i h k o g = num-in r′ r (8 + by) (32 * i) (l .before i h) k (32 * i + o) (omega arith) (omega arith)
+  field : (i : ℕ) → i < m → (k o : ℕ) → o + k ≤ E-LINKS + by → numAt k r′ (recordPlace i + o) ≡ numAt k r (recordPlace i + o)
+  field i h k o g = num-in r′ r (E-LINKS + by) (recordPlace i) (l .before i h) k (recordPlace i + o) (omega arith) (omega arith)
 
   pub same-row : (i : ℕ) → i < m → SameRow r r′ i
   same-row i h = record {
@@ -133,7 +137,7 @@ module _ {n m by i : ℕ} {w₀ r₀ w r : List ℕ} (a : Links n m by w₀ r₀
     key-is : keyAt r by (i - 1) ≡ keyAt r₀ by (i - 1)
     key-is = same-key (l .links) (i - 1) inside
 
-    head-stored : Stored 4 w (20 * (n + 1 + keyAt r₀ by (i - 1)) + (4 + by)) (little 4 (i - 1 + 1)) w′
+    head-stored : Stored 4 w (fieldsPlace n (keyAt r₀ by (i - 1)) + (HEADS + by)) (little 4 (i - 1 + 1)) w′
     head-stored = rw key-is at (t .head)
 
     key-inside : keyAt r₀ by (i - 1) ≤ n
@@ -149,7 +153,7 @@ module _ {n m by i : ℕ} {w₀ r₀ w r : List ℕ} (a : Links n m by w₀ r₀
             (read-back head-stored (omega (arith, link-few)) ∙ back)
         split (no q) =
             rw (first-step r₀ by x m i nz (l .inside), if-false (eqb (keyAt r₀ by (i - 1)) x) i (firstFrom r₀ by x i (m - i)) (ne-eqb _ _ q), ← l .chains .heads x h)
-            (kept-num head-stored 4 (20 * (n + 1 + x) + (4 + by)) (λ g. omega arith))
+            (kept-num head-stored 4 (fieldsPlace n x + (HEADS + by)) (λ g. omega arith))
 
     new-link : (j : ℕ) → i - 1 ≤ j → j < m → linkAt r′ by j ≡ firstFrom r₀ by (keyAt r₀ by j) (j + 1) (m - (j + 1))
     new-link j h g = split (ℕ-discrete j (i - 1))
@@ -159,7 +163,7 @@ module _ {n m by i : ℕ} {w₀ r₀ w r : List ℕ} (a : Links n m by w₀ r₀
             let next : j + 1 ≡ i = omega arith in
             let was : headAt w n by (keyAt r₀ by (i - 1)) ≡ firstFrom r₀ by (keyAt r₀ by (i - 1)) i (m - i) = l .chains .heads _ key-inside in
             rw (next, q, ← was) (read-back (rw key-is at (t .link)) (omega (arith, was, first-of r₀ by (keyAt r₀ by (i - 1)) (m - i) i .high, a .rows .few, l .inside)))
-        split (no q) = kept-num (t .link) 4 (32 * j + (8 + by)) (λ o. omega arith) ∙ l .chains .links j (omega arith) g
+        split (no q) = kept-num (t .link) 4 (recordPlace j + (E-LINKS + by)) (λ o. omega arith) ∙ l .chains .links j (omega arith) g
 
     pub link-turn : Linking n m by w₀ r₀ w′ r′ (i - 1)
     link-turn = record {

@@ -2,7 +2,7 @@
 use mathlib.Core.Path.{_≡_, refl, sym, _∙_}
 use mathlib.Core.Bool.{Bool, true, false, not, _&&_, _||_, and-not-self}
 use mathlib.Core.List.{List, [], _∷_, _++_}
-use Prim.Native.Nat.{ℕ, suc, _+_, _*_, _≤_}
+use Prim.Native.Nat.{ℕ, suc, _+_, _≤_}
 use native.Mathlib.Decide.{ℕ-discrete}
 use native.Mathlib.Numerals.{add-one}
 use native.Mathlib.Omega.{arith}
@@ -10,10 +10,12 @@ use lib.Dec.{eqb}
 use lib.ListN.{length}
 use borrow.Author.Tests.{eq-eqb, ne-eqb}
 use Rattle.spec.specs.Lists.{if, mem, little}
-use Rattle.theorems.proofs.Branch.{if-true}
+use Rattle.laws.proofs.Branch.{if-true}
 use Rattle.lent.specs.Bytes.{Holds, Stored}
 use Rattle.lent.proofs.Stored.{read-back}
-use Rattle.reachable.specs.Marks.{markAt, flagAt, entryAt, flagged, entries, remark}
+use Rattle.layout.specs.Fields.{FLAG, markAt, flagAt, entryAt}
+use Rattle.layout.specs.Parts.{fieldsPlace, entryPlace}
+use Rattle.reachable.specs.Marks.{flagged, entries, remark}
 use Rattle.reachable.specs.Contracts.{Address, Kept, Marked, Sets, Fresh, More, Going, Took}
 use Rattle.reachable.proofs.Flags.{flagged-test, flagged-agree, flagged-fewer, flagged-more}
 use Rattle.reachable.proofs.Frames.{kept-none, kept-after, entries-same, flag-kept, flag-others, flag-marks, flag-entries, entry-kept, entry-others, entry-marks, entry-flags}
@@ -90,7 +92,7 @@ took-same us p e = record {
 -- ---- one address
 
 -- the flag says that it was taken
-pub entered-before : {n x when count f : ℕ} {w : List ℕ} → Going n w x when count → Holds 1 w (20 * (n + 1 + x) + 18) f → (f ≡ 0 → ⊥)
+pub entered-before : {n x when count f : ℕ} {w : List ℕ} → Going n w x when count → Holds 1 w (fieldsPlace n x + FLAG) f → (f ≡ 0 → ⊥)
     → Took n when (x ∷ []) w count w count
 entered-before {n} {x} {when} {count} {f} {w} g h ne =
     let is : mem x (flagged w n) ≡ true = rw (flagged-test w n x (g .at .inside), ← h .is, ne-eqb f 0 ne) in
@@ -144,13 +146,13 @@ module _ {n x when count : ℕ} {w w′ : List ℕ} (h : x ≤ n) (was : flagAt 
       let one : length (flagged w′ n) ≡ suc (length (flagged w n)) = flagged-more w w′ n x h was (λ z. omega (arith, e .flag)) (e .flags) in
       record { more = enters-more; sets = enters-sets; number = omega arith; grew = omega arith; kept = e .kept }
 
-module _ {n x when count f : ℕ} {w : List ℕ} (g : Going n w x when count) (h : Holds 1 w (20 * (n + 1 + x) + 18) f) (z : f ≡ 0) where
+module _ {n x when count f : ℕ} {w : List ℕ} (g : Going n w x when count) (h : Holds 1 w (fieldsPlace n x + FLAG) f) (z : f ≡ 0) where
   -- there is room for one more entry
   pub entry-room : count ≤ n
   entry-room = omega (arith, flagged-fewer w n x (g .at .inside) (sym (h .is) ∙ z), g .few)
 
-  module _ {w₁ w₂ w₃ : List ℕ} (a : Stored 1 w (20 * (n + 1 + x) + 18) (little 1 1) w₁) (m : Marked n w₁ x when w₂)
-      (b : Stored 2 w₂ (40 * (n + 1) + 2 * count) (little 2 x) w₃) where
+  module _ {w₁ w₂ w₃ : List ℕ} (a : Stored 1 w (fieldsPlace n x + FLAG) (little 1 1) w₁) (m : Marked n w₁ x when w₂)
+      (b : Stored 2 w₂ (entryPlace n count) (little 2 x) w₃) where
     still : Address n w₁ x
     still = record { lent = record { short = g .at .lent .short; room = omega (arith, a .kept, g .at .lent .room) }; inside = g .at .inside }
 

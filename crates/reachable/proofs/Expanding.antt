@@ -7,9 +7,10 @@ use Prim.Native.Nat.{ℕ, _-_, _≤_}
 use native.Mathlib.Omega.{arith}
 use Rattle.spec.specs.Lists.{mem}
 use Rattle.spec.specs.Reach.{Edge, edge, closure}
-use Rattle.theorems.proofs.Members.{In, in-mem, mem-in}
+use Rattle.laws.proofs.Members.{In, in-mem, mem-in}
 use Rattle.theorems.proofs.Reached.{Reached, along}
-use Rattle.reachable.specs.Marks.{entryAt, flagged}
+use Rattle.layout.specs.Fields.{entryAt}
+use Rattle.reachable.specs.Marks.{flagged}
 use Rattle.reachable.specs.Edges.{sidesAt, rowEdges}
 use Rattle.reachable.specs.Contracts.{Room, SidesWithin, Begun, Took, Expands, Expanded, Reaches}
 use Rattle.reachable.proofs.Tests.{not-both}

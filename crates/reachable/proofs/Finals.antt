@@ -7,7 +7,7 @@ use Rattle.spec.specs.Lists.{mem, gather}
 use Rattle.spec.specs.Blocks.{Block}
 use Rattle.spec.specs.Reach.{Edge, closure}
 use Rattle.spec.specs.Ending.{Final, followed, final-edges}
-use Rattle.theorems.proofs.Members.{In, in-left, in-right, in-cases, in-gather, in-map}
+use Rattle.laws.proofs.Members.{In, in-left, in-right, in-cases, in-gather, in-map}
 use Rattle.initial.specs.Rows.{blocksAt}
 use Rattle.reachable.specs.Edges.{blockEdges, rowEdges}
 use Rattle.reachable.specs.Links.{edgesAt}

@@ -9,8 +9,9 @@ use lib.Dec.{eqb}
 use lib.ListN.{length}
 use borrow.Author.Tests.{eqb-false, eq-eqb, ne-eqb}
 use Rattle.spec.specs.Lists.{if, mem}
-use Rattle.theorems.proofs.Branch.{both, if-true, if-false}
-use Rattle.reachable.specs.Marks.{flagAt, setBelow, flagged}
+use Rattle.laws.proofs.Branch.{both, if-true, if-false}
+use Rattle.layout.specs.Fields.{flagAt}
+use Rattle.reachable.specs.Marks.{setBelow, flagged}
 use Rattle.reachable.proofs.Tests.{not-both, same-test}
 
 -- ---- below m, of any numbers

@@ -9,10 +9,10 @@ use lib.Dec.{eqb}
 use borrow.Author.Tests.{eqb-true, eq-eqb, ne-eqb}
 use Rattle.spec.specs.Lists.{if, mem}
 use Rattle.spec.specs.Search.{sides}
-use Rattle.theorems.proofs.Branch.{both}
-use Rattle.initial.specs.Rows.{typeAt, kindOf}
-use Rattle.initial.specs.Contracts.{TypeIs}
-use Rattle.initial.specs.declared.row.BlockType.{BlockType}
+use Rattle.laws.proofs.Branch.{both}
+use Rattle.layout.specs.Rows.{typeAt, TypeIs}
+use Rattle.layout.specs.declared.row.BlockType.{BlockType}
+use Rattle.initial.specs.Rows.{kindOf}
 use Rattle.reachable.specs.Edges.{sidesAt}
 use Rattle.reachable.specs.Contracts.{SidesWithin, Going, Took}
 use Rattle.reachable.proofs.Rows.{sides-of}

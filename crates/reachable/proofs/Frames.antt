@@ -1,14 +1,16 @@
 -- What stays: the laws of `Kept`, and what each store of a mark, a flag or an entry leaves. Assumes nothing.
 use mathlib.Core.Path.{_≡_, refl, _∙_}
 use mathlib.Core.List.{List}
-use Prim.Native.Nat.{ℕ, zero, suc, _+_, _-_, _*_, _≤_, _<_}
+use Prim.Native.Nat.{ℕ, zero, suc, _+_, _-_, _≤_, _<_}
 use native.Mathlib.Omega.{arith}
 use lib.ListN.{take, drop}
 use Rattle.lent.specs.Bytes.{numAt, Stored}
 use Rattle.lent.proofs.Parts.{part-within}
 use Rattle.lent.proofs.Numbers.{num-within}
 use Rattle.lent.proofs.Stored.{kept-take, kept-drop, kept-part, kept-num}
-use Rattle.reachable.specs.Marks.{markAt, flagAt, entryAt, entries}
+use Rattle.layout.specs.Fields.{FLAG, LAST, HEADS, markAt, flagAt, entryAt}
+use Rattle.layout.specs.Parts.{ROW, rowsEnd, fieldsPlace, entryPlace, bucketsPlace}
+use Rattle.reachable.specs.Marks.{entries}
 use Rattle.reachable.specs.Contracts.{Kept}
 
 -- within a part that stays
@@ -33,14 +35,14 @@ kept-after p q = record {
 
 -- ---- a store that meets neither others' fields nor what is spare
 
-kept-store : {n k at : ℕ} {w bs w′ : List ℕ} → Stored k w at bs w′ → 20 * (n + 1) ≤ at → at + k ≤ 42 * (n + 1)
-    → ((a : ℕ) → a ≤ n → 20 * (n + 1 + a) + 4 < at + k → 20 * (n + 1 + a) + 18 ≤ at)
-    → ((a : ℕ) → a ≤ n → 20 * (n + 1 + a) + 19 < at + k → 20 * (n + 1 + a) + 20 ≤ at) → Kept n w w′
+kept-store : {n k at : ℕ} {w bs w′ : List ℕ} → Stored k w at bs w′ → rowsEnd n ≤ at → at + k ≤ bucketsPlace n
+    → ((a : ℕ) → a ≤ n → fieldsPlace n a + HEADS < at + k → fieldsPlace n a + FLAG ≤ at)
+    → ((a : ℕ) → a ≤ n → fieldsPlace n a + LAST < at + k → fieldsPlace n a + ROW ≤ at) → Kept n w w′
 kept-store {n} s lo hi f g = record {
-  rows = kept-take s (20 * (n + 1)) lo;
-  fields = λ a h. kept-part s 14 (20 * (n + 1 + a) + 4) (λ l. omega (arith, f a h l));
-  spare = λ a h. kept-part s 1 (20 * (n + 1 + a) + 19) (λ l. omega (arith, g a h l));
-  beyond = kept-drop s (42 * (n + 1)) hi;
+  rows = kept-take s (rowsEnd n) lo;
+  fields = λ a h. kept-part s 14 (fieldsPlace n a + HEADS) (λ l. omega (arith, f a h l));
+  spare = λ a h. kept-part s 1 (fieldsPlace n a + LAST) (λ l. omega (arith, g a h l));
+  beyond = kept-drop s (bucketsPlace n) hi;
   long = s .kept;
 }
 
@@ -50,43 +52,43 @@ entries-same w w′ n zero h = refl
 entries-same w w′ n (suc k) h = rw (h k (omega arith), entries-same w w′ n k (λ i l. h i (omega arith)))
 
 -- a mark
-module _ {n x : ℕ} {w bs w′ : List ℕ} (h : x ≤ n) (s : Stored 4 w (20 * (n + 1 + x)) bs w′) where
+module _ {n x : ℕ} {w bs w′ : List ℕ} (h : x ≤ n) (s : Stored 4 w (fieldsPlace n x) bs w′) where
   pub mark-kept : Kept n w w′
   mark-kept = kept-store s (omega arith) (omega arith) (λ a k l. omega arith) (λ a k l. omega arith)
 
   pub mark-others : (a : ℕ) → (a ≡ x → ⊥) → markAt w′ n a ≡ markAt w n a
-  mark-others a ne = kept-num s 4 (20 * (n + 1 + a)) (λ l. omega arith)
+  mark-others a ne = kept-num s 4 (fieldsPlace n a) (λ l. omega arith)
 
   pub mark-flags : (a : ℕ) → flagAt w′ n a ≡ flagAt w n a
-  mark-flags a = kept-num s 1 (20 * (n + 1 + a) + 18) (λ l. omega arith)
+  mark-flags a = kept-num s 1 (fieldsPlace n a + FLAG) (λ l. omega arith)
 
   pub mark-entries : (i : ℕ) → entryAt w′ n i ≡ entryAt w n i
-  mark-entries i = kept-num s 2 (40 * (n + 1) + 2 * i) (λ l. omega arith)
+  mark-entries i = kept-num s 2 (entryPlace n i) (λ l. omega arith)
 
 -- a flag
-module _ {n x : ℕ} {w bs w′ : List ℕ} (h : x ≤ n) (s : Stored 1 w (20 * (n + 1 + x) + 18) bs w′) where
+module _ {n x : ℕ} {w bs w′ : List ℕ} (h : x ≤ n) (s : Stored 1 w (fieldsPlace n x + FLAG) bs w′) where
   pub flag-kept : Kept n w w′
   flag-kept = kept-store s (omega arith) (omega arith) (λ a k l. omega arith) (λ a k l. omega arith)
 
   pub flag-others : (a : ℕ) → (a ≡ x → ⊥) → flagAt w′ n a ≡ flagAt w n a
-  flag-others a ne = kept-num s 1 (20 * (n + 1 + a) + 18) (λ l. omega arith)
+  flag-others a ne = kept-num s 1 (fieldsPlace n a + FLAG) (λ l. omega arith)
 
   pub flag-marks : (a : ℕ) → markAt w′ n a ≡ markAt w n a
-  flag-marks a = kept-num s 4 (20 * (n + 1 + a)) (λ l. omega arith)
+  flag-marks a = kept-num s 4 (fieldsPlace n a) (λ l. omega arith)
 
   pub flag-entries : (i : ℕ) → entryAt w′ n i ≡ entryAt w n i
-  flag-entries i = kept-num s 2 (40 * (n + 1) + 2 * i) (λ l. omega arith)
+  flag-entries i = kept-num s 2 (entryPlace n i) (λ l. omega arith)
 
 -- an entry
-module _ {n k : ℕ} {w bs w′ : List ℕ} (h : k ≤ n) (s : Stored 2 w (40 * (n + 1) + 2 * k) bs w′) where
+module _ {n k : ℕ} {w bs w′ : List ℕ} (h : k ≤ n) (s : Stored 2 w (entryPlace n k) bs w′) where
   pub entry-kept : Kept n w w′
   entry-kept = kept-store s (omega arith) (omega arith) (λ a k l. omega arith) (λ a k l. omega arith)
 
   pub entry-others : (i : ℕ) → i < k → entryAt w′ n i ≡ entryAt w n i
-  entry-others i l = kept-num s 2 (40 * (n + 1) + 2 * i) (λ _. omega arith)
+  entry-others i l = kept-num s 2 (entryPlace n i) (λ _. omega arith)
 
   pub entry-marks : (a : ℕ) → a ≤ n → markAt w′ n a ≡ markAt w n a
-  entry-marks a l = kept-num s 4 (20 * (n + 1 + a)) (λ _. omega arith)
+  entry-marks a l = kept-num s 4 (fieldsPlace n a) (λ _. omega arith)
 
   pub entry-flags : (a : ℕ) → a ≤ n → flagAt w′ n a ≡ flagAt w n a
-  entry-flags a l = kept-num s 1 (20 * (n + 1 + a) + 18) (λ _. omega arith)
+  entry-flags a l = kept-num s 1 (fieldsPlace n a + FLAG) (λ _. omega arith)

@@ -4,10 +4,15 @@ use mathlib.Core.Bool.{Bool}
 use mathlib.Core.List.{List}
 use Prim.Native.Nat.{ℕ, _+_, _*_, _≤_, _<_}
 use native.Mathlib.Omega.{arith}
-use lib.ListN.{length, take, drop}
+use lib.ListN.{length}
 use Rattle.spec.specs.Lists.{if, mem}
 use Rattle.lent.proofs.Once.{Bytes, Same, Outside, one-stored, same-num, same-both, same-as, same-then, same-rows, same-whole, same-outside}
-use Rattle.reachable.specs.Marks.{markAt, flagAt, flagged, remark}
+use Rattle.layout.specs.Edges.{E-ENDS}
+use Rattle.layout.specs.Fields.{COUNT, FLAG, LAST, HEADS, markAt, flagAt}
+use Rattle.layout.specs.Parts.{ROW, fieldsPlace, listPlace, bucketsPlace, SameRows, PastList}
+use Rattle.layout.specs.Records.{recordPlace}
+use Rattle.layout.proofs.Once.{same-to-list}
+use Rattle.reachable.specs.Marks.{flagged, remark}
 use Rattle.reachable.specs.Contracts.{Begun, Marked, Expanded, Reaches}
 use Rattle.reachable.specs.Pruning.{Pruned}
 
@@ -19,43 +24,40 @@ one-marked p q = p .is ∙ sym (q .is)
 
 -- ---- all but the worklist: the rows, the twenty bytes of each address, and what is past the worklist
 
-module _ {n : ℕ} {v u : List ℕ} (p : Bytes v) (q : Bytes u) (long : length v ≡ length u) (rows : take (20 * (n + 1)) v ≡ take (20 * (n + 1)) u)
-    (marks : (x : ℕ) → x ≤ n → markAt v n x ≡ markAt u n x) (fields : (x : ℕ) → x ≤ n → Same v u (20 * (n + 1 + x) + 4) 14)
-    (flags : (x : ℕ) → x ≤ n → flagAt v n x ≡ flagAt u n x) (spare : (x : ℕ) → x ≤ n → Same v u (20 * (n + 1 + x) + 19) 1)
-    (beyond : drop (42 * (n + 1)) v ≡ drop (42 * (n + 1)) u) where
-  address : (x : ℕ) → x < n + 1 → Same v u (20 * (n + 1) + 20 * x) 20
+module _ {n : ℕ} {v u : List ℕ} (p : Bytes v) (q : Bytes u) (long : length v ≡ length u) (rows : SameRows n u v)
+    (marks : (x : ℕ) → x ≤ n → markAt v n x ≡ markAt u n x) (fields : (x : ℕ) → x ≤ n → Same v u (fieldsPlace n x + HEADS) 14)
+    (flags : (x : ℕ) → x ≤ n → flagAt v n x ≡ flagAt u n x) (spare : (x : ℕ) → x ≤ n → Same v u (fieldsPlace n x + LAST) 1)
+    (beyond : PastList n u v) where
+  address : (x : ℕ) → x ≤ n → Same v u (fieldsPlace n x) ROW
   address x h =
-      let mark : Same v u (20 * (n + 1 + x)) 4 = same-num p q long 4 (20 * (n + 1 + x)) (marks x (omega arith)) in
-      let flag : Same v u (20 * (n + 1 + x) + 18) 1 = same-num p q long 1 (20 * (n + 1 + x) + 18) (flags x (omega arith)) in
-      same-as (same-then (same-then (same-then mark (fields x (omega arith)) refl) flag (omega arith)) (spare x (omega arith)) (omega arith)) (omega arith) refl
+      let mark : Same v u (fieldsPlace n x) 4 = same-num p q long 4 (fieldsPlace n x) (marks x h) in
+      let flag : Same v u (fieldsPlace n x + FLAG) 1 = same-num p q long 1 (fieldsPlace n x + FLAG) (flags x h) in
+      same-then (same-then (same-then mark (fields x h) refl) flag (omega arith)) (spare x h) (omega arith)
 
-  pub but-worklist : Outside (40 * (n + 1)) (2 * (n + 1)) v u
-  but-worklist =
-      let front : Same v u 0 (20 * (n + 1)) = record { is = rows } in
-      let front : Same v u 0 (40 * (n + 1)) = same-as (same-then front (same-rows (20 * (n + 1)) 20 (n + 1) address) (omega arith)) refl (omega arith) in
-      same-outside (42 * (n + 1)) front beyond (omega arith) long
+  pub but-worklist : Outside (listPlace n) (2 * (n + 1)) v u
+  but-worklist = same-outside (bucketsPlace n) (same-to-list rows address) beyond (omega arith) long
 
 -- ---- the closures
 
 pub one-expanded : {n a when : ℕ} {w v u : List ℕ} → Bytes v → Bytes u → Expanded n w a when v → Expanded n w a when u
-    → Outside (40 * (n + 1)) (2 * (n + 1)) v u
+    → Outside (listPlace n) (2 * (n + 1)) v u
 one-expanded {n} {a} {when} {w} {v} {u} b d p q =
     let same : (x : ℕ) → mem x (flagged v n) ≡ mem x (flagged u n) = λ x. p .reached x ∙ sym (q .reached x) in
     but-worklist b d (p .kept .long ∙ sym (q .kept .long)) (p .kept .rows ∙ sym (q .kept .rows))
     (λ x h. p .sets .marks x h ∙ ap (λ (is : Bool). remark when (mem x (flagged w n)) is (markAt w n x)) (same x) ∙ sym (q .sets .marks x h))
-    (λ x h. same-both (20 * (n + 1 + x) + 4) 14 (p .kept .fields x h) (q .kept .fields x h))
+    (λ x h. same-both (fieldsPlace n x + HEADS) 14 (p .kept .fields x h) (q .kept .fields x h))
     (λ x h. p .sets .flags x h ∙ ap (λ (is : Bool). remark 1 (mem x (flagged w n)) is (flagAt w n x)) (same x) ∙ sym (q .sets .flags x h))
-    (λ x h. same-both (20 * (n + 1 + x) + 19) 1 (p .kept .spare x h) (q .kept .spare x h))
+    (λ x h. same-both (fieldsPlace n x + LAST) 1 (p .kept .spare x h) (q .kept .spare x h))
     (p .kept .beyond ∙ sym (q .kept .beyond))
 
-pub one-reaches : {n : ℕ} {w v u : List ℕ} → Bytes v → Bytes u → Reaches n w v → Reaches n w u → Outside (40 * (n + 1)) (2 * (n + 1)) v u
+pub one-reaches : {n : ℕ} {w v u : List ℕ} → Bytes v → Bytes u → Reaches n w v → Reaches n w u → Outside (listPlace n) (2 * (n + 1)) v u
 one-reaches {n} {w} {v} {u} b d p q =
     let same : (x : ℕ) → mem x (flagged v n) ≡ mem x (flagged u n) = λ x. p .reached x ∙ sym (q .reached x) in
     but-worklist b d (p .kept .long ∙ sym (q .kept .long)) (p .kept .rows ∙ sym (q .kept .rows))
     (λ x h. p .fresh .marks x h ∙ ap (λ (is : Bool). if is 1 0) (same x) ∙ sym (q .fresh .marks x h))
-    (λ x h. same-both (20 * (n + 1 + x) + 4) 14 (p .kept .fields x h) (q .kept .fields x h))
+    (λ x h. same-both (fieldsPlace n x + HEADS) 14 (p .kept .fields x h) (q .kept .fields x h))
     (λ x h. p .fresh .flags x h ∙ ap (λ (is : Bool). if is 1 0) (same x) ∙ sym (q .fresh .flags x h))
-    (λ x h. same-both (20 * (n + 1 + x) + 19) 1 (p .kept .spare x h) (q .kept .spare x h))
+    (λ x h. same-both (fieldsPlace n x + LAST) 1 (p .kept .spare x h) (q .kept .spare x h))
     (p .kept .beyond ∙ sym (q .kept .beyond))
 
 -- ---- pruning: so in W; R is the same in every byte
@@ -65,28 +67,28 @@ module _ {n m : ℕ} {w r v s u t : List ℕ} (p : Pruned n m w r v s) (q : Prun
   pruned-same x = ap (λ (is : Bool). if is 1 0) (p .reached x ∙ sym (q .reached x))
 
   module _ (b : Bytes v) (d : Bytes u) where
-    pruned-heads : (x : ℕ) → x ≤ n → Same v u (20 * (n + 1 + x) + 4) 14
+    pruned-heads : (x : ℕ) → x ≤ n → Same v u (fieldsPlace n x + HEADS) 14
     pruned-heads x h =
         let long : length v ≡ length u = p .long ∙ sym (q .long) in
-        let first : Same v u (20 * (n + 1 + x) + 4) 4 = same-num b d long 4 (20 * (n + 1 + x) + 4) (p .places .heads x h ∙ sym (q .places .heads x h)) in
-        let second : Same v u (20 * (n + 1 + x) + 8) 4 = same-num b d long 4 (20 * (n + 1 + x) + 8) (p .witnesses .heads x h ∙ sym (q .witnesses .heads x h)) in
-        same-then (same-then first second (omega arith)) (same-both (20 * (n + 1 + x) + 12) 6 (p .fields x h) (q .fields x h)) (omega arith)
+        let first : Same v u (fieldsPlace n x + HEADS) 4 = same-num b d long 4 (fieldsPlace n x + HEADS) (p .places .heads x h ∙ sym (q .places .heads x h)) in
+        let second : Same v u (fieldsPlace n x + 8) 4 = same-num b d long 4 (fieldsPlace n x + 8) (p .witnesses .heads x h ∙ sym (q .witnesses .heads x h)) in
+        same-then (same-then first second (omega arith)) (same-both (fieldsPlace n x + COUNT) 6 (p .fields x h) (q .fields x h)) (omega arith)
 
-    pruned-w : Outside (40 * (n + 1)) (2 * (n + 1)) v u
+    pruned-w : Outside (listPlace n) (2 * (n + 1)) v u
     pruned-w =
         but-worklist b d (p .long ∙ sym (q .long)) (p .rows ∙ sym (q .rows)) (λ x h. p .fresh .marks x h ∙ pruned-same x ∙ sym (q .fresh .marks x h)) pruned-heads
-        (λ x h. p .fresh .flags x h ∙ pruned-same x ∙ sym (q .fresh .flags x h)) (λ x h. same-both (20 * (n + 1 + x) + 19) 1 (p .spare x h) (q .spare x h))
+        (λ x h. p .fresh .flags x h ∙ pruned-same x ∙ sym (q .fresh .flags x h)) (λ x h. same-both (fieldsPlace n x + LAST) 1 (p .spare x h) (q .spare x h))
         (p .beyond ∙ sym (q .beyond))
 
-  pruned-row : Bytes s → Bytes t → (i : ℕ) → i < m → Same s t (32 * i) 32
+  pruned-row : Bytes s → Bytes t → (i : ℕ) → i < m → Same s t (recordPlace i) 32
   pruned-row b d i h =
       let long : length s ≡ length t = p .stay .long ∙ sym (q .stay .long) in
-      let place : Same s t (32 * i + 8) 4 = same-num b d long 4 (32 * i + 8) (p .places .links i (omega arith) h ∙ sym (q .places .links i (omega arith) h)) in
-      let witness : Same s t (32 * i + 12) 4 = same-num b d long 4 (32 * i + 12) (p .witnesses .links i (omega arith) h ∙ sym (q .witnesses .links i (omega arith) h)) in
-      same-then (same-then (same-then (same-both (32 * i) 8 (p .stay .before i h) (q .stay .before i h)) place refl) witness (omega arith)) (same-both (32 * i + 16) 16 (p .stay .after i h) (q .stay .after i h)) (omega arith)
+      let place : Same s t (recordPlace i + 8) 4 = same-num b d long 4 (recordPlace i + 8) (p .places .links i (omega arith) h ∙ sym (q .places .links i (omega arith) h)) in
+      let witness : Same s t (recordPlace i + 12) 4 = same-num b d long 4 (recordPlace i + 12) (p .witnesses .links i (omega arith) h ∙ sym (q .witnesses .links i (omega arith) h)) in
+      same-then (same-then (same-then (same-both (recordPlace i) 8 (p .stay .before i h) (q .stay .before i h)) place refl) witness (omega arith)) (same-both (recordPlace i + E-ENDS) 16 (p .stay .after i h) (q .stay .after i h)) (omega arith)
 
-  pub one-pruned : Bytes v → Bytes u → Bytes s → Bytes t → Outside (40 * (n + 1)) (2 * (n + 1)) v u × (s ≡ t)
+  pub one-pruned : Bytes v → Bytes u → Bytes s → Bytes t → Outside (listPlace n) (2 * (n + 1)) v u × (s ≡ t)
   one-pruned b d e f = (
     pruned-w b d,
-    same-whole (32 * m) (same-rows 0 32 m (λ i h. same-as (pruned-row e f i h) (omega arith) refl)) (p .stay .beyond ∙ sym (q .stay .beyond)),
+    same-whole (recordPlace m) (same-rows 0 32 m (λ i h. same-as (pruned-row e f i h) (omega arith) refl)) (p .stay .beyond ∙ sym (q .stay .beyond)),
   )

@@ -3,15 +3,17 @@ use mathlib.Core.Path.{_≡_, refl, sym, _∙_}
 use mathlib.Core.Logic.{_⊎_, inl, inr}
 use mathlib.Core.Bool.{true}
 use mathlib.Core.List.{List, [], _∷_, _++_}
-use Prim.Native.Nat.{ℕ, _+_, _*_, _-_, _≤_, _<_}
+use Prim.Native.Nat.{ℕ, _+_, _-_, _≤_, _<_}
 use native.Mathlib.Omega.{arith}
 use Rattle.spec.specs.Lists.{mem}
 use Rattle.spec.specs.Reach.{Edge}
-use Rattle.theorems.proofs.Members.{In, in-left, in-right, in-cases, or-cases}
+use Rattle.laws.proofs.Members.{In, in-left, in-right, in-cases, or-cases}
 use Rattle.theorems.proofs.Reached.{Reached, seed}
-use Rattle.reachable.specs.Marks.{entryAt, flagged, entries}
+use Rattle.layout.specs.Fields.{HEADS, entryAt, headAt}
+use Rattle.layout.specs.Parts.{fieldsPlace}
+use Rattle.reachable.specs.Marks.{flagged, entries}
 use Rattle.reachable.specs.Edges.{sidesAt, rowEdges}
-use Rattle.reachable.specs.Links.{headAt, edgesAt}
+use Rattle.reachable.specs.Links.{edgesAt}
 use Rattle.reachable.specs.Contracts.{Kept, Took}
 use Rattle.reachable.specs.Pruning.{Waits, Spread, RowsGoing, FollowedRows, Pruning, AllGoing, FollowedEdges, FollowedAll, PrunedFrom}
 use Rattle.reachable.proofs.Tests.{not-both}
@@ -28,7 +30,7 @@ use Rattle.reachable.proofs.Leading.{took-grew, spread-after, spread-mo
 -- ---- what stays with the fields of others
 
 pub heads-kept : {n : ℕ} {w w′ : List ℕ} → Kept n w w′ → (by : ℕ) → by ≤ 4 → (x : ℕ) → x ≤ n → headAt w′ n by x ≡ headAt w n by x
-heads-kept {n} {w} {w′} k by h x g = num-in w′ w 14 (20 * (n + 1 + x) + 4) (k .fields x g) 4 (20 * (n + 1 + x) + (4 + by)) (omega arith) (omega arith)
+heads-kept {n} {w} {w′} k by h x g = num-in w′ w 14 (fieldsPlace n x + HEADS) (k .fields x g) 4 (fieldsPlace n x + (HEADS + by)) (omega arith) (omega arith)
 
 pub pruning-kept : {n m : ℕ} {r w w′ : List ℕ} → Kept n w w′ → Pruning n m w r → Pruning n m w′ r
 pruning-kept {r} {w′} k p = record {

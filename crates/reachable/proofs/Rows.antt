@@ -2,19 +2,20 @@
 use mathlib.Core.Path.{_≡_, refl, sym, ap, subst, _∙_}
 use mathlib.Core.Bool.{Bool, true, false}
 use mathlib.Core.List.{List, [], _∷_, map, append-nil}
-use Prim.Native.Nat.{ℕ, _+_, _*_, _≤_}
+use Prim.Native.Nat.{ℕ, _≤_}
 use native.Mathlib.Decide.{ℕ-discrete}
 use native.Mathlib.Omega.{arith}
 use lib.Dec.{eqb}
-use lib.ListN.{take}
 use borrow.Author.Tests.{eq-eqb, ne-eqb}
 use Rattle.spec.specs.Lists.{if, mem, gather}
 use Rattle.spec.specs.Blocks.{Block}
 use Rattle.spec.specs.Reach.{Edge, edge}
 use Rattle.spec.specs.Search.{Node, sides, edges}
-use Rattle.theorems.proofs.Branch.{if-true, if-false}
-use Rattle.theorems.proofs.Members.{In, here, there, in-left, in-right, in-gather, in-map}
-use Rattle.initial.specs.Rows.{rowBlocks, tagAt, kindAt, blockAt, blocksAt}
+use Rattle.laws.proofs.Branch.{if-true, if-false}
+use Rattle.laws.proofs.Members.{In, here, there, in-left, in-right, in-gather, in-map}
+use Rattle.layout.specs.Parts.{rowsEnd, SameRows}
+use Rattle.layout.specs.Rows.{tagAt}
+use Rattle.initial.specs.Rows.{rowBlocks, kindAt, blockAt, blocksAt}
 use Rattle.initial.proofs.Rows.{here-prefix, blocks-prefix, found, block-in}
 use Rattle.reachable.specs.Marks.{flagged}
 use Rattle.reachable.specs.Edges.{sidesAt, blockEdges, rowEdges}
@@ -94,10 +95,10 @@ module _ {w w′ : List ℕ} {n : ℕ} (e : (x : ℕ) → x ≤ n → sidesAt w�
 
 -- ---- rows that stay, and the search's edges
 
-module _ (w w′ : List ℕ) (n : ℕ) (e : take (20 * (n + 1)) w′ ≡ take (20 * (n + 1)) w) where
+module _ (w w′ : List ℕ) (n : ℕ) (e : SameRows n w w′) where
   pub sides-kept : (a : ℕ) → a ≤ n → sidesAt w′ a ≡ sidesAt w a
   unfolding sidesAt
-  sides-kept a h = ap (gather (λ (b : Block). sides (b .kind))) (here-prefix w′ w a (20 * (n + 1)) e (omega arith))
+  sides-kept a h = ap (gather (λ (b : Block). sides (b .kind))) (here-prefix w′ w a (rowsEnd n) e (omega arith))
 
   pub edges-kept : rowEdges w′ n ≡ rowEdges w n
   unfolding rowEdges

@@ -7,7 +7,7 @@ use mathlib.Core.List.{List, _++_}
 use Prim.Native.Nat.{ℕ}
 use Rattle.spec.specs.Lists.{mem}
 use Rattle.spec.specs.Reach.{Edge, closure}
-use Rattle.theorems.proofs.Members.{In, mem-left, in-right, in-mem, mem-in, or-cases}
+use Rattle.laws.proofs.Members.{In, mem-left, in-right, in-mem, mem-in, or-cases}
 use Rattle.theorems.proofs.Reached.{Reached, seed, along, closure-sound, closure-complete}
 use Rattle.reachable.proofs.Tests.{same-test, mem-append}
 

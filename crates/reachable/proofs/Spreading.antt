@@ -10,9 +10,10 @@ use lib.ListN.{length}
 use borrow.Author.Tests.{eq-eqb}
 use Rattle.spec.specs.Lists.{mem}
 use Rattle.spec.specs.Reach.{Edge, closure}
-use Rattle.theorems.proofs.Members.{In}
+use Rattle.laws.proofs.Members.{In}
 use Rattle.theorems.proofs.Reached.{Reached}
-use Rattle.reachable.specs.Marks.{entryAt, flagged, entries}
+use Rattle.layout.specs.Fields.{entryAt}
+use Rattle.reachable.specs.Marks.{flagged, entries}
 use Rattle.reachable.specs.Contracts.{Room, SidesWithin, Kept, Sets, Going, Took}
 use Rattle.reachable.specs.Pruning.{Waits}
 use Rattle.reachable.proofs.Tests.{mem-one}

@@ -9,7 +9,7 @@ use lib.Dec.{eqb}
 use borrow.Author.Tests.{eqb-true}
 use Rattle.spec.specs.Lists.{mem}
 use Rattle.spec.specs.Reach.{Edge}
-use Rattle.theorems.proofs.Members.{In, and-both, or-cases, or-right}
+use Rattle.laws.proofs.Members.{In, and-both, or-cases, or-right}
 use Rattle.theorems.proofs.Reached.{Reached, seed, along}
 use Rattle.reachable.specs.Contracts.{More}
 use Rattle.reachable.specs.Pruning.{Waits}

@@ -2,21 +2,24 @@
 use mathlib.Core.Path.{_≡_}
 use mathlib.Core.Bool.{true, not, _&&_, _||_}
 use mathlib.Core.List.{List, [], _∷_}
-use Prim.Native.Nat.{ℕ, _+_, _*_, _≤_, _<_}
+use Prim.Native.Nat.{ℕ, _+_, _≤_, _<_}
 use lib.Dec.{eqb}
-use lib.ListN.{length, take, drop, replicate}
+use lib.ListN.{length, replicate}
 use Rattle.spec.specs.Lists.{if, mem, little}
 use Rattle.spec.specs.Reach.{closure}
+use Rattle.spec.specs.Rooms.{longest, work-need}
 use Rattle.lent.specs.Bytes.{Stored, patch}
-use Rattle.reachable.specs.Marks.{markAt, flagAt, flagged, entries, wiped, remark}
+use Rattle.layout.specs.Fields.{LAST, HEADS, markAt, flagAt}
+use Rattle.layout.specs.Parts.{rowsEnd, fieldsPlace, SameRows, SameFields, PastList}
+use Rattle.reachable.specs.Marks.{flagged, entries, wiped, remark}
 use Rattle.reachable.specs.Edges.{sidesAt, rowEdges}
 
 -- ---- what is asked
 
 -- a code of n bytes is taken, and W is not short
 pub record Room (n : ℕ) (w : List ℕ) : Type 0 where
-  pub short : n ≤ 24576
-  pub room : 64 * n + 256 ≤ length w
+  pub short : n ≤ longest
+  pub room : work-need n ≤ length w
 
 -- an address with the room that its fields have
 pub record Address (n : ℕ) (w : List ℕ) (a : ℕ) : Type 0 where
@@ -34,21 +37,21 @@ pub record Closed (w : List ℕ) (n : ℕ) : Type 0 where
 -- ---- what stays: all but the marks, the flags and the worklist
 
 pub record Kept (n : ℕ) (w w′ : List ℕ) : Type 0 where
-  pub rows : take (20 * (n + 1)) w′ ≡ take (20 * (n + 1)) w
-  pub fields : (a : ℕ) → a ≤ n → take 14 (drop (20 * (n + 1 + a) + 4) w′) ≡ take 14 (drop (20 * (n + 1 + a) + 4) w)
-  pub spare : (a : ℕ) → a ≤ n → take 1 (drop (20 * (n + 1 + a) + 19) w′) ≡ take 1 (drop (20 * (n + 1 + a) + 19) w)
-  pub beyond : drop (42 * (n + 1)) w′ ≡ drop (42 * (n + 1)) w
+  pub rows : SameRows n w w′
+  pub fields : SameFields 14 HEADS n w w′
+  pub spare : SameFields 1 LAST n w w′
+  pub beyond : PastList n w w′
   pub long : length w′ ≡ length w
 
 -- ---- marks
 
 -- every mark, flag and field of others is 0, and all else is as it was
 pub record Begun (n : ℕ) (w w′ : List ℕ) : Type 0 where
-  pub wipes : Stored (20 * (n + 1)) w (20 * (n + 1)) (replicate (20 * (n + 1)) 0) w′
+  pub wipes : Stored (rowsEnd n) w (rowsEnd n) (replicate (rowsEnd n) 0) w′
 
 -- a mark is set where there is none
 pub record Marked (n : ℕ) (w : List ℕ) (a when : ℕ) (w′ : List ℕ) : Type 0 where
-  pub is : w′ ≡ if (eqb (markAt w n a) 0) (patch w (20 * (n + 1 + a)) (little 4 when)) w
+  pub is : w′ ≡ if (eqb (markAt w n a) 0) (patch w (fieldsPlace n a) (little 4 when)) w
   pub long : length w′ ≡ length w
 
 -- ---- marks and flags together

@@ -1,23 +1,14 @@
--- What the search changes in W: after the rows, 20 bytes for each address from 0 to the code's length n. A mark (4 bytes), 0 for an address never
--- reached, else one more than the number of records when it was; three fields of others (4 each); 2 bytes spare; a flag (1 byte), not 0 once the
--- address's own sides have been followed or wait to be; 1 byte spare. After them the worklist, 2 bytes an entry, an entry for each address at most.
--- Assumes nothing.
+-- Marks, which say when an address of W was reached, flags, which say whether its own sides have been followed or wait to be, and the worklist. Assumes
+-- nothing.
 use mathlib.Core.Bool.{Bool, not, _&&_}
 use mathlib.Core.List.{List, [], _∷_}
-use Prim.Native.Nat.{ℕ, zero, suc, _+_, _*_}
+use Prim.Native.Nat.{ℕ, zero, suc}
 use lib.Dec.{eqb, ltb, leb}
 use lib.ListN.{replicate}
 use Rattle.spec.specs.Lists.{if}
-use Rattle.lent.specs.Bytes.{numAt, patch}
-
-abbrev pub markAt : List ℕ → ℕ → ℕ → ℕ
-markAt w n a = numAt 4 w (20 * (n + 1 + a))
-
-abbrev pub flagAt : List ℕ → ℕ → ℕ → ℕ
-flagAt w n a = numAt 1 w (20 * (n + 1 + a) + 18)
-
-abbrev pub entryAt : List ℕ → ℕ → ℕ → ℕ
-entryAt w n i = numAt 2 w (40 * (n + 1) + 2 * i)
+use Rattle.lent.specs.Bytes.{patch}
+use Rattle.layout.specs.Fields.{markAt, flagAt, entryAt}
+use Rattle.layout.specs.Parts.{rowsEnd}
 
 -- the addresses below m where a number is not 0
 unfoldable pub setBelow : (ℕ → ℕ) → ℕ → List ℕ
@@ -37,7 +28,7 @@ entries w n (suc i) = entryAt w n i ∷ entries w n i
 
 -- W with every mark, flag and field of others 0
 abbrev pub wiped : ℕ → List ℕ → List ℕ
-wiped n w = patch w (20 * (n + 1)) (replicate (20 * (n + 1)) 0)
+wiped n w = patch w (rowsEnd n) (replicate (rowsEnd n) 0)
 
 -- the address was reached when there were at most by - 1 records
 abbrev pub markedBy : List ℕ → ℕ → ℕ → ℕ → Bool

@@ -3,26 +3,31 @@ use mathlib.Core.Path.{_≡_}
 use mathlib.Core.Logic.{_⊎_}
 use mathlib.Core.Bool.{true}
 use mathlib.Core.List.{List, [], _∷_, _++_}
-use Prim.Native.Nat.{ℕ, _+_, _*_, _-_, _≤_, _<_}
+use Prim.Native.Nat.{ℕ, _+_, _-_, _≤_, _<_}
 use lib.ListN.{length, take, drop, replicate}
 use Rattle.spec.specs.Lists.{mem, little}
 use Rattle.spec.specs.Reach.{Edge, closure}
-use Rattle.theorems.specs.Lists.{In}
+use Rattle.spec.specs.Entries.{absent}
+use Rattle.laws.specs.Lists.{In}
 use Rattle.theorems.specs.Reached.{Reached}
 use Rattle.lent.specs.Bytes.{Stored}
-use Rattle.reachable.specs.Marks.{markAt, flagAt, flagged, entries}
+use Rattle.layout.specs.Edges.{E-LINKS, E-ENDS, keyAt, toAt, linkAt}
+use Rattle.layout.specs.Fields.{COUNT, LAST, HEADS, markAt, flagAt, headAt}
+use Rattle.layout.specs.Parts.{fieldsPlace, SameRows, SameStart, SameFields, PastFields, PastList}
+use Rattle.layout.specs.Records.{RECORD, recordPlace}
+use Rattle.reachable.specs.Marks.{flagged, entries}
 use Rattle.reachable.specs.Edges.{rowEdges}
-use Rattle.reachable.specs.Links.{keyAt, toAt, linkAt, headAt, firstFrom, edgeAt, edgesAt}
+use Rattle.reachable.specs.Links.{firstFrom, edgeAt, edgesAt}
 use Rattle.reachable.specs.Contracts.{Room, SidesWithin, Kept, Sets, Fresh, Going, Took}
 
 -- ---- rows of edges
 
 -- row i lies within r, and its addresses within the code
 pub record EdgeRow (n : ℕ) (r : List ℕ) (i : ℕ) : Type 0 where
-  pub room : 32 * i + 32 ≤ length r
+  pub room : recordPlace i + RECORD ≤ length r
   pub place : keyAt r 0 i ≤ n
   pub witness : keyAt r 4 i ≤ n
-  pub to : (toAt r i ≡ 0x8000 → ⊥) → toAt r i ≤ n
+  pub to : (toAt r i ≡ absent → ⊥) → toAt r i ≤ n
 
 pub record EdgeRows (n m : ℕ) (r : List ℕ) : Type 0 where
   pub few : m ≤ 1073741824
@@ -37,22 +42,22 @@ pub record Key (by : ℕ) : Type 0 where
 
 -- row i is put before the rows of its key
 pub record LinkedRow (n by : ℕ) (w r : List ℕ) (i : ℕ) (w′ r′ : List ℕ) : Type 0 where
-  pub head : Stored 4 w (20 * (n + 1 + keyAt r by i) + (4 + by)) (little 4 (i + 1)) w′
-  pub link : Stored 4 r (32 * i + (8 + by)) (little 4 (headAt w n by (keyAt r by i))) r′
+  pub head : Stored 4 w (fieldsPlace n (keyAt r by i) + (HEADS + by)) (little 4 (i + 1)) w′
+  pub link : Stored 4 r (recordPlace i + (E-LINKS + by)) (little 4 (headAt w n by (keyAt r by i))) r′
 
 -- all of W but the first rows of a key stays
 pub record HeadsOnly (n by : ℕ) (w w′ : List ℕ) : Type 0 where
-  pub rows : take (20 * (n + 1)) w′ ≡ take (20 * (n + 1)) w
-  pub before : (x : ℕ) → x ≤ n → take (4 + by) (drop (20 * (n + 1 + x)) w′) ≡ take (4 + by) (drop (20 * (n + 1 + x)) w)
-  pub after : (x : ℕ) → x ≤ n → take (12 - by) (drop (20 * (n + 1 + x) + (8 + by)) w′) ≡ take (12 - by) (drop (20 * (n + 1 + x) + (8 + by)) w)
-  pub beyond : drop (40 * (n + 1)) w′ ≡ drop (40 * (n + 1)) w
+  pub rows : SameRows n w w′
+  pub before : SameStart (HEADS + by) n w w′
+  pub after : SameFields (12 - by) (8 + by) n w w′
+  pub beyond : PastFields n w w′
   pub long : length w′ ≡ length w
 
 -- all of r but the links of a key stays
 pub record LinksOnly (m by : ℕ) (r r′ : List ℕ) : Type 0 where
-  pub before : (i : ℕ) → i < m → take (8 + by) (drop (32 * i) r′) ≡ take (8 + by) (drop (32 * i) r)
-  pub after : (i : ℕ) → i < m → take (20 - by) (drop (32 * i + (12 + by)) r′) ≡ take (20 - by) (drop (32 * i + (12 + by)) r)
-  pub beyond : drop (32 * m) r′ ≡ drop (32 * m) r
+  pub before : (i : ℕ) → i < m → take (E-LINKS + by) (drop (recordPlace i) r′) ≡ take (E-LINKS + by) (drop (recordPlace i) r)
+  pub after : (i : ℕ) → i < m → take (20 - by) (drop (recordPlace i + (12 + by)) r′) ≡ take (20 - by) (drop (recordPlace i + (12 + by)) r)
+  pub beyond : drop (recordPlace m) r′ ≡ drop (recordPlace m) r
   pub long : length r′ ≡ length r
 
 -- each address has the first of its rows, and each row the next, among the rows from i on
@@ -92,7 +97,7 @@ pub record RowGoing (n by : ℕ) (w r : List ℕ) (i count : ℕ) : Type 0 where
 -- a row leads on if its other end is flagged too
 pub record FollowedRow (n by : ℕ) (r : List ℕ) (i : ℕ) (w : List ℕ) (count : ℕ) (w′ : List ℕ) (count′ : ℕ) : Type 0 where
   pub spread : Spread (edgeAt r i) n w count w′ count′
-  pub led : (toAt r i ≡ 0x8000 → ⊥) → mem (keyAt r (4 - by) i) (flagged w n) ≡ true → mem (toAt r i) (flagged w′ n) ≡ true
+  pub led : (toAt r i ≡ absent → ⊥) → mem (keyAt r (4 - by) i) (flagged w n) ≡ true → mem (toAt r i) (flagged w′ n) ≡ true
 
 pub record RowsGoing (n m by : ℕ) (w r : List ℕ) (x count : ℕ) : Type 0 where
   pub lent : Room n w
@@ -105,7 +110,7 @@ pub record RowsGoing (n m by : ℕ) (w r : List ℕ) (x count : ℕ) : Type 0 wh
 -- the rows of x are followed
 pub record FollowedRows (n m by : ℕ) (r : List ℕ) (x : ℕ) (w : List ℕ) (count : ℕ) (w′ : List ℕ) (count′ : ℕ) : Type 0 where
   pub spread : Spread (edgesAt r m) n w count w′ count′
-  pub led : (i : ℕ) → i < m → keyAt r by i ≡ x → (toAt r i ≡ 0x8000 → ⊥) → mem (keyAt r (4 - by) i) (flagged w n) ≡ true → mem (toAt r i) (flagged w′ n) ≡ true
+  pub led : (i : ℕ) → i < m → keyAt r by i ≡ x → (toAt r i ≡ absent → ⊥) → mem (keyAt r (4 - by) i) (flagged w n) ≡ true → mem (toAt r i) (flagged w′ n) ≡ true
 
 -- how W and r stand in pruning's loop
 pub record Pruning (n m : ℕ) (w r : List ℕ) : Type 0 where
@@ -146,9 +151,9 @@ pub record Prunes (n m : ℕ) (w r : List ℕ) : Type 0 where
 
 -- all of r but the links stays
 pub record RowsStay (m : ℕ) (r r′ : List ℕ) : Type 0 where
-  pub before : (i : ℕ) → i < m → take 8 (drop (32 * i) r′) ≡ take 8 (drop (32 * i) r)
-  pub after : (i : ℕ) → i < m → take 16 (drop (32 * i + 16) r′) ≡ take 16 (drop (32 * i + 16) r)
-  pub beyond : drop (32 * m) r′ ≡ drop (32 * m) r
+  pub before : (i : ℕ) → i < m → take E-LINKS (drop (recordPlace i) r′) ≡ take E-LINKS (drop (recordPlace i) r)
+  pub after : (i : ℕ) → i < m → take 16 (drop (recordPlace i + E-ENDS) r′) ≡ take 16 (drop (recordPlace i + E-ENDS) r)
+  pub beyond : drop (recordPlace m) r′ ≡ drop (recordPlace m) r
   pub long : length r′ ≡ length r
 
 -- W is wiped, and then each address has its first rows; each row has its next ones.
@@ -159,10 +164,10 @@ pub record LinkedBoth (n m : ℕ) (w r w′ r′ : List ℕ) : Type 0 where
   pub flags : (x : ℕ) → x ≤ n → flagAt w′ n x ≡ 0
   pub places : Chains n m 0 r w′ r′ 0
   pub witnesses : Chains n m 4 r w′ r′ 0
-  pub fields : (x : ℕ) → x ≤ n → take 6 (drop (20 * (n + 1 + x) + 12) w′) ≡ replicate 6 0
-  pub spare : (x : ℕ) → x ≤ n → take 1 (drop (20 * (n + 1 + x) + 19) w′) ≡ replicate 1 0
-  pub rows : take (20 * (n + 1)) w′ ≡ take (20 * (n + 1)) w
-  pub beyond : drop (40 * (n + 1)) w′ ≡ drop (40 * (n + 1)) w
+  pub fields : (x : ℕ) → x ≤ n → take 6 (drop (fieldsPlace n x + COUNT) w′) ≡ replicate 6 0
+  pub spare : (x : ℕ) → x ≤ n → take 1 (drop (fieldsPlace n x + LAST) w′) ≡ replicate 1 0
+  pub rows : SameRows n w w′
+  pub beyond : PastFields n w w′
   pub long : length w′ ≡ length w
   pub edges : edgesAt r′ m ≡ edgesAt r m
   pub stay : RowsStay m r r′
@@ -174,9 +179,9 @@ pub record Pruned (n m : ℕ) (w r w′ r′ : List ℕ) : Type 0 where
   pub fresh : Fresh n w′
   pub places : Chains n m 0 r w′ r′ 0
   pub witnesses : Chains n m 4 r w′ r′ 0
-  pub fields : (x : ℕ) → x ≤ n → take 6 (drop (20 * (n + 1 + x) + 12) w′) ≡ replicate 6 0
-  pub spare : (x : ℕ) → x ≤ n → take 1 (drop (20 * (n + 1 + x) + 19) w′) ≡ replicate 1 0
-  pub rows : take (20 * (n + 1)) w′ ≡ take (20 * (n + 1)) w
-  pub beyond : drop (42 * (n + 1)) w′ ≡ drop (42 * (n + 1)) w
+  pub fields : (x : ℕ) → x ≤ n → take 6 (drop (fieldsPlace n x + COUNT) w′) ≡ replicate 6 0
+  pub spare : (x : ℕ) → x ≤ n → take 1 (drop (fieldsPlace n x + LAST) w′) ≡ replicate 1 0
+  pub rows : SameRows n w w′
+  pub beyond : PastList n w w′
   pub long : length w′ ≡ length w
   pub stay : RowsStay m r r′

@@ -1,6 +1,7 @@
 // Marks, when an address was reached, and flags, whether its own sides have been followed or wait to be.
 // "`HashSet` of addresses: marks in W."
-use initial::row::ROW;
+use layout::field::FLAG;
+use layout::row::ROW;
 use lent::get8;
 use lent::get32;
 use lent::put32;
@@ -9,9 +10,6 @@ ghost use mathlib.Core.Path.{_≡_};
 ghost use Rattle.spec.specs.Lists.{mem};
 ghost use Rattle.reachable.specs.Marks.{markedBy, flagged};
 ghost use Rattle.reachable.specs.Contracts.{Room, Address, Begun, Marked};
-
-// Where an address's flag stands among its 20 bytes; its mark is first.
-pub const FLAG: usize = 18;
 
 // Makes every mark and flag, and what other crates keep beside them, 0.
 pub fn begin(w: &mut [u8], n: usize)

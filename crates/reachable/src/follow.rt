@@ -1,12 +1,14 @@
 // The worklist, and what is followed from one address.
 // "`HashSet` of addresses: marks in W."
-use crate::fields::FLAG;
 use crate::fields::mark;
-use initial::row::DYNAMIC_JUMP;
-use initial::row::JUMP;
-use initial::row::JUMPI;
-use initial::row::ROW;
-use initial::row::type_at;
+use layout::field::FLAG;
+use layout::part::ENTRY;
+use layout::part::LIST;
+use layout::row::DYNAMIC_JUMP;
+use layout::row::JUMP;
+use layout::row::JUMPI;
+use layout::row::ROW;
+use layout::row::type_at;
 use lent::get8;
 use lent::get16;
 use lent::put8;
@@ -16,12 +18,10 @@ ghost use mathlib.Core.List.{[], _∷_};
 ghost use Prim.Native.Nat.{_+_, _*_, _-_, _≤_, _<_};
 ghost use Rattle.spec.specs.Lists.{little};
 ghost use Rattle.lent.specs.Bytes.{Stored};
-ghost use Rattle.reachable.specs.Marks.{entryAt};
+ghost use Rattle.layout.specs.Fields.{entryAt};
+ghost use Rattle.layout.specs.Parts.{entryPlace};
 ghost use Rattle.reachable.specs.Edges.{sidesAt};
 ghost use Rattle.reachable.specs.Contracts.{Room, Going, SidesWithin, Took};
-
-// Where the worklist starts, in bytes an address.
-pub const LIST: usize = 40;
 
 // The last entry of the worklist.
 pub fn last(w: &[u8], n: usize, count: usize) -> usize
@@ -29,16 +29,16 @@ pub fn last(w: &[u8], n: usize, count: usize) -> usize
     requires { ⌜ (0 < count) × (count ≤ n + 1) ⌝ }
     ensures { λ r. ⌜ r ≡ entryAt (now (w .entry)) n (count - 1) ⌝ }
 {
-    get16(w, LIST * (n + 1) + 2 * (count - 1))
+    get16(w, LIST * (n + 1) + ENTRY * (count - 1))
 }
 
 // One more entry after so many.
 fn push(w: &mut [u8], n: usize, count: usize, x: usize)
     requires { ⌜ Room n (now w) ⌝ }
     requires { ⌜ count ≤ n ⌝ }
-    ensures { λ _. ⌜ Stored 2 (now (w .entry)) (40 * (n + 1) + 2 * count) (little 2 x) (now (w .exit)) ⌝ }
+    ensures { λ _. ⌜ Stored 2 (now (w .entry)) (entryPlace n count) (little 2 x) (now (w .exit)) ⌝ }
 {
-    put16(w, LIST * (n + 1) + 2 * count, x);
+    put16(w, LIST * (n + 1) + ENTRY * count, x);
 }
 
 // Takes x: an address that is not flagged is flagged and marked, and waits in the worklist, whose number of entries is the answer.

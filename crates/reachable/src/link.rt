@@ -1,32 +1,20 @@
 // Rows of edges in a lent buffer, 32 bytes each, linked by their place and by their witness.
 // "Pruning follows a dynamic entry only if its path's last block is reached too"
-use initial::row::ROW;
+use layout::edge::LINKS;
+use layout::field::HEADS;
+use layout::record::RECORD;
+use layout::row::ROW;
 use lent::get16;
 use lent::get32;
 use lent::put32;
 ghost use mathlib.Core.Path.{_≡_};
 ghost use Prim.Native.Nat.{_+_, _*_, _≤_, _<_};
 ghost use lib.ListN.{length};
-ghost use Rattle.reachable.specs.Links.{linkAt, headAt};
+ghost use Rattle.layout.specs.Edges.{linkAt};
+ghost use Rattle.layout.specs.Fields.{headAt};
+ghost use Rattle.layout.specs.Records.{RECORD, recordPlace};
 ghost use Rattle.reachable.specs.Pruning.{EdgeRow, Key, Links, Linked, LinkedRow};
 ghost use Rattle.reachable.specs.Contracts.{Room, Address};
-
-// The bytes of a row.
-pub const EDGE: usize = 32;
-
-// Where its fields stand: the two keys, and between them the destination, NOWHERE for none.
-pub const PLACE: usize = 0;
-
-pub const TO: usize = 2;
-
-pub const WITNESS: usize = 4;
-
-pub const NOWHERE: usize = 0x8000;
-
-// Where the next row of a key stands in a row, over the key's own place; and the first row, among the fields of others of an address in W.
-pub const LINKS: usize = 8;
-
-pub const HEADS: usize = 4;
 
 // Links the m rows by one of their keys, from the last to the first.
 pub fn link(w: &mut [u8], n: usize, r: &mut [u8], m: usize, by: usize)
@@ -51,11 +39,11 @@ pub fn first_row(w: &[u8], n: usize, x: usize, by: usize) -> usize
 
 // The number of the next row of the same key after row i plus 1, or 0.
 pub fn next_row(r: &[u8], i: usize, by: usize) -> usize
-    requires { ⌜ 32 * i + 32 ≤ length (now r) ⌝ }
+    requires { ⌜ recordPlace i + RECORD ≤ length (now r) ⌝ }
     requires { ⌜ Key by ⌝ }
     ensures { λ k. ⌜ k ≡ linkAt (now (r .entry)) by i ⌝ }
 {
-    get32(r, EDGE * i + (LINKS + by))
+    get32(r, RECORD * i + (LINKS + by))
 }
 
 // Puts row i before the rows of its key.
@@ -66,8 +54,8 @@ fn link_row(w: &mut [u8], n: usize, r: &mut [u8], i: usize, by: usize)
     requires { ⌜ i < 1073741824 ⌝ }
     ensures { λ _. ⌜ LinkedRow n by (now (w .entry)) (now (r .entry)) i (now (w .exit)) (now (r .exit)) ⌝ }
 {
-    let x = get16(r, EDGE * i + by);
+    let x = get16(r, RECORD * i + by);
     let next = first_row(w, n, x, by);
-    put32(r, EDGE * i + (LINKS + by), next);
+    put32(r, RECORD * i + (LINKS + by), next);
     put32(w, ROW * (n + 1 + x) + (HEADS + by), i + 1);
 }

@@ -5,14 +5,14 @@ use crate::fields::is_flagged;
 use crate::follow::enter;
 use crate::follow::follow;
 use crate::follow::last;
-use crate::link::EDGE;
-use crate::link::NOWHERE;
-use crate::link::PLACE;
-use crate::link::TO;
-use crate::link::WITNESS;
 use crate::link::first_row;
 use crate::link::link;
 use crate::link::next_row;
+use layout::MISSING;
+use layout::edge::PLACE;
+use layout::edge::TO;
+use layout::edge::WITNESS;
+use layout::record::RECORD;
 use lent::get16;
 ghost use mathlib.Core.Path.{_≡_};
 ghost use mathlib.Core.List.{[]};
@@ -24,11 +24,11 @@ fn follow_row(w: &mut [u8], n: usize, r: &[u8], i: usize, by: usize, count: usiz
     requires { ⌜ RowGoing n by (now w) (now r) i count ⌝ }
     ensures { λ c. ⌜ FollowedRow n by (now (r .entry)) i (now (w .entry)) count (now (w .exit)) c ⌝ }
 {
-    let to = get16(r, EDGE * i + TO);
-    if to == NOWHERE {
+    let to = get16(r, RECORD * i + TO);
+    if to == MISSING {
         return count;
     }
-    let other = get16(r, EDGE * i + (WITNESS - by));
+    let other = get16(r, RECORD * i + (WITNESS - by));
     if is_flagged(w, n, other) {
         return enter(w, n, to, 1, count);
     }

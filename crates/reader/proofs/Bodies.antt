@@ -11,7 +11,7 @@ use borrow.Author.Tests.{eq-eqb, ne-eqb}
 use Rattle.spec.specs.Lists.{number}
 use Rattle.spec.specs.Entries.{absent}
 use Rattle.spec.specs.Forms.{field, Sort, HEAD, BLOCK, WAY, RECORD, TERMINATE, JUMP, JUMPI, DYNAMIC-JUMP, DYNAMIC-JUMPI, long}
-use Rattle.theorems.proofs.Branch.{if-true, if-false}
+use Rattle.laws.proofs.Branch.{if-true, if-false}
 use Rattle.lent.specs.Bytes.{numAt, Holds}
 use Rattle.lent.proofs.Parts.{length-part, part-prefix}
 use Rattle.reader.specs.Shapes.{numbers, known, shape}

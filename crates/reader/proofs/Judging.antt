@@ -15,7 +15,7 @@ use Rattle.spec.specs.Entries.{absent}
 use Rattle.spec.specs.Forms.{field, announced, entry, Ends, Sort, HEAD, BLOCK, WAY, RECORD, UNKNOWN, TERMINATE, JUMP, JUMPI, DYNAMIC-JUMP, DYNAMIC-JUMPI, sort, long, dynamic, owes, start-in}
 use Rattle.spec.specs.Reader.{Piece, fair, formed, Place, first, blocks, records, next, goes-on, sevens, met, taken, first-bad, Item, item-of, items, finals-in, recs-in}
 use Rattle.spec.specs.BadEntries.{Whole}
-use Rattle.theorems.proofs.Branch.{both, if-true, if-false}
+use Rattle.laws.proofs.Branch.{both, if-true, if-false}
 use Rattle.theorems.proofs.ReaderSplit.{body-long}
 use Rattle.theorems.proofs.ReaderItems.{by-kind}
 use Rattle.lent.proofs.Parts.{part-of-take}

@@ -12,7 +12,7 @@ use borrow.Author.Tests.{leb-true, leb-false, le-leb, lt-leb}
 use Rattle.spec.specs.Lists.{if}
 use Rattle.spec.specs.Forms.{field, announced, Sort as Means, sort, UNKNOWN}
 use Rattle.spec.specs.BadEntries.{Whole}
-use Rattle.theorems.proofs.Branch.{both, if-true, if-false}
+use Rattle.laws.proofs.Branch.{both, if-true, if-false}
 use Rattle.lent.specs.Bytes.{Holds}
 use Rattle.reader.specs.Sorts.{sortOf}
 use Rattle.reader.specs.Shapes.{leadAt, behindAt, shape, entryAt}

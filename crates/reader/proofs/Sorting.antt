@@ -5,7 +5,7 @@ use borrow.Author.Tests.{ne-eqb}
 use Rattle.spec.specs.Lists.{if}
 use Rattle.spec.specs.Forms.{sort, UNKNOWN}
 use Rattle.spec.specs.Reader.{goes-on}
-use Rattle.theorems.proofs.Branch.{if-false}
+use Rattle.laws.proofs.Branch.{if-false}
 use Rattle.reader.specs.Sorts.{sortOf}
 use Rattle.reader.specs.declared.kind.Sort.{Sort}
 use Rattle.reader.specs.declared.kind.Sort.the-variants.{Head, Terminate, Jump, Jumpi, DynamicJump, DynamicJumpi, Way, Record, Unknown}

@@ -14,7 +14,7 @@ use Rattle.spec.specs.Lists.{number}
 use Rattle.spec.specs.Forms.{field, announced, entry, Sort, HEAD, BLOCK, WAY, RECORD, UNKNOWN, TERMINATE, JUMP, JUMPI, DYNAMIC-JUMP, DYNAMIC-JUMPI, sort, long, start-in}
 use Rattle.spec.specs.Reader.{sevens}
 use Rattle.spec.specs.BadEntries.{Whole}
-use Rattle.theorems.proofs.Branch.{both}
+use Rattle.laws.proofs.Branch.{both}
 use Rattle.theorems.proofs.Bytes.{Bytes, bytes-drop, bytes-take}
 use Rattle.reader.specs.Shapes.{from, behindAt, numbers, known, shape, entryAt}
 use Rattle.reader.specs.Classes.{classOf, startOf, stepOf, stoppedOf, pending, blockIn, recordIn, blocksOf, recordsOf}

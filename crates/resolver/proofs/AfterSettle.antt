@@ -3,7 +3,7 @@ use mathlib.Core.Path.{_≡_, refl, sym, _∙_}
 use mathlib.Core.Logic.{_⊎_, inl, inr}
 use mathlib.Core.Bool.{Bool, true, false, not, _&&_, _||_}
 use mathlib.Core.List.{List, [], _∷_, _++_, append-nil, append-assoc}
-use Prim.Native.Nat.{ℕ, zero, suc, _+_, _-_, _*_, _≤_, _<_}
+use Prim.Native.Nat.{ℕ, zero, suc, _+_, _-_, _≤_, _<_}
 use native.Mathlib.Decide.{ℕ-discrete}
 use native.Mathlib.Omega.{arith}
 use lib.Dec.{eqb, ltb, leb}
@@ -11,27 +11,31 @@ use lib.ListN.{length, take}
 use lib.Seq.{take-all, take-append-le}
 use borrow.Author.Tests.{eq-eqb, ne-eqb, ltb-true, lt-ltb, le-leb}
 use Rattle.spec.specs.Lists.{if, mem}
-use Rattle.spec.specs.Stacks.{Stack}
-use Rattle.spec.specs.Search.{nowhere, found, Rec, dest, dests, edges, reached-by}
+use Rattle.spec.specs.Search.{Rec, dest, dests, edges, reached-by}
 use Rattle.spec.specs.Answer.{prepared}
-use Rattle.theorems.proofs.Branch.{both, if-true, if-false, and-false}
-use Rattle.theorems.proofs.Members.{in-mem, mem-in, in-right, and-both, and-true, or-right, or-cases, gather-append}
+use Rattle.spec.specs.Entries.{absent}
+use Rattle.laws.proofs.Branch.{both, if-true, if-false, and-false}
+use Rattle.laws.proofs.Members.{in-mem, mem-in, in-right, and-both, and-true, or-right, or-cases, gather-append}
 use Rattle.theorems.proofs.Reached.{seed, closure-complete}
 use Rattle.lent.specs.Bytes.{numAt}
 use Rattle.lent.proofs.Numbers.{num-suffix}
-use Rattle.tables.specs.Records.{toAt, none, foundAt, recAt, recsOf}
+use Rattle.layout.specs.Fields.{FIRST-FOUND, LAST-FOUND, FLAG, markAt}
+use Rattle.layout.specs.Parts.{fieldsPlace, bucketsPlace, bucketPlace}
+use Rattle.layout.specs.Records.{toAt}
+use Rattle.layout.specs.Buffers.{buffers}
+use Rattle.tables.specs.Records.{foundAt, recAt, recsOf}
 use Rattle.tables.specs.Tables.{SameLinks, Goes, leads-nowhere, leads}
-use Rattle.tables.proofs.Counted.{recs-length}
+use Rattle.tables.proofs.Counted.{dest-if, recs-length}
 use Rattle.tables.proofs.Uses.{tables-kept}
 use Rattle.parents.proofs.Knows.{known-prefix}
-use Rattle.reachable.specs.Marks.{markAt, flagged, markedBy}
+use Rattle.reachable.specs.Marks.{flagged, markedBy}
 use Rattle.reachable.specs.Edges.{rowEdges}
 use Rattle.reachable.proofs.Tests.{same-test, decided, mem-append}
 use Rattle.reachable.proofs.Seeds.{closure-round, closure-members}
 use Rattle.reachable.proofs.Frames.{num-in}
 use Rattle.reachable.proofs.Rows.{node-edges}
 use Rattle.reachable.proofs.Spreading.{room-kept, within-kept}
-use Rattle.steps.specs.Runs.{buffers, recsIn}
+use Rattle.steps.specs.Runs.{recsIn}
 use Rattle.resolver.specs.Turns.{Idle, Settles, destsFrom, Settled}
 use Rattle.steps.specs.declared.Plan.{Plan}
 use Rattle.steps.specs.declared.Run.{Run}
@@ -39,15 +43,10 @@ use Rattle.resolver.proofs.SettleLoop.{destAt, dests-more}
 
 -- ---- the destinations of the records, by their rows
 
-dest-if : (b : Bool) (t : ℕ) (st : Stack) → dest (if b nowhere (found t st)) ≡ if b [] (t ∷ [])
-unfolding if
-dest-if true t st = refl
-dest-if false t st = refl
-
 module _ (r q s : List ℕ) (room : ℕ) where
   dest-of : (i : ℕ) → dest (recAt r q s room i .to) ≡ destAt r i
   unfolding recAt foundAt
-  dest-of i = dest-if (eqb (toAt r i) none) (toAt r i) _
+  dest-of i = dest-if (eqb (toAt r i) absent) (toAt r i) _
 
   dests-of : (m : ℕ) → dests (recsOf r q s room m) ≡ destsFrom r 0 m
   unfolding recsOf destsFrom
@@ -96,7 +95,7 @@ module _ {code : List ℕ} {k : Plan} {since : ℕ} {w p s t r q : List ℕ} {cu
     goes = λ j l. goes j (i .tables .goes j l);
   }
     where
-      goes : (j : ℕ) → Goes (k .n) (k .rooms .s) r s j → (toAt r j ≡ none) ⊎ (toAt r j ≤ k .n)
+      goes : (j : ℕ) → Goes (k .n) (k .rooms .s) r s j → (toAt r j ≡ absent) ⊎ (toAt r j ≤ k .n)
       goes j (leads-nowhere e g) = inl e
       goes j (leads e g) = inr e
 
@@ -184,14 +183,14 @@ module _ {code : List ℕ} {k : Plan} {since : ℕ} {w p s t r q : List ℕ} {cu
                 absurd (omega (arith, z, ltb-true 0 (markAt w (k .n) a) (and-both (ltb 0 (markAt w (k .n) a)) _ m .0)))
 
     -- the fields of others stay
-    num-fields : (n a o : ℕ) → a ≤ k .n → 4 ≤ o → o + n ≤ 18 → numAt n w′ (20 * (k .n + 1 + a) + o) ≡ numAt n w (20 * (k .n + 1 + a) + o)
-    num-fields n a o h l m = num-in w′ w 14 (20 * (k .n + 1 + a) + 4) (e .kept .fields a h) n (20 * (k .n + 1 + a) + o) (omega arith) (omega arith)
+    num-fields : (n a o : ℕ) → a ≤ k .n → FIRST-FOUND ≤ o → o + n ≤ FLAG → numAt n w′ (fieldsPlace (k .n) a + o) ≡ numAt n w (fieldsPlace (k .n) a + o)
+    num-fields n a o h l m = num-in w′ w 14 (fieldsPlace (k .n) a + FIRST-FOUND) (e .kept .fields a h) n (fieldsPlace (k .n) a + o) (omega arith) (omega arith)
 
     links-kept : SameLinks (k .n) (k .buckets) w w′
     links-kept = record {
-      firsts = λ a h. let same : 20 * (k .n + 1 + a) + 4 ≡ 20 * (k .n + 1) + 20 * a + 4 = omega arith in rw same at (num-fields 4 a 4 h (omega arith) (omega arith));
-      lasts = λ a h. let same : 20 * (k .n + 1 + a) + 8 ≡ 20 * (k .n + 1) + 20 * a + 8 = omega arith in rw same at (num-fields 4 a 8 h (omega arith) (omega arith));
-      heads = λ h l. num-suffix w′ w (42 * (k .n + 1)) (e .kept .beyond) 4 (42 * (k .n + 1) + 4 * h) (omega arith);
+      firsts = λ a h. num-fields 4 a FIRST-FOUND h (omega arith) (omega arith);
+      lasts = λ a h. num-fields 4 a LAST-FOUND h (omega arith) (omega arith);
+      heads = λ h l. num-suffix w′ w (bucketsPlace (k .n)) (e .kept .beyond) 4 (bucketPlace (k .n) h) (omega arith);
       long = e .kept .long;
     }
 

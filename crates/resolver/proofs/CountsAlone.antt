@@ -4,12 +4,12 @@ use mathlib.Core.List.{List}
 use Prim.Native.Nat.{ℕ, _≤_}
 use native.Mathlib.Omega.{arith}
 use Rattle.spec.specs.Search.{Turn}
+use Rattle.layout.specs.Buffers.{buffers}
 use Rattle.parents.proofs.Knows.{known-prefix}
 use Rattle.tables.specs.Addrs.{addrs}
 use Rattle.tables.specs.declared.Counts.{Counts}
 use Rattle.tables.proofs.Uses.{tables-kept}
 use Rattle.steps.specs.Paths.{CountsOnly, Counting, Uncounting, OnPath}
-use Rattle.steps.specs.Runs.{buffers}
 use Rattle.resolver.specs.Fits.{Fits, Stands}
 use Rattle.steps.specs.declared.Plan.{Plan}
 use Rattle.steps.specs.declared.Level.{Level}

@@ -10,10 +10,11 @@ use Rattle.spec.specs.Rooms.{Lent, or-else, shortage}
 use Rattle.theorems.proofs.Older.{clear}
 use Rattle.theorems.proofs.Shortage.{first-stays}
 use Rattle.theorems.proofs.Growth.{Later}
+use Rattle.layout.specs.Buffers.{Mem}
 use Rattle.tables.specs.Recording.{Lends, shortOf}
 use Rattle.tables.proofs.Shorts.{short-after}
 use Rattle.tables.specs.declared.Rooms.{Rooms}
-use Rattle.steps.specs.Runs.{Mem, stOf}
+use Rattle.steps.specs.Runs.{stOf}
 use Rattle.resolver.specs.Enters.{shutWith, Outcome}
 use Rattle.steps.specs.declared.Plan.{Plan}
 use Rattle.steps.specs.declared.Level.{Level}

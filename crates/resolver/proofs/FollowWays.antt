@@ -8,11 +8,12 @@ use lib.ListN.{length}
 use Rattle.spec.specs.Lists.{lastOf}
 use Rattle.spec.specs.Stacks.{Sym, before, constant, jumpdest, other}
 use Rattle.spec.specs.Search.{Found, nowhere, found, Turn, follow}
+use Rattle.layout.specs.Buffers.{Mem, buffers}
 use Rattle.state.specs.Symbols.{symOf}
 use Rattle.state.specs.Cells.{stackAt}
 use Rattle.tables.specs.Addrs.{addrs}
 use Rattle.tables.specs.Tables as tables
-use Rattle.tables.specs.Tables.{mem}
+use Rattle.tables.specs.Tables.{mem, enters-nowhere}
 use Rattle.tables.specs.declared.Counts.{Counts}
 use Rattle.tables.specs.declared.row.Seen.{Seen}
 use Rattle.tables.proofs.Turns.{remembers-kept}
@@ -20,7 +21,6 @@ use Rattle.steps.specs.Cursors.{stackCursor}
 use Rattle.steps.specs.States.{Took}
 use Rattle.steps.specs.Meets as meets
 use Rattle.steps.specs.Meets.{Meets}
-use Rattle.steps.specs.Runs.{Mem, buffers}
 use Rattle.resolver.specs.Fits.{levelOf, held}
 use Rattle.resolver.specs.Enters.{afterWith, refusedWith, shutWith, Ends, at-jumpdest, at-constant, at-other, Arriving, Arrived, Outcome, Saw, Following, Followed}
 use Rattle.steps.specs.declared.Plan.{Plan}
@@ -85,11 +85,13 @@ module _ {code : List ℕ} {k : Plan} {start : ℕ} {l : Level} {at np : ℕ} {w
             let v = fits-met (fits-taken f a) (met .new unmet) g0 (a .fits x0) in
             rw (saw .is, here-is) (record {
               lent = v .planned .lentW;
-              nowhere = record {
+              ready = record {
                 tables = v .tables;
                 path = record { fits = omega (arith, h .room, f .planned .lentP) };
                 most = omega (arith, h .room, f .planned .mostP);
-                small = omega (arith, f .starts, f .planned .lentW .short);
+                start = omega (arith, f .starts, f .planned .lentW .short);
+                entry = enters-nowhere refl refl;
+                inside = omega arith;
               };
               state = a .lies x0 .state;
               inside = omega (arith, ap (λ (c : Counts). c .used) (met .new unmet .counts g0));

@@ -7,7 +7,7 @@ use lib.Dec.{ltb}
 use borrow.Author.Tests.{lt-ltb, le-ltb}
 use Rattle.spec.specs.Lists.{lastOf, keep}
 use Rattle.spec.specs.Search.{St, Turn, Level, Parent, spend, parents, tries, level}
-use Rattle.theorems.proofs.Branch.{if-true, if-false}
+use Rattle.laws.proofs.Branch.{if-true, if-false}
 use Rattle.theorems.proofs.Growth.{Later, later}
 use Rattle.theorems.proofs.Carried.{carry-nowhere, carry-follow, carry-tries, carry-level}
 use Rattle.resolver.specs.Enters.{going, onward}

@@ -2,20 +2,21 @@
 use mathlib.Core.Path.{_≡_, refl, sym, ap, _∙_}
 use mathlib.Core.Bool.{Bool, true, false}
 use mathlib.Core.List.{List, _∷_}
-use Prim.Native.Nat.{ℕ, _+_, _*_, _≤_, _<_}
+use Prim.Native.Nat.{ℕ, _+_, _≤_, _<_}
 use native.Mathlib.Omega.{arith}
 use native.Mathlib.Numerals.{add-one}
-use lib.ListN.{take}
 use Rattle.spec.specs.Lists.{keep}
 use Rattle.spec.specs.Search.{St, Turn, Rec, Parent, spend, level}
 use Rattle.theorems.proofs.Older.{clear}
+use Rattle.layout.specs.Parts.{SameRows}
+use Rattle.layout.specs.Buffers.{Mem}
 use Rattle.reachable.specs.Marks.{markedBy}
 use Rattle.parents.proofs.Chains.{parents-prefix}
 use Rattle.tables.specs.Addrs.{addrs}
 use Rattle.tables.proofs.Counted.{recs-length}
 use Rattle.steps.specs.Cursors.{nextCursor, lastCursor, live, Left, none-left, direct-left, found-left}
 use Rattle.steps.specs.Paths.{OnPath}
-use Rattle.steps.specs.Runs.{Mem, recsIn, stOf, Did}
+use Rattle.steps.specs.Runs.{recsIn, stOf, Did}
 use Rattle.resolver.specs.Fits.{Fits, levelOf, Stands, held, Stays}
 use Rattle.resolver.specs.Levels.{spentWith, Came, Tried}
 use Rattle.steps.specs.declared.Plan.{Plan}
@@ -57,7 +58,7 @@ pub record Halfway (code : List ℕ) (k : Plan) (t : Turn) (since start : ℕ) (
 
 -- ---- what is left depends on W's rows alone
 
-left-rows : {code w w′ : List ℕ} {n b at : ℕ} {rs : List Rec} {ps : List Parent} → take (20 * (n + 1)) w ≡ take (20 * (n + 1)) w′ → Left code w n b rs at ps
+left-rows : {code w w′ : List ℕ} {n b at : ℕ} {rs : List Rec} {ps : List Parent} → SameRows n w′ w → Left code w n b rs at ps
     → Left code w′ n b rs at ps
 left-rows e none-left = none-left
 left-rows {w = w} {w′} {n} e (direct-left some p h c) = direct-left some (parents-prefix w w′ n e p) h c

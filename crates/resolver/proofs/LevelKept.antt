@@ -1,7 +1,7 @@
 -- What stays while a level is tried: it composes, and keeps the level's path and state, and the counts of its path. Assumes nothing.
 use mathlib.Core.Path.{_≡_, refl, sym, ap, ap₂, _∙_}
 use mathlib.Core.List.{List}
-use Prim.Native.Nat.{ℕ, _+_, _*_, _≤_}
+use Prim.Native.Nat.{ℕ, _*_, _≤_}
 use native.Mathlib.Omega.{arith}
 use lib.ListN.{length, take}
 use lib.Seq.{take-all, take-take}
@@ -9,6 +9,8 @@ use Rattle.spec.specs.Stacks.{Stack}
 use Rattle.spec.specs.Search as search
 use Rattle.spec.specs.Search.{Rec}
 use Rattle.lent.proofs.Parts.{take-less, drop-more, part-prefix}
+use Rattle.layout.specs.Parts.{listPlace}
+use Rattle.layout.specs.Buffers.{Mem, buffers}
 use Rattle.state.specs.Cells.{stackAt, Lies}
 use Rattle.state.proofs.States.{state-lies, lies-within}
 use Rattle.tables.specs.Addrs.{addrs}
@@ -17,7 +19,7 @@ use Rattle.tables.proofs.Addrs.{addrs-prefix}
 use Rattle.tables.proofs.Counted.{recs-length}
 use Rattle.steps.proofs.Paths.{only-flagged}
 use Rattle.steps.specs.Paths.{OnPath, CountsOnly}
-use Rattle.steps.specs.Runs.{Mem, buffers, recsIn}
+use Rattle.steps.specs.Runs.{recsIn}
 use Rattle.resolver.specs.Fits.{levelOf, Stands, OnIts, Stays}
 use Rattle.steps.specs.declared.Plan.{Plan}
 use Rattle.steps.specs.declared.Level.{Level}
@@ -42,13 +44,13 @@ module _ {k : Plan} {np : ℕ} where
   }
 
   -- where W changes in the counts alone
-  pub stays-counts : {w w′ p s t r q : List ℕ} {c : Counts} → 40 * (k .n + 1) ≤ k .end → CountsOnly (k .n) w w′ → Stays k np (buffers w p s t r q) c (buffers w′ p s t r q) c
+  pub stays-counts : {w w′ p s t r q : List ℕ} {c : Counts} → listPlace (k .n) ≤ k .end → CountsOnly (k .n) w w′ → Stays k np (buffers w p s t r q) c (buffers w′ p s t r q) c
   stays-counts {w} {w′} {p} {s} {t} {r} {q} {c} h o = record {
     path = refl;
     bottom = refl;
     rows = o .front;
     flags = only-flagged o;
-    beyond = drop-more w′ w (40 * (k .n + 1)) (o .back) (k .end) h;
+    beyond = drop-more w′ w (listPlace (k .n)) (o .back) (k .end) h;
     uses = omega arith;
     more = omega arith;
     older = recs-all k (buffers w′ p s t r q) c;

@@ -9,12 +9,13 @@ use Rattle.spec.specs.Lists.{lastOf, keep}
 use Rattle.spec.specs.Search.{St, Turn, Rec, Parent, parents}
 use Rattle.spec.specs.Answer.{prepared}
 use Rattle.lent.specs.Bytes.{Holds}
+use Rattle.layout.specs.Buffers.{Mem}
 use Rattle.reachable.specs.Marks.{markedBy}
 use Rattle.reachable.specs.Contracts.{Address}
 use Rattle.parents.specs.Links.{directTo}
 use Rattle.tables.specs.Addrs.{addrs}
 use Rattle.steps.specs.Cursors.{firstCursor, nextCursor, lastCursor, AtBlock, Cursor, Asks, foundTo, live}
-use Rattle.steps.specs.Runs.{Mem, recsIn}
+use Rattle.steps.specs.Runs.{recsIn}
 use Rattle.resolver.specs.Fits.{Fits, levelOf, held}
 use Rattle.resolver.specs.Levels.{spentWith, Opened, Leveled, Trying, Tried}
 use Rattle.steps.specs.declared.Plan.{Plan}

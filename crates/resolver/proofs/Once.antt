@@ -3,19 +3,21 @@
 use mathlib.Core.Path.{_≡_, refl, sym, ap, _∙_}
 use mathlib.Core.Bool.{_||_}
 use mathlib.Core.List.{List}
-use Prim.Native.Nat.{ℕ, _+_, _*_, _≤_}
+use Prim.Native.Nat.{ℕ, _+_, _≤_}
 use lib.ListN.{length, take, drop}
 use Rattle.spec.specs.Lists.{mem, total}
 use Rattle.spec.specs.Search.{Rec, kept, begin, dests, reached-by}
 use Rattle.spec.specs.Answer.{prepared}
-use Rattle.spec.specs.Rooms.{Lent}
+use Rattle.spec.specs.Rooms.{Lent, work-need}
 use Rattle.lent.proofs.Once.{Same, same-num}
+use Rattle.layout.specs.Buffers.{Mem}
+use Rattle.layout.specs.Fields.{COUNT, countAt}
+use Rattle.layout.specs.Parts.{fieldsPlace, SameRows}
 use Rattle.tables.specs.declared.Counts.{Counts}
 use Rattle.tables.proofs.Counted.{recs-length, recs-addresses, recs-kept-cells}
 use Rattle.tables.proofs.Alike.{AllBytes, AllLong, OneTables, one-tables}
 use Rattle.reachable.specs.Marks.{flagged, markedBy}
-use Rattle.steps.specs.Paths.{countAt}
-use Rattle.steps.specs.Runs.{Mem, tabled, recsIn}
+use Rattle.steps.specs.Runs.{tabled, recsIn}
 use Rattle.steps.specs.declared.Run.{Run}
 use Rattle.resolver.specs.Turns.{last-since, plan, Searched}
 
@@ -24,9 +26,9 @@ pub record OneSearch (code : List ℕ) (limit head : ℕ) (m m′ m″ : Mem) (d
   pub run : d ≡ e
   pub recs : recsIn (plan code limit head m) m′ (d .counts) ≡ recsIn (plan code limit head m) m″ (d .counts)
   pub tables : OneTables (length code) (plan code limit head m .buckets) (plan code limit head m .rooms) (d .counts) (tabled m′) (tabled m″)
-  pub rows : take (20 * (length code + 1)) (m′ .w) ≡ take (20 * (length code + 1)) (m″ .w)
-  pub counts : (a : ℕ) → a ≤ length code → Same (m′ .w) (m″ .w) (20 * (length code + 1 + a) + 12) 4
-  pub beyond : drop (64 * length code + 256) (m′ .w) ≡ drop (64 * length code + 256) (m″ .w)
+  pub rows : SameRows (length code) (m″ .w) (m′ .w)
+  pub counts : (a : ℕ) → a ≤ length code → Same (m′ .w) (m″ .w) (fieldsPlace (length code) a + COUNT) 4
+  pub beyond : drop (work-need (length code)) (m′ .w) ≡ drop (work-need (length code)) (m″ .w)
   pub flags : (x : ℕ) → mem x (flagged (m′ .w) (length code)) ≡ mem x (flagged (m″ .w) (length code))
   pub reached : (a : ℕ) → a ≤ length code → markedBy (m′ .w) (length code) a (d .counts .records + 1) ≡ markedBy (m″ .w) (length code) a (d .counts .records + 1)
 
@@ -92,7 +94,7 @@ module _ {code : List ℕ} {limit head : ℕ} {m m′ m″ : Mem} {d e : Run} (f
           recs = same-recs;
           tables = one-tables a b long (f .between z .idle .tables) (rw (sym one-counts) at (g .between other .idle .tables)) same-recs;
           rows = f .rows z ∙ sym (g .rows other);
-          counts = λ x h. same-num (a .w) (b .w) (long .w) 4 (20 * (length code + 1 + x) + 12) (none-on-path x h);
+          counts = λ x h. same-num (a .w) (b .w) (long .w) 4 (fieldsPlace (length code) x + COUNT) (none-on-path x h);
           beyond = f .beyond z ∙ sym (g .beyond other);
           flags = one-flags;
           reached = one-reached;

@@ -6,10 +6,11 @@ use native.Mathlib.Decide.{decLt}
 use native.Mathlib.Omega.{arith}
 use lib.ListN.{length}
 use Rattle.spec.specs.Search.{Parent, Rec}
+use Rattle.spec.specs.Rooms.{longest}
+use Rattle.layout.specs.Buffers.{Mem}
 use Rattle.tables.specs.declared.Counts.{Counts}
 use Rattle.steps.specs.Cursors.{pathCursor, stackCursor}
 use Rattle.steps.specs.Sound.{SoundStack, SoundRecs}
-use Rattle.steps.specs.Runs.{Mem}
 use Rattle.resolver.specs.Fits.{Parental}
 use Rattle.steps.specs.declared.Plan.{Plan}
 use Rattle.steps.proofs.Cursors.{direct-stack}
@@ -19,7 +20,7 @@ use Rattle.steps.proofs.Sound.{sound-own}
 abbrev Sound : List ℕ → Plan → Mem → ℕ → Type 0
 Sound code k m at = SoundStack (k .n) (length (pathCursor (m .r) (m .q) at)) (stackCursor code (m .r) (m .s) (k .rooms .s) at)
 
-module _ {code : List ℕ} (k : Plan) (m : Mem) (c : Counts) {b opened at : ℕ} {rs : List Rec} {ps : List Parent} (is : k .n ≡ length code) (short : k .n ≤ 24576)
+module _ {code : List ℕ} (k : Plan) (m : Mem) (c : Counts) {b opened at : ℕ} {rs : List Rec} {ps : List Parent} (is : k .n ≡ length code) (short : k .n ≤ longest)
     (sound : SoundRecs (k .n) rs) (x : NextLeft code (m .w) (m .r) (m .q) (m .s) (k .n) b opened (k .rooms .s) (c .records) rs at ps) where
   -- a direct one's stack is a block's own
   sound-direct : at < 0x10000 → Sound code k m at

@@ -6,8 +6,10 @@ use Prim.Native.Nat.{ℕ, _+_, _*_, _<_, _≤_}
 use native.Mathlib.Omega.{arith}
 use borrow.Author.Tests.{not-true, not-false}
 use Rattle.spec.specs.Search.{Turn, level}
+use Rattle.layout.specs.Parts.{listPlace}
+use Rattle.layout.specs.Buffers.{Mem, buffers}
 use Rattle.steps.specs.Paths.{Counting, Uncounting, Counted}
-use Rattle.steps.specs.Runs.{Mem, buffers, stOf, Did}
+use Rattle.steps.specs.Runs.{stOf, Did}
 use Rattle.resolver.specs.Fits.{Fits, levelOf, Stands, held, Stays}
 use Rattle.resolver.specs.Enters.{onward, Opens, Outcome, Entered}
 use Rattle.resolver.specs.Levels.{Came, Opened, Leveled, deeperBy, Trying, Tried}
@@ -46,7 +48,7 @@ module _ {code : List ℕ} {k : Plan} {start : ℕ} {l : Level} {at : ℕ} {m : 
     fits = out .fits (opens .code)
 
     -- the counts stand before W's part for runs
-    counts-low : 40 * (k .n + 1) ≤ k .end
+    counts-low : listPlace (k .n) ≤ k .end
     counts-low = omega (arith, fits .planned .scratch)
 
     -- a level with less weight left

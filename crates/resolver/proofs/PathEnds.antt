@@ -1,5 +1,5 @@
 -- What is skipped, and what a path ends in by the symbol read. Assumes nothing.
-use mathlib.Core.Path.{_≡_, refl, ap, _∙_}
+use mathlib.Core.Path.{_≡_, refl, ap, subst, _∙_}
 use Prim.Native.Nat.{ℕ, _*_, _≤_, _<_}
 use native.Mathlib.Omega.{arith}
 use mathlib.Core.Bool.{Bool, false, not}
@@ -8,17 +8,20 @@ use lib.Dec.{eqb}
 use borrow.Author.Tests.{lt-ltb, le-ltb}
 use Rattle.spec.specs.Stacks.{before, constant, jumpdest, other, Stack}
 use Rattle.spec.specs.Search.{Found, nowhere, found}
+use Rattle.layout.specs.Fields.{countAt}
+use Rattle.layout.specs.Rows.{startOf}
 use Rattle.state.specs.Symbols.{symOf}
 use Rattle.state.specs.Cells.{tag, value, stackAt}
 use Rattle.state.specs.declared.sym.StackSym.the-variants.{Before, Constant, Jumpdest, Other}
 use Rattle.tables.specs.Tables as tables
+use Rattle.tables.specs.Tables.{newFound, noEntry, enters}
+use Rattle.tables.specs.declared.Entry.{Entry}
+use Rattle.tables.proofs.Noted.{new-nowhere, new-at}
 use Rattle.tables.specs.declared.Answer.{Answer}
 use Rattle.tables.specs.declared.row.Seen.{Seen}
-use Rattle.parents.specs.Links.{startOf}
-use Rattle.steps.specs.Paths.{countAt}
 use Rattle.steps.specs.Lands.{Lands, Noted}
 use Rattle.reachable.specs.Contracts.{Address}
-use Rattle.resolver.specs.Enters.{SkipAsks, skips, shutWith, afterWith, openWith, Ended, Ends, at-jumpdest, at-constant, at-other, Arriving, Arrived}
+use Rattle.resolver.specs.Enters.{SkipAsks, skips, endedWith, openWith, Ended, Ends, at-jumpdest, at-constant, at-other, Arriving, Arrived}
 use Rattle.steps.specs.declared.Plan.{Plan}
 use Rattle.steps.specs.declared.Level.{Level}
 use Rattle.steps.specs.declared.Run.{Run}
@@ -48,9 +51,16 @@ ends-constant at-constant = refl
 ends-other : {s : Stack} {y : Found} {pc : ℕ} → Ends s (other pc) y → y ≡ nowhere
 ends-other at-other = refl
 
-pub ended-with : {p : List ℕ} {np start : ℕ} {k : Plan} {m m′ : tables.Mem} {l : Level} {o d : Run} {y : Found} {a : Answer} {e : Opening}
-    → Noted p np k m (o .counts) start y m′ a → d ≡ afterWith o (a .code) (a .counts) → e ≡ shutWith d l → Ended p np k m start l o y m′ e
-ended-with n f g = rw (g, f) (record { is = refl; energy = refl; noted = n })
+pub ended-with : {p : List ℕ} {np start : ℕ} {k : Plan} {m m′ : tables.Mem} {l : Level} {o : Run} {y : Found} {a : Answer} {e : Opening}
+    → Noted p np k m (o .counts) start y m′ a → e ≡ endedWith o a l → Ended p np k m start l o y m′ e
+ended-with n f = rw f (record { is = refl; energy = refl; noted = n })
+
+-- the entry that leads nowhere
+pub ended-nowhere : {p : List ℕ} {np start : ℕ} {k : Plan} {m m′ : tables.Mem} {l : Level} {o : Run} {y : Entry} {e : Opening}
+    → y ≡ noEntry start → Ended p np k m (y .start) l o (newFound (m .s) y) m′ e → Ended p np k m start l o nowhere m′ e
+ended-nowhere {p} {np} {start} {k} {m} {m′} {l} {o} {y} {e} f n =
+    subst (λ (g : Found). Ended p np k m start l o g m′ e) (new-nowhere (m .s) (noEntry start) refl)
+    (subst (λ (x : Entry). Ended p np k m (x .start) l o (newFound (m .s) x) m′ e) f n)
 
 module _ {p : List ℕ} {np start : ℕ} {k : Plan} {m : tables.Mem} {l : Level} {x : Seen} {o : Run} where
   -- a Before has no end
@@ -63,28 +73,44 @@ module _ {p : List ℕ} {np start : ℕ} {k : Plan} {m : tables.Mem} {l : Level}
       none-there : {y : Found} → Ends (stackAt (m .s) (9 * x .from) (x .cells)) (before n) y → ⊥
       none-there h = elim h [ ]
 
-  module _ {m′ : tables.Mem} {e : Opening} where
-    pub arrived-jumpdest : {t : ℕ} → x .symbol ≡ Jumpdest t → Ended p np k m start l o (found t (stackAt (m .s) (9 * x .from) (x .cells))) m′ e
+  module _ {m′ : tables.Mem} {a : Answer} {e : Opening} where
+    pub arrived-jumpdest : Arriving p np k m start l x o → {t : ℕ} → x .symbol ≡ Jumpdest t
+        → Noted p np k m (o .counts) start (newFound (m .s) (record { start = start; to = t; from = x .from; cells = x .cells })) m′ a → e ≡ endedWith o a l
         → Arrived p np k m start l x o m′ e
-    arrived-jumpdest g n = record { opens = λ i h. absurd (omega (arith, ap tag (rw g at h))); ends = λ y h. rw (ends-jumpdest (rw g at h)) n }
+    arrived-jumpdest b {t} g n f =
+        let end : Ended p np k m start l o (newFound (m .s) (record { start = start; to = t; from = x .from; cells = x .cells })) m′ e = ended-with n f in
+        let is : newFound (m .s) (record { start = start; to = t; from = x .from; cells = x .cells }) ≡ found t (stackAt (m .s) (9 * x .from) (x .cells)) =
+        new-at (m .s) (record { start = start; to = t; from = x .from; cells = x .cells }) (b .ready .tables .few) (b .lands t (ap symOf g)) in
+        record {
+          opens = λ i h. absurd (omega (arith, ap tag (rw g at h)));
+          ends = λ y h. rw (ends-jumpdest (rw g at h)) (subst (λ (h : Found). Ended p np k m start l o h m′ e) is end);
+        }
 
-    pub arrived-constant : {v : ℕ} → x .symbol ≡ Constant v → Ended p np k m start l o nowhere m′ e → Arrived p np k m start l x o m′ e
-    arrived-constant g n = record { opens = λ i h. absurd (omega (arith, ap tag (rw g at h))); ends = λ y h. rw (ends-constant (rw g at h)) n }
+    pub arrived-constant : {v : ℕ} {y : Entry} → x .symbol ≡ Constant v → y ≡ noEntry start → Noted p np k m (o .counts) (y .start) (newFound (m .s) y) m′ a
+        → e ≡ endedWith o a l → Arrived p np k m start l x o m′ e
+    arrived-constant {v} {y} g i n f =
+        let end : Ended p np k m (y .start) l o (newFound (m .s) y) m′ e = ended-with n f in
+        record { opens = λ j h. absurd (omega (arith, ap tag (rw g at h))); ends = λ z h. rw (ends-constant (rw g at h)) (ended-nowhere i end) }
 
-    pub arrived-other : {v : ℕ} → x .symbol ≡ Other v → Ended p np k m start l o nowhere m′ e → Arrived p np k m start l x o m′ e
-    arrived-other g n = record { opens = λ i h. absurd (omega (arith, ap tag (rw g at h))); ends = λ y h. rw (ends-other (rw g at h)) n }
+    pub arrived-other : {v : ℕ} {y : Entry} → x .symbol ≡ Other v → y ≡ noEntry start → Noted p np k m (o .counts) (y .start) (newFound (m .s) y) m′ a
+        → e ≡ endedWith o a l → Arrived p np k m start l x o m′ e
+    arrived-other {v} {y} g i n f =
+        let end : Ended p np k m (y .start) l o (newFound (m .s) y) m′ e = ended-with n f in
+        record { opens = λ j h. absurd (omega (arith, ap tag (rw g at h))); ends = λ z h. rw (ends-other (rw g at h)) (ended-nowhere i end) }
 
   pub arriving-lands : Arriving p np k m start l x o → {t : ℕ} → x .symbol ≡ Jumpdest t
       → Lands p np k m (o .counts) (record { start = start; to = t; from = x .from; cells = x .cells })
   arriving-lands a e = record {
     lent = a .lent;
-    somewhere = record {
-      tables = a .nowhere .tables;
-      path = a .nowhere .path;
-      most = a .nowhere .most;
-      small = a .nowhere .small;
-      to = a .lands _ (ap symOf e);
-      state = a .state;
+    ready = record {
+      tables = a .ready .tables;
+      path = a .ready .path;
+      most = a .ready .most;
+      start = a .ready .start;
+      entry = enters (a .lands _ (ap symOf e)) (a .state);
       inside = a .inside;
     };
   }
+
+  pub arriving-nowhere : Arriving p np k m start l x o → {y : Entry} → y ≡ noEntry start → Lands p np k m (o .counts) y
+  arriving-nowhere a f = rw f (record { lent = a .lent; ready = a .ready })

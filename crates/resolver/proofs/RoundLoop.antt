@@ -3,7 +3,7 @@ use mathlib.Core.Path.{_≡_, refl, sym, ap, subst, _∙_}
 use mathlib.Core.Bool.{Bool, true, false, _&&_, _||_}
 use mathlib.Core.List.{List, [], _∷_, map}
 use mathlib.Core.Logic.{_⊎_, inl, inr}
-use Prim.Native.Nat.{ℕ, suc, _+_, _-_, _*_, _≤_, _<_}
+use Prim.Native.Nat.{ℕ, suc, _+_, _-_, _≤_, _<_}
 use native.Mathlib.Decide.{ℕ-discrete}
 use native.Mathlib.Omega.{arith}
 use lib.Dec.{eqb, ltb}
@@ -13,22 +13,25 @@ use borrow.Author.Tests.{lt-ltb, le-ltb, eq-eqb, ne-eqb}
 use Rattle.spec.specs.Lists.{if, mem}
 use Rattle.spec.specs.Search.{Taker, takers, Parent, direct, dests, St, turn-of, turn, round}
 use Rattle.spec.specs.Answer.{prepared}
-use Rattle.theorems.proofs.Branch.{if-true, if-false, and-false}
-use Rattle.theorems.proofs.Members.{In, here, there, and-true}
-use Rattle.theorems.proofs.Lists.{Rising, one-more, rising-from}
+use Rattle.laws.proofs.Branch.{if-true, if-false, and-false}
+use Rattle.laws.proofs.Members.{In, here, there, and-true}
+use Rattle.laws.proofs.Lists.{Rising, one-more, rising-from}
 use Rattle.theorems.proofs.Carried.{carry-round}
 use Rattle.theorems.proofs.Growth.{Later, later}
 use Rattle.theorems.proofs.Older.{clear}
+use Rattle.layout.specs.Parts.{ROW, rowPlace, SameRows}
+use Rattle.layout.specs.Rows.{takerAt}
+use Rattle.layout.specs.Buffers.{Mem}
 use Rattle.tables.proofs.Counted.{recs-length}
 use Rattle.tables.specs.declared.Rooms.{Rooms}
 use Rattle.parents.specs.Links as links
-use Rattle.parents.specs.Links.{takerAt, turnOf, Takers}
+use Rattle.parents.specs.Links.{turnOf, Takers}
 use Rattle.parents.specs.Contracts.{Number}
 use Rattle.parents.proofs.Chains.{walk-takers, end-takers, takers-prefix}
 use Rattle.parents.proofs.Rises.{takerStarts, takers-rise}
 use Rattle.reachable.specs.Marks.{flagged, markedBy}
 use Rattle.reachable.specs.Contracts.{Address}
-use Rattle.steps.specs.Runs.{Mem, recsIn, stOf, Did}
+use Rattle.steps.specs.Runs.{recsIn, stOf, Did}
 use Rattle.steps.specs.declared.Plan.{Plan}
 use Rattle.steps.specs.declared.Run.{Run}
 use Rattle.resolver.specs.Turns.{Idle, Passed, TurnAsks, Turned, RoundAsks, Rounded}
@@ -96,7 +99,7 @@ pub record Went (code : List ℕ) (k : Plan) (reached : List ℕ) (left : List T
   pub rest : (y : ℕ) (b : St) → Did (k .rooms) (round (k .limit) (direct (prepared code)) reached left) (stOf k m o) y b
       → Did (k .rooms) (round (k .limit) (direct (prepared code)) reached (takers (prepared code))) (stOf k m₀ o₀) y b
   pub flags : flagged (m .w) (k .n) ≡ flagged (m₀ .w) (k .n)
-  pub rows : take (20 * (k .n + 1)) (m .w) ≡ take (20 * (k .n + 1)) (m₀ .w)
+  pub rows : SameRows (k .n) (m₀ .w) (m .w)
   pub beyond : drop (k .end) (m .w) ≡ drop (k .end) (m₀ .w)
   pub older : take (o₀ .counts .records) (recsIn k m (o .counts)) ≡ recsIn k m₀ (o₀ .counts)
 
@@ -209,7 +212,7 @@ module _ {code : List ℕ} {k : Plan} {m₀ m : Mem} {o₀ o : Run} {by link : �
       let p = g .went (a .reached) (a .idle) .idle .planned in
       record { lent = p .lentW; inside = omega (arith, this .inside, p .is) }
 
-  pub round-row : RoundAsks code k m₀ o₀ → 20 * (link - 1) + 20 ≤ length (m .w)
+  pub round-row : RoundAsks code k m₀ o₀ → rowPlace (link - 1) + ROW ≤ length (m .w)
   round-row a = let h = round-address a in omega (arith, h .inside, h .lent .room)
 
   pub round-turns : RoundAsks code k m₀ o₀ → o .energy < k .limit → TurnAsks code k (link - 1) m o
@@ -329,7 +332,7 @@ module _ {code : List ℕ} {k : Plan} {m₀ m : Mem} {o₀ o : Run} {by link : �
       round-goes-on a e long =
           let c = came (a .idle) in
           let is = c .idle z .planned .is in
-          let same : take (20 * (length code + 1)) (m .w) ≡ take (20 * (length code + 1)) (m′ .w) = sym (rw is at (c .rows z)) in
+          let same : SameRows (length code) (m′ .w) (m .w) = sym (rw is at (c .rows z)) in
           record {
             left = this .xs;
             chain = rw (e .is) (takers-prefix (m .w) (m′ .w) (length code) same (this .chain));

@@ -2,22 +2,24 @@
 use mathlib.Core.Path.{_≡_, refl, sym, ap, subst, _∙_}
 use mathlib.Core.Bool.{Bool, true, false}
 use mathlib.Core.List.{List}
-use Prim.Native.Nat.{ℕ, suc, _+_, _-_, _*_, _≤_, _<_}
+use Prim.Native.Nat.{ℕ, suc, _-_, _≤_, _<_}
 use native.Mathlib.Omega.{arith}
 use lib.Dec.{eqb}
-use lib.ListN.{length, take, drop}
+use lib.ListN.{length, drop}
 use lib.Seq.{take-all}
 use borrow.Author.Tests.{lt-ltb, le-ltb, eq-eqb, ne-eqb}
 use Rattle.spec.specs.Lists.{if}
 use Rattle.spec.specs.Search.{Node, Rec, St, takers, direct, round, rounds, reached-by}
 use Rattle.spec.specs.Answer.{prepared}
-use Rattle.theorems.proofs.Branch.{both, if-true, if-false}
+use Rattle.laws.proofs.Branch.{both, if-true, if-false}
 use Rattle.theorems.proofs.Older.{clear}
 use Rattle.theorems.proofs.Carried.{carry-rounds}
 use Rattle.theorems.proofs.Growth.{Later, later}
 use Rattle.lent.proofs.Parts.{drop-more}
+use Rattle.layout.specs.Parts.{bucketsPlace, SameRows}
+use Rattle.layout.specs.Buffers.{Mem, buffers}
 use Rattle.tables.proofs.Counted.{recs-length}
-use Rattle.steps.specs.Runs.{Mem, buffers, recsIn, stOf, Did}
+use Rattle.steps.specs.Runs.{recsIn, stOf, Did}
 use Rattle.resolver.specs.Turns.{Idle, Passed, Between, RoundAsks, Rounded, Settles, Settled, last-since, Reached, Rounds}
 use Rattle.steps.specs.declared.Plan.{Plan}
 use Rattle.steps.specs.declared.Run.{Run}
@@ -68,7 +70,7 @@ module _ (limit : ℕ) (ns : List Node) where
 -- what `left` rounds from here come to, all of them come to, with the same last round
 pub record Rolling (code : List ℕ) (k : Plan) (m₀ : Mem) (o : Run) (m : Mem) (cur : Run) (since left : ℕ) : Type 0 where
   pub between : Between code k since m cur
-  pub rows : take (20 * (k .n + 1)) (m .w) ≡ take (20 * (k .n + 1)) (m₀ .w)
+  pub rows : SameRows (k .n) (m₀ .w) (m .w)
   pub beyond : drop (k .end) (m .w) ≡ drop (k .end) (m₀ .w)
   pub long : Long m₀ m
   pub ends : (number : ℕ) (b : St) → Did (k .rooms) (rounds left (k .limit) (prepared code)) (stOf k m cur) number b
@@ -180,12 +182,12 @@ module _ {code : List ℕ} {k : Plan} {m₀ : Mem} {o : Run} {w p s t r q : List
         flags = λ x. rw (came .older z, came .flags z) (renew-flags (g .between .idle) (g .between .flags) e x);
       }
 
-      later-rows : d .code ≡ 0 → take (20 * (k .n + 1)) (m′ .w) ≡ take (20 * (k .n + 1)) (m₀ .w)
+      later-rows : d .code ≡ 0 → SameRows (k .n) (m₀ .w) (m′ .w)
       later-rows z = came .rows z ∙ e .kept .rows ∙ g .rows
 
       later-beyond : d .code ≡ 0 → drop (k .end) (m′ .w) ≡ drop (k .end) (m₀ .w)
       later-beyond z =
-          came .beyond z ∙ drop-more w₁ w (42 * (k .n + 1)) (e .kept .beyond) (k .end) (omega (arith, g .between .idle .planned .scratch)) ∙ g .beyond
+          came .beyond z ∙ drop-more w₁ w (bucketsPlace (k .n)) (e .kept .beyond) (k .end) (omega (arith, g .between .idle .planned .scratch)) ∙ g .beyond
 
       -- a shortage
       pub roll-short : (d .code ≡ 0 → ⊥) → Rounds code k m₀ o m′ d

@@ -2,7 +2,7 @@
 use mathlib.Core.Path.{_≡_, refl, sym, ap, _∙_}
 use mathlib.Core.Bool.{Bool, true, false, _&&_, _||_, or-false}
 use mathlib.Core.List.{List, [], _∷_, map}
-use Prim.Native.Nat.{ℕ, _+_, _*_, _/_, _≤_}
+use Prim.Native.Nat.{ℕ, _+_, _*_, _≤_}
 use native.Mathlib.Omega.{arith}
 use lib.Dec.{ltb, leb}
 use lib.ListN.{length, take, drop, replicate, length-replicate}
@@ -10,16 +10,19 @@ use Rattle.spec.specs.Lists.{if, mem}
 use Rattle.spec.specs.Blocks.{Block}
 use Rattle.spec.specs.Search as search
 use Rattle.spec.specs.Search.{Node, parent, sides, dests, reached-by, begin, St, Room, P, S, T, R, Q}
-use Rattle.spec.specs.Rooms.{Lent, units, shortage, room}
+use Rattle.spec.specs.Rooms.{Lent, units, shortage, room, work-need}
 use Rattle.spec.specs.Answer.{prepared}
-use Rattle.theorems.proofs.Branch.{both}
-use Rattle.theorems.proofs.Members.{In, in-map}
+use Rattle.laws.proofs.Branch.{both}
+use Rattle.laws.proofs.Members.{In, in-map}
 use Rattle.theorems.proofs.Older.{clear}
 use Rattle.theorems.proofs.Energy.{search-energy}
 use Rattle.lent.specs.Bytes.{Stored, numAt}
 use Rattle.lent.proofs.Parts.{drop-more}
 use Rattle.lent.proofs.Numbers.{num-zeros}
 use Rattle.lent.proofs.Stored.{stored, kept-take, kept-drop, kept-num, read-num}
+use Rattle.layout.specs.Fields.{FIRST-FOUND, LAST-FOUND, FLAG, markAt}
+use Rattle.layout.specs.Parts.{bucketsOf, rowsEnd, fieldsPlace, bucketsPlace, bucketPlace, SameRows}
+use Rattle.layout.specs.Buffers.{Mem, buffers}
 use Rattle.tables.specs.Records.{recsOf}
 use Rattle.tables.specs.Rows.{metOf}
 use Rattle.tables.specs.Tables.{NoLinks}
@@ -30,7 +33,7 @@ use Rattle.tables.proofs.Uses.{tables-none}
 use Rattle.parents.specs.Contracts.{Known}
 use Rattle.parents.proofs.Knows.{direct-within, known-prefix}
 use Rattle.initial.specs.Rows.{blocksAt}
-use Rattle.reachable.specs.Marks.{markAt, flagged, markedBy, wiped}
+use Rattle.reachable.specs.Marks.{flagged, markedBy, wiped}
 use Rattle.reachable.specs.Contracts.{SidesWithin, Begun, Reaches}
 use Rattle.reachable.specs.Contracts as reachable
 use Rattle.reachable.proofs.Tests.{not-both}
@@ -40,7 +43,7 @@ use Rattle.reachable.proofs.Frames.{num-in}
 use Rattle.reachable.proofs.Marks.{begun-num, begun-rows}
 use Rattle.reachable.proofs.Rows.{gather-in, map-in, within-sides, closed-sides, sides-kept, node-edges}
 use Rattle.steps.specs.Paths.{occurs}
-use Rattle.steps.specs.Runs.{Mem, buffers, stOf}
+use Rattle.steps.specs.Runs.{stOf}
 use Rattle.resolver.specs.Turns.{Idle, Between, last-since, Rounds, SearchAsks, Searched, roomsOf, planOf, plan, begunRun}
 use Rattle.steps.specs.declared.Plan.{Plan}
 use Rattle.steps.specs.declared.Run.{Run}
@@ -72,56 +75,53 @@ fresh-mark false = refl
 
 -- ---- W once the heads of the buckets are wiped
 
-abbrev buckets : List ℕ → ℕ
-buckets code = (13 * length code + 52) / 4
-
 module _ {code w w₁ w₂ : List ℕ} {limit head : ℕ} (a : SearchAsks code w limit head) (r : Reaches (length code) w w₁)
-    (s : Stored (4 * buckets code) w₁ (42 * (length code + 1)) (replicate (4 * buckets code) 0) w₂) where
+    (s : Stored (4 * bucketsOf (length code)) w₁ (bucketsPlace (length code)) (replicate (4 * bucketsOf (length code)) 0) w₂) where
   abbrev n : ℕ
   n = length code
 
   begun : Begun n w (wiped n w)
-  begun = record { wipes = stored (20 * (n + 1)) w (20 * (n + 1)) (replicate (20 * (n + 1)) 0) (wiped n w) refl (length-replicate (20 * (n + 1)) 0) (omega (arith, a .lent)) }
+  begun = record { wipes = stored (rowsEnd n) w (rowsEnd n) (replicate (rowsEnd n) 0) (wiped n w) refl (length-replicate (rowsEnd n) 0) (omega (arith, a .lent)) }
 
   begin-long : length w₂ ≡ length w
   begin-long = s .kept ∙ r .kept .long ∙ begun .wipes .kept
 
-  begin-rows : take (20 * (n + 1)) w₂ ≡ take (20 * (n + 1)) w
-  begin-rows = kept-take s (20 * (n + 1)) (omega arith) ∙ r .kept .rows ∙ begun-rows begun
+  begin-rows : SameRows n w w₂
+  begin-rows = kept-take s (rowsEnd n) (omega arith) ∙ r .kept .rows ∙ begun-rows begun
 
-  begin-beyond : drop (64 * n + 256) w₂ ≡ drop (64 * n + 256) w
+  begin-beyond : drop (work-need n) w₂ ≡ drop (work-need n) w
   begin-beyond =
-      kept-drop s (64 * n + 256) (omega arith) ∙ drop-more w₁ (wiped n w) (42 * (n + 1)) (r .kept .beyond) (64 * n + 256) (omega arith)
-      ∙ kept-drop (begun .wipes) (64 * n + 256) (omega arith)
+      kept-drop s (work-need n) (omega arith) ∙ drop-more w₁ (wiped n w) (bucketsPlace n) (r .kept .beyond) (work-need n) (omega arith)
+      ∙ kept-drop (begun .wipes) (work-need n) (omega arith)
 
   -- what is before the heads stays
-  stays : (k i : ℕ) → i + k ≤ 42 * (n + 1) → numAt k w₂ i ≡ numAt k w₁ i
+  stays : (k i : ℕ) → i + k ≤ bucketsPlace n → numAt k w₂ i ≡ numAt k w₁ i
   stays k i h = kept-num s k i (λ _. h)
 
   -- the fields of others are 0
-  zero-fields : (k x o : ℕ) → x ≤ n → 4 ≤ o → o + k ≤ 18 → numAt k w₂ (20 * (n + 1 + x) + o) ≡ 0
+  zero-fields : (k x o : ℕ) → x ≤ n → FIRST-FOUND ≤ o → o + k ≤ FLAG → numAt k w₂ (fieldsPlace n x + o) ≡ 0
   zero-fields k x o h l m =
-      stays k (20 * (n + 1 + x) + o) (omega arith)
-      ∙ num-in w₁ (wiped n w) 14 (20 * (n + 1 + x) + 4) (r .kept .fields x h) k (20 * (n + 1 + x) + o) (omega arith) (omega arith)
-      ∙ begun-num begun k (20 * (n + 1 + x) + o) (omega arith) (omega arith)
+      stays k (fieldsPlace n x + o) (omega arith)
+      ∙ num-in w₁ (wiped n w) 14 (fieldsPlace n x + FIRST-FOUND) (r .kept .fields x h) k (fieldsPlace n x + o) (omega arith) (omega arith)
+      ∙ begun-num begun k (fieldsPlace n x + o) (omega arith) (omega arith)
 
-  no-links : NoLinks n (buckets code) w₂
+  no-links : NoLinks n (bucketsOf (length code)) w₂
   no-links = record {
     some = omega arith;
     inW = omega (arith, a .lent, begin-long);
-    firsts = λ x h. let same : 20 * (n + 1 + x) + 4 ≡ 20 * (n + 1) + 20 * x + 4 = omega arith in rw same at (zero-fields 4 x 4 h (omega arith) (omega arith));
-    lasts = λ x h. let same : 20 * (n + 1 + x) + 8 ≡ 20 * (n + 1) + 20 * x + 8 = omega arith in rw same at (zero-fields 4 x 8 h (omega arith) (omega arith));
-    heads = λ h l. read-num s 4 (4 * h) (omega arith) ∙ num-zeros 4 (4 * buckets code) (4 * h);
+    firsts = λ x h. zero-fields 4 x FIRST-FOUND h (omega arith) (omega arith);
+    lasts = λ x h. zero-fields 4 x LAST-FOUND h (omega arith) (omega arith);
+    heads = λ h l. read-num s 4 (4 * h) (omega arith) ∙ num-zeros 4 (4 * bucketsOf (length code)) (4 * h);
   }
 
   same-flagged : flagged w₂ n ≡ flagged w₁ n
-  same-flagged = flagged-same w₁ w₂ n (λ x h. stays 1 (20 * (n + 1 + x) + 18) (omega arith))
+  same-flagged = flagged-same w₁ w₂ n (λ x h. stays 1 (fieldsPlace n x + FLAG) (omega arith))
 
   begin-flags : (x : ℕ) → mem x (flagged w₂ n) ≡ mem x (reached-by (prepared code) [])
   begin-flags x = rw same-flagged (r .reached x ∙ rw (node-edges w n (prepared code) (a .known .blocks)))
 
   begin-marks : (x : ℕ) → x ≤ n → markAt w₂ n x ≡ if (mem x (flagged w₂ n)) 1 0
-  begin-marks x h = stays 4 (20 * (n + 1 + x)) (omega arith) ∙ rw same-flagged (r .fresh .marks x h)
+  begin-marks x h = stays 4 (fieldsPlace n x) (omega arith) ∙ rw same-flagged (r .fresh .marks x h)
 
   -- ---- what `rounds` asks
 
@@ -174,7 +174,7 @@ module _ {code w w₁ w₂ : List ℕ} {limit head : ℕ} (a : SearchAsks code w
       unused = refl;
       rowless = refl;
       within = within-sides (sides-kept w w₂ n begin-rows) (known-within (a .known));
-      closed = closed-sides (sides-kept w₁ w₂ n (kept-take s (20 * (n + 1)) (omega arith))) same-flagged (r .closed);
+      closed = closed-sides (sides-kept w₁ w₂ n (kept-take s (rowsEnd n) (omega arith))) same-flagged (r .closed);
       unrefused = refl;
       energy = omega arith;
       dests-in = λ x h. not-both h refl;
@@ -234,7 +234,7 @@ module _ {code w w₁ w₂ : List ℕ} {limit head : ℕ} (a : SearchAsks code w
 -- ---- the same, by the values that the functions give
 
 pub search-heads : {code w : List ℕ} {limit head : ℕ} {rooms : Rooms} {k : Plan} → k ≡ planOf (length code) limit head rooms → SearchAsks code w limit head
-    → (42 * (length code + 1) + 4 * k .buckets ≤ length w) × (4 * k .buckets ≤ 500000)
+    → (bucketPlace (length code) (k .buckets) ≤ length w) × (4 * k .buckets ≤ 500000)
 search-heads ek a = let is = ap (λ (x : Plan). x .buckets) ek in (omega (arith, a .lent, is), omega (arith, a .short, is))
 
 pub search-begins : {n limit head : ℕ} {rooms : Rooms} {k : Plan} (t : List ℕ) → k ≡ planOf n limit head rooms → rooms .t ≡ units (length t) 32 → Begins (k .shelves) t
@@ -242,7 +242,7 @@ search-begins t ek e = record { inT = omega (arith, ap (λ (x : Plan). x .shelve
 
 module _ {code w p s t r q : List ℕ} {limit head : ℕ} {rooms : Rooms} {k : Plan} (er : rooms ≡ roomsOf p s t r q) (ek : k ≡ planOf (length code) limit head rooms) where
   module _ {w₁ w₂ t₁ : List ℕ} {o : Run} (a : SearchAsks code w limit head) (e : Reaches (length code) w w₁)
-      (h : Stored (4 * k .buckets) w₁ (42 * (length code + 1)) (replicate (4 * k .buckets) 0) w₂) (f : Emptied (k .shelves) t t₁) (eo : o ≡ begunRun) where
+      (h : Stored (4 * k .buckets) w₁ (bucketsPlace (length code)) (replicate (4 * k .buckets) 0) w₂) (f : Emptied (k .shelves) t t₁) (eo : o ≡ begunRun) where
     pub search-asks : Between code k 0 (buffers w₂ p s t₁ r q) o
     search-asks =
         let is : k ≡ plan code limit head (buffers w p s t r q) = ek ∙ ap (planOf (length code) limit head) er in

@@ -6,7 +6,7 @@ use borrow.Author.Tests.{le-leb, lt-leb}
 use Rattle.spec.specs.Lists.{if}
 use Rattle.spec.specs.Search.{Room, St, need}
 use Rattle.spec.specs.Rooms.{Lent, refusal, shortage}
-use Rattle.theorems.proofs.Branch.{if-true, if-false}
+use Rattle.laws.proofs.Branch.{if-true, if-false}
 use Rattle.theorems.proofs.Growth.{Later}
 use Rattle.theorems.proofs.Shortage.{first-stays}
 use Rattle.theorems.proofs.Older.{clear}

@@ -3,17 +3,18 @@ use mathlib.Core.Path.{_≡_, refl, sym, _∙_}
 use mathlib.Core.Logic.{_⊎_, inl, inr}
 use mathlib.Core.Bool.{Bool, true, false, _||_}
 use mathlib.Core.List.{List, [], _∷_, _++_, append-nil}
-use Prim.Native.Nat.{ℕ, zero, suc, _+_, _-_, _*_, _≤_, _<_}
+use Prim.Native.Nat.{ℕ, zero, suc, _+_, _-_, _≤_, _<_}
 use native.Mathlib.Omega.{arith}
 use lib.Dec.{eqb}
 use borrow.Author.Tests.{eq-eqb, ne-eqb}
 use Rattle.spec.specs.Lists.{if, mem}
 use Rattle.spec.specs.Reach.{Edge, closure}
-use Rattle.theorems.proofs.Branch.{if-true, if-false}
-use Rattle.theorems.proofs.Members.{in-mem, mem-in, in-right}
+use Rattle.spec.specs.Entries.{absent}
+use Rattle.laws.proofs.Branch.{if-true, if-false}
+use Rattle.laws.proofs.Members.{in-mem, mem-in, in-right}
 use Rattle.theorems.proofs.Reached.{Reached, seed, along, closure-complete}
 use Rattle.lent.specs.Bytes.{Holds}
-use Rattle.tables.specs.Records.{toAt, none}
+use Rattle.layout.specs.Records.{recordPlace, R-TO, toAt}
 use Rattle.reachable.specs.Marks.{flagged}
 use Rattle.reachable.specs.Edges.{rowEdges}
 use Rattle.reachable.specs.Contracts.{Closed, Kept, Sets, Expands, Expanded}
@@ -29,7 +30,7 @@ use Rattle.resolver.specs.Turns.{Settles, destsFrom, Settled}
 -- ---- the destinations, a record at a time
 
 abbrev pub destAt : List ℕ → ℕ → List ℕ
-destAt r i = if (eqb (toAt r i) none) [] (toAt r i ∷ [])
+destAt r i = if (eqb (toAt r i) absent) [] (toAt r i ∷ [])
 
 one-more : (b : Bool) (x : ℕ) (xs ys : List ℕ) → if b (xs ++ ys) (x ∷ (xs ++ ys)) ≡ if b xs (x ∷ xs) ++ ys
 unfolding if
@@ -41,7 +42,7 @@ unfolding destsFrom
 dests-more r i zero = let e : i + 0 ≡ i = omega arith in rw e
 dests-more r i (suc m) =
     let e : suc i + m ≡ i + suc m = omega arith in
-    rw (dests-more r (suc i) m, e) (one-more (eqb (toAt r i) none) (toAt r i) (destsFrom r (suc i) m) (destAt r (i + suc m)))
+    rw (dests-more r (suc i) m, e) (one-more (eqb (toAt r i) absent) (toAt r i) (destsFrom r (suc i) m) (destAt r (i + suc m)))
 
 -- ---- a set that is closed is its own closure
 
@@ -78,14 +79,14 @@ settle-start {n} {since} {records} {w} {r} a =
       kept = kept-none;
     }
 
-module _ {n since records i to : ℕ} {w r w′ : List ℕ} (s : Settling n w r since records i w′) (l : i < records) (h : Holds 2 r (32 * i + 2) to) where
+module _ {n since records i to : ℕ} {w r w′ : List ℕ} (s : Settling n w r since records i w′) (l : i < records) (h : Holds 2 r (recordPlace i + R-TO) to) where
   settle-seeds : destsFrom r since (i + 1 - since) ≡ destsFrom r since (i - since) ++ destAt r i
   settle-seeds =
       let e : i + 1 - since ≡ suc (i - since) = omega (arith, s .from) in
       let f : since + (i - since) ≡ i = omega (arith, s .from) in
       rw e (rw f at (dests-more r since (i - since)))
 
-  pub settle-expands : (to ≡ none → ⊥) → Expands n w′ to (records + 1)
+  pub settle-expands : (to ≡ absent → ⊥) → Expands n w′ to (records + 1)
   settle-expands ne = record {
     at = record { lent = room-kept (s .kept) (s .asks .lent); inside = near (s .asks .goes i l) };
     small = omega (arith, s .asks .few);
@@ -93,12 +94,12 @@ module _ {n since records i to : ℕ} {w r w′ : List ℕ} (s : Settling n w r 
     closed = s .closed;
   }
     where
-      near : (toAt r i ≡ none) ⊎ (toAt r i ≤ n) → to ≤ n
+      near : (toAt r i ≡ absent) ⊎ (toAt r i ≤ n) → to ≤ n
       near (inl e) = absurd (ne (h .is ∙ e))
       near (inr e) = rw (h .is) e
 
   -- a record with no destination
-  pub settle-skip : to ≡ none → Settling n w r since records (i + 1) w′
+  pub settle-skip : to ≡ absent → Settling n w r since records (i + 1) w′
   settle-skip z =
       let e : destAt r i ≡ [] = if-true _ _ _ (eq-eqb _ _ (sym (h .is) ∙ z)) in
       record {
@@ -111,7 +112,7 @@ module _ {n since records i to : ℕ} {w r w′ : List ℕ} (s : Settling n w r 
         kept = s .kept;
       }
 
-  pub settle-turn : (to ≡ none → ⊥) → {w″ : List ℕ} → Expanded n w′ to (records + 1) w″ → Settling n w r since records (i + 1) w″
+  pub settle-turn : (to ≡ absent → ⊥) → {w″ : List ℕ} → Expanded n w′ to (records + 1) w″ → Settling n w r since records (i + 1) w″
   settle-turn ne {w″} x = record {
     asks = s .asks;
     from = omega (arith, s .from);

@@ -1,7 +1,7 @@
 -- The six buffers keep their lengths. Assumes nothing.
 use mathlib.Core.Path.{_≡_, refl, _∙_}
 use lib.ListN.{length}
-use Rattle.steps.specs.Runs.{Mem}
+use Rattle.layout.specs.Buffers.{Mem}
 
 -- the buffers are as long as they were
 pub record Long (m m′ : Mem) : Type 0 where

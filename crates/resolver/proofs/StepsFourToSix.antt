@@ -10,16 +10,18 @@ use Rattle.spec.specs.Stacks.{Sym, before, Stack, cells, read, compose}
 use Rattle.spec.specs.Search as search
 use Rattle.spec.specs.Search.{Found, nowhere, found, S, T, St, need, remember, Met, met?, in-use, Turn, arrive, follow}
 use Rattle.spec.specs.Rooms.{Lent, or-else, shortage}
-use Rattle.theorems.proofs.Branch.{both, if-true, if-false}
+use Rattle.spec.specs.Entries.{absent}
+use Rattle.laws.proofs.Branch.{both, if-true, if-false}
 use Rattle.theorems.proofs.Older.{clear}
 use Rattle.theorems.proofs.Growth.{Later, later}
 use Rattle.theorems.proofs.Carried.{carry-arrive}
 use Rattle.lent.specs.Bytes.{numAt}
+use Rattle.layout.specs.Records.{toAt, keptOf}
+use Rattle.layout.specs.Buffers.{Mem, buffers}
 use Rattle.state.specs.Symbols.{symOf}
 use Rattle.state.specs.Cells.{stackAt, State, Lies}
 use Rattle.state.specs.Owns.{roomOf}
 use Rattle.tables.specs.Addrs.{addrs}
-use Rattle.tables.specs.Records.{toAt, keptOf, none}
 use Rattle.tables.specs.Rows.{metOf, seenMet, sameMet}
 use Rattle.tables.specs.Tables.{mem, Goes, leads, leads-nowhere}
 use Rattle.tables.specs.Mets as mets
@@ -35,7 +37,7 @@ use Rattle.steps.specs.Sound.{SoundStack, SoundRec}
 use Rattle.steps.specs.States.{Composing, Took}
 use Rattle.steps.specs.Meets as meets
 use Rattle.steps.specs.Lands.{Noted}
-use Rattle.steps.specs.Runs.{Mem, buffers, recsIn, stOf, Did}
+use Rattle.steps.specs.Runs.{recsIn, stOf, Did}
 use Rattle.resolver.specs.Fits.{Fits, levelOf, Stands, held, Stays}
 use Rattle.resolver.specs.Enters.{refusedWith, shutWith, openWith, Ends, at-jumpdest, at-constant, at-other, Outcome, Following}
 use Rattle.steps.specs.declared.Plan.{Plan}
@@ -53,7 +55,7 @@ use Rattle.resolver.proofs.LevelKept.{stays-then, stays-less}
 
 -- ---- what is asked of a parent's state
 
-kept-leads : {n room : ℕ} {r s : List ℕ} {i : ℕ} → n < none → toAt r i ≤ n → Goes n room r s i → State s (9 * (room - keptOf r (suc i))) (keptOf r (suc i) - keptOf r i)
+kept-leads : {n room : ℕ} {r s : List ℕ} {i : ℕ} → n < absent → toAt r i ≤ n → Goes n room r s i → State s (9 * (room - keptOf r (suc i))) (keptOf r (suc i) - keptOf r i)
 kept-leads few h (leads-nowhere e f) = absurd (omega arith)
 kept-leads few h (leads e f) = f
 

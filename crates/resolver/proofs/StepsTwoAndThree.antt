@@ -13,26 +13,31 @@ use Rattle.spec.specs.Lists.{if, mem}
 use Rattle.spec.specs.Search as search
 use Rattle.spec.specs.Search.{nowhere, P, St, need, Turn, record-nowhere, follow, loops}
 use Rattle.spec.specs.Rooms.{Lent, or-else, shortage}
-use Rattle.theorems.proofs.Branch.{if-true, if-false}
+use Rattle.laws.proofs.Branch.{if-true, if-false}
 use Rattle.theorems.proofs.Older.{clear}
 use Rattle.theorems.proofs.Growth.{Later, later}
 use Rattle.theorems.proofs.Carried.{carry-nowhere, carry-follow}
+use Rattle.layout.specs.Fields.{countAt}
+use Rattle.layout.specs.Rows.{startOf}
+use Rattle.layout.specs.Buffers.{Mem, buffers}
 use Rattle.tables.specs.Addrs.{addrs}
 use Rattle.tables.specs.Rows.{metOf}
 use Rattle.tables.specs.Tables as tables
+use Rattle.tables.specs.Tables.{newFound, noEntry, enters-nowhere}
+use Rattle.tables.specs.declared.Entry.{Entry}
 use Rattle.tables.specs.Recording.{Lends, shortOf, noted, Holding}
 use Rattle.tables.specs.declared.Rooms.{Rooms}
 use Rattle.tables.specs.declared.Counts.{Counts}
+use Rattle.tables.specs.declared.Answer.{Answer}
 use Rattle.tables.proofs.Addrs.{addrs-length}
 use Rattle.tables.proofs.Uses.{cells-in-use}
-use Rattle.parents.specs.Links.{startOf}
 use Rattle.steps.specs.Cursors.{pathCursor}
-use Rattle.steps.specs.Paths.{countAt, OnPath, Growing, Grown}
+use Rattle.steps.specs.Paths.{OnPath, Growing, Grown}
 use Rattle.steps.specs.Sound.{SoundRec}
-use Rattle.steps.specs.Lands.{Strays, Noted}
-use Rattle.steps.specs.Runs.{Mem, buffers, stOf, Did}
+use Rattle.steps.specs.Lands.{Lands, Noted}
+use Rattle.steps.specs.Runs.{stOf, Did}
 use Rattle.resolver.specs.Fits.{Fits, levelOf, held, Stays}
-use Rattle.resolver.specs.Enters.{refusedWith, shutWith, SkipAsks, skips, going, onward, Ended, Outcome, Entering, Entered, Following, Followed}
+use Rattle.resolver.specs.Enters.{refusedWith, shutWith, endedWith, SkipAsks, skips, going, onward, Ended, Outcome, Entering, Entered, Following, Followed}
 use Rattle.steps.specs.declared.Plan.{Plan}
 use Rattle.steps.specs.declared.Level.{Level}
 use Rattle.steps.specs.declared.Run.{Run}
@@ -42,6 +47,7 @@ use Rattle.steps.proofs.Found.{loops-one, loops-found}
 use Rattle.steps.proofs.Splits.{inside-append}
 use Rattle.steps.proofs.Paths.{on-path, counts-kept}
 use Rattle.steps.proofs.Growing.{path-direct, grown-front}
+use Rattle.resolver.proofs.PathEnds.{ended-with, ended-nowhere}
 use Rattle.resolver.proofs.FirstShortage.{short-later, short-need, not-true, Laters, outcome-refused}
 use Rattle.resolver.proofs.TurnKept.{fits-path, fits-noted, stays-noted, noted-mets}
 use Rattle.resolver.proofs.LevelKept.{stays-then, stays-less}
@@ -286,20 +292,26 @@ module _ {code : List ℕ} {k : Plan} {start : ℕ} {l : Level} {at : ℕ} {w p 
             unrefused = h .unrefused;
           }
 
-      pub enter-strays : Strays p′ np k (tables.mem w r q s) (o .counts) start
-      enter-strays = record {
+      pub enter-strays : {y : Entry} → y ≡ noEntry start → Lands p′ np k (tables.mem w r q s) (o .counts) y
+      enter-strays e = rw e (record {
         lent = h .fits .planned .lentW;
-        nowhere = record {
+        ready = record {
           tables = h .fits .tables;
           path = record { fits = omega (arith, g .is some-room, g .fits some-room, h .fits .planned .lentP, g .long) };
           most = omega (arith, g .is some-room, g .fits some-room, h .fits .planned .mostP);
-          small = omega (arith, h .fits .starts, h .fits .planned .lentW .short);
+          start = omega (arith, h .fits .starts, h .fits .planned .lentW .short);
+          entry = enters-nowhere refl refl;
+          inside = omega arith;
         };
-      }
+      })
 
-      pub entered-stops : l .left ≡ 0 → {w₂ r₂ q₂ s₂ : List ℕ} {e : Opening} → Ended p′ np k (tables.mem w r q s) start l o nowhere (tables.mem w₂ r₂ q₂ s₂) e
+      pub entered-stops : l .left ≡ 0 → {y : Entry} {w₂ r₂ q₂ s₂ : List ℕ} {a : Answer} {e : Opening} → y ≡ noEntry start
+          → Noted p′ np k (tables.mem w r q s) (o .counts) (y .start) (newFound s y) (tables.mem w₂ r₂ q₂ s₂) a → e ≡ endedWith o a l
           → Entered code k start l at (buffers w p s t r q) o (buffers w₂ p′ s₂ t r₂ q₂) e
-      entered-stops z n turn since b f = rw (n .is) (enter-stops turn since b f (sym is ∙ unskipped) g some-room (g .long) (n .noted) (n .energy) z)
+      entered-stops z {y} {w₂} {r₂} {q₂} {s₂} {a} {e} i m d turn since b f =
+          let end : Ended p′ np k (tables.mem w r q s) (y .start) l o (newFound s y) (tables.mem w₂ r₂ q₂ s₂) e = ended-with m d in
+          let n = ended-nowhere i end in
+          rw (n .is) (enter-stops turn since b f (sym is ∙ unskipped) g some-room (g .long) (n .noted) (n .energy) z)
 
       module _ (left : l .left ≡ 0 → ⊥) where
         pub enter-following : Following code k start l at np (buffers w p′ s t r q) o

@@ -8,8 +8,10 @@ use Rattle.spec.specs.Walk.{instructions}
 use Rattle.spec.specs.Stacks.{run}
 use Rattle.spec.specs.Search.{Taker, takers}
 use Rattle.spec.specs.Answer.{prepared}
-use Rattle.theorems.proofs.Members.{In, here, there, in-map}
-use Rattle.parents.specs.Links.{positionAt, Turn, turnOf, Takers, no-taker, next-taker}
+use Rattle.spec.specs.Rooms.{longest}
+use Rattle.laws.proofs.Members.{In, here, there, in-map}
+use Rattle.layout.specs.Rows.{positionAt}
+use Rattle.parents.specs.Links.{Turn, turnOf, Takers, no-taker, next-taker}
 use Rattle.parents.specs.Contracts.{Known}
 use Rattle.parents.proofs.Knows.{Comes, takerOf, takers-again, taker-comes, taker-near}
 use Rattle.reachable.proofs.Rows.{map-in}
@@ -30,7 +32,7 @@ pub record Taking (code w : List ℕ) (n start : ℕ) (x : Taker) : Type 0 where
   pub near : x .position < 17 * n + 17
   pub sound : SoundStack n 1 (run code (instructions code) start .stack)
 
-pub taking : (code : List ℕ) {w : List ℕ} {n head start : ℕ} {x : Taker} → n ≡ length code → n ≤ 24576 → Known code w head → In x (takers (prepared code)) → x .start ≡ start
+pub taking : (code : List ℕ) {w : List ℕ} {n head start : ℕ} {x : Taker} → n ≡ length code → n ≤ longest → Known code w head → In x (takers (prepared code)) → x .start ≡ start
     → Taking code w n start x
 taking code {w} {n} {start = start} {x} e short k i s =
     let row = placed (k .takers) (map-in turnOf i) in

@@ -9,11 +9,14 @@ use Rattle.spec.specs.Walk.{instructions}
 use Rattle.spec.specs.Stacks.{cells, run}
 use Rattle.spec.specs.Search.{Taker, Rec, Met, kept, St, Turn, turn-of, direct, in-use}
 use Rattle.spec.specs.Answer.{prepared}
-use Rattle.theorems.proofs.Members.{in-only}
+use Rattle.laws.proofs.Members.{in-only}
 use Rattle.theorems.proofs.Older.{clear}
 use Rattle.lent.specs.Bytes.{Stored}
 use Rattle.lent.proofs.Numbers.{num-prefix}
 use Rattle.lent.proofs.Stored.{kept-drop, read-back}
+use Rattle.layout.specs.Parts.{ROW, rowPlace, rowsEnd}
+use Rattle.layout.specs.Rows.{POSITION, positionAt}
+use Rattle.layout.specs.Buffers.{Mem, buffers}
 use Rattle.state.specs.Cells.{Lies}
 use Rattle.state.specs.Owns.{Runs, Owned}
 use Rattle.state.specs.declared.run.Own.{Own}
@@ -22,10 +25,9 @@ use Rattle.tables.specs.Addrs.{addrs}
 use Rattle.tables.specs.Rows.{metOf, usedOf}
 use Rattle.tables.proofs.Counted.{recs-kept-cells}
 use Rattle.tables.proofs.Uses.{tables-kept, recs-stay}
-use Rattle.parents.specs.Links.{positionAt}
 use Rattle.parents.specs.Contracts.{Number}
 use Rattle.steps.specs.Paths.{Inside, Counting, Counted}
-use Rattle.steps.specs.Runs.{Mem, buffers, recsIn, stOf}
+use Rattle.steps.specs.Runs.{recsIn, stOf}
 use Rattle.steps.specs.declared.Plan.{Plan}
 use Rattle.steps.specs.declared.Level.{Level}
 use Rattle.steps.specs.declared.Run.{Run}
@@ -64,7 +66,7 @@ module _ {w p s : List ℕ} {k : Plan} {start : ℕ} {own : Own} (a : Places w p
         counts = a .counts;
       }
 
-  pub place-reads : {p₁ w₁ : List ℕ} → Counted (k .n) w p₁ 1 w₁ → 20 * start + 20 ≤ length w₁
+  pub place-reads : {p₁ w₁ : List ℕ} → Counted (k .n) w p₁ 1 w₁ → rowPlace start + ROW ≤ length w₁
   place-reads counted = omega (arith, a .inside, a .lent .room, counted .only .long)
 
 pub place-done : {w w₁ p p₁ s s₁ : List ℕ} {k : Plan} {start position : ℕ} {own : Own} → Stored (9 * own .n) s 0 (take (9 * own .n) (drop (own .at) w)) s₁
@@ -179,7 +181,7 @@ module _ {code : List ℕ} {k : Plan} {reached : List ℕ} {since : ℕ} {m : Me
 
         position-is : l .position ≡ x .position
         position-is =
-            placed .reads .is ∙ num-prefix w₂ (m .w) (20 * (k .n + 1)) (begun-alike .rows) 4 (20 * start + 8) (omega (arith, taking .inside)) ∙ sym (taking .position)
+            placed .reads .is ∙ num-prefix w₂ (m .w) (rowsEnd (k .n)) (begun-alike .rows) 4 (rowPlace start + POSITION) (omega (arith, taking .inside)) ∙ sym (taking .position)
 
         pub begun-stands : (k .rooms .p ≡ 0 → ⊥) → Stands k now (begunWith o (own .n) .counts) first
         begun-stands some =

@@ -2,7 +2,7 @@
 use mathlib.Core.Path.{_≡_, refl, sym, ap, subst, _∙_}
 use mathlib.Core.Bool.{true}
 use mathlib.Core.List.{List, [], _∷_}
-use Prim.Native.Nat.{ℕ, _+_, _*_, _≤_, _<_}
+use Prim.Native.Nat.{ℕ, _+_, _≤_, _<_}
 use native.Mathlib.Omega.{arith}
 use lib.ListN.{take, drop}
 use lib.Seq.{take-take}
@@ -11,11 +11,13 @@ use Rattle.spec.specs.Stacks.{cells}
 use Rattle.spec.specs.Search as search
 use Rattle.spec.specs.Search.{Taker, takers, direct, P, S, Rec, dests, St, need, forget, Turn, turn-of, in-use, level, turn}
 use Rattle.spec.specs.Answer.{prepared}
-use Rattle.theorems.proofs.Members.{In}
+use Rattle.laws.proofs.Members.{In}
 use Rattle.theorems.proofs.Carried.{carry-level}
 use Rattle.theorems.proofs.Growth.{Later, later}
 use Rattle.theorems.proofs.Older.{clear}
 use Rattle.lent.proofs.Parts.{drop-more}
+use Rattle.layout.specs.Parts.{listPlace, SameRows}
+use Rattle.layout.specs.Buffers.{Mem, buffers}
 use Rattle.state.specs.Owns.{Runs, Owned}
 use Rattle.state.specs.declared.run.Own.{Own}
 use Rattle.tables.specs.Addrs.{addrs}
@@ -27,7 +29,7 @@ use Rattle.tables.proofs.Uses.{tables-kept}
 use Rattle.reachable.specs.Marks.{flagged}
 use Rattle.reachable.proofs.Rows.{within-sides, closed-sides, sides-kept}
 use Rattle.steps.specs.Paths.{Counted, Uncounting}
-use Rattle.steps.specs.Runs.{Mem, buffers, recsIn, stOf, Did}
+use Rattle.steps.specs.Runs.{recsIn, stOf, Did}
 use Rattle.steps.specs.declared.Plan.{Plan}
 use Rattle.steps.specs.declared.Level.{Level}
 use Rattle.steps.specs.declared.Run.{Run}
@@ -228,14 +230,14 @@ module _ {code : List ℕ} {k : Plan} {start : ℕ} {m m′ : Mem} {o d : Run} (
         off : Alike (k .n) (k .buckets) (m′ .w) w₄
         off = alike-counts (uncounted .only) (k .buckets)
 
-        rows : take (20 * (k .n + 1)) w₄ ≡ take (20 * (k .n + 1)) (m .w)
+        rows : SameRows (k .n) (m .w) w₄
         rows = off .rows ∙ came .stays z .rows ∙ alike .rows
 
         beyond : drop (k .end) w₄ ≡ drop (k .end) (m .w)
         beyond =
-            let low : 40 * (k .n + 1) ≤ k .end = omega (arith, idle .planned .scratch) in
-            drop-more w₄ (m′ .w) (40 * (k .n + 1)) (uncounted .only .back) (k .end) low ∙ came .stays z .beyond
-            ∙ drop-more (h .w₂) (h .w₁) (40 * (k .n + 1)) (h .placed .counted .only .back) (k .end) low ∙ h .owned .inside .back
+            let low : listPlace (k .n) ≤ k .end = omega (arith, idle .planned .scratch) in
+            drop-more w₄ (m′ .w) (listPlace (k .n)) (uncounted .only .back) (k .end) low ∙ came .stays z .beyond
+            ∙ drop-more (h .w₂) (h .w₁) (listPlace (k .n)) (h .placed .counted .only .back) (k .end) low ∙ h .owned .inside .back
 
         flags : flagged w₄ (k .n) ≡ flagged (m .w) (k .n)
         flags = off .flags ∙ came .stays z .flags ∙ alike .flags

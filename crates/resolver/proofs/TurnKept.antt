@@ -1,15 +1,18 @@
 -- What of a turn's buffers stays when a step changes some of them. Assumes nothing.
 use mathlib.Core.Path.{_≡_, refl, sym, ap, _∙_}
 use mathlib.Core.Logic.{_⊎_, inl, inr}
-use Prim.Native.Nat.{ℕ, _+_, _-_, _*_, _≤_}
+use Prim.Native.Nat.{ℕ, _+_, _-_, _≤_}
 use native.Mathlib.Omega.{arith}
 use mathlib.Core.List.{List, [], _∷_, _++_}
 use lib.ListN.{length, take}
 use Rattle.spec.specs.Stacks.{Stack, cells}
 use Rattle.spec.specs.Search.{Found, Rec, Turn}
-use Rattle.theorems.proofs.Members.{In, in-cases, in-only}
+use Rattle.laws.proofs.Members.{In, in-cases, in-only}
 use Rattle.lent.proofs.Parts.{take-less, drop-more}
 use Rattle.lent.proofs.Numbers.{num-prefix}
+use Rattle.layout.specs.Fields.{FIRST-FOUND, LAST-FOUND, COUNT, FLAG}
+use Rattle.layout.specs.Parts.{rowsEnd, fieldsPlace, bucketPlace, SameRows}
+use Rattle.layout.specs.Buffers.{Mem, buffers}
 use Rattle.state.specs.Owns.{roomOf}
 use Rattle.tables.specs.Addrs.{addrs}
 use Rattle.tables.specs.Records.{recsOf}
@@ -28,7 +31,7 @@ use Rattle.reachable.proofs.Frames.{num-in}
 use Rattle.steps.specs.Sound.{SoundRec}
 use Rattle.steps.specs.States.{Took}
 use Rattle.steps.specs.Lands.{Noted}
-use Rattle.steps.specs.Runs.{Mem, buffers, stOf}
+use Rattle.steps.specs.Runs.{stOf}
 use Rattle.resolver.specs.Fits.{Planned, Fits, Stays}
 use Rattle.steps.specs.declared.Plan.{Plan}
 use Rattle.steps.specs.declared.Level.{Level}
@@ -40,11 +43,11 @@ use Rattle.steps.proofs.Lands.{marks-kept, noted-older}
 -- ---- W before its part for runs
 
 -- the links depend on what stands before the end of the buckets alone
-pub links-prefix : (n buckets : ℕ) {w w′ : List ℕ} (k : ℕ) → 42 * (n + 1) + 4 * buckets ≤ k → take k w′ ≡ take k w → length w′ ≡ length w → SameLinks n buckets w w′
+pub links-prefix : (n buckets : ℕ) {w w′ : List ℕ} (k : ℕ) → bucketPlace n buckets ≤ k → take k w′ ≡ take k w → length w′ ≡ length w → SameLinks n buckets w w′
 links-prefix n buckets {w} {w′} k h e long = record {
-  firsts = λ a l. num-prefix w′ w k e 4 (20 * (n + 1) + 20 * a + 4) (omega arith);
-  lasts = λ a l. num-prefix w′ w k e 4 (20 * (n + 1) + 20 * a + 8) (omega arith);
-  heads = λ b l. num-prefix w′ w k e 4 (42 * (n + 1) + 4 * b) (omega arith);
+  firsts = λ a l. num-prefix w′ w k e 4 (fieldsPlace n a + FIRST-FOUND) (omega arith);
+  lasts = λ a l. num-prefix w′ w k e 4 (fieldsPlace n a + LAST-FOUND) (omega arith);
+  heads = λ b l. num-prefix w′ w k e 4 (bucketPlace n b) (omega arith);
   long = long;
 }
 
@@ -104,8 +107,8 @@ module _ {code : List ℕ} {k : Plan} {t : Turn} {since start : ℕ} {w p s T r 
     taken-links : SameLinks (k .n) (k .buckets) w w′
     taken-links = links-prefix (k .n) (k .buckets) (k .end - roomOf code) (omega (arith, f .planned .scratch)) (o .front) (o .longW)
 
-    taken-rows : take (20 * (k .n + 1)) w′ ≡ take (20 * (k .n + 1)) w
-    taken-rows = take-less w′ w (k .end - roomOf code) (o .front) (20 * (k .n + 1)) (omega (arith, f .planned .scratch))
+    taken-rows : SameRows (k .n) w w′
+    taken-rows = take-less w′ w (k .end - roomOf code) (o .front) (rowsEnd (k .n)) (omega (arith, f .planned .scratch))
 
     pub taken-recs : recsOf r q s′ (k .rooms .s) (c .records) ≡ recsOf r q s (k .rooms .s) (c .records)
     taken-recs = recs-stay (f .tables) w′ s′ taken-links (o .top) (o .longS)
@@ -124,7 +127,7 @@ module _ {code : List ℕ} {k : Plan} {t : Turn} {since start : ℕ} {w p s T r 
       packs = f .packs;
       known = known-prefix w′ (rw (← f .planned .is) (sym taken-rows)) (f .known);
       began = f .began;
-      marks = rw taken-recs (marks-kept (f .marks) (λ a h. num-prefix w′ w (k .end - roomOf code) (o .front) 4 (20 * (k .n + 1 + a)) (omega (arith, f .planned .scratch))));
+      marks = rw taken-recs (marks-kept (f .marks) (λ a h. num-prefix w′ w (k .end - roomOf code) (o .front) 4 (fieldsPlace (k .n) a) (omega (arith, f .planned .scratch))));
       sound = rw taken-recs (f .sound);
     }
 
@@ -133,7 +136,7 @@ module _ {code : List ℕ} {k : Plan} {t : Turn} {since start : ℕ} {w p s T r 
       path = refl;
       bottom = o .bottom;
       rows = taken-rows;
-      flags = flagged-same w w′ (k .n) (λ a h. num-prefix w′ w (k .end - roomOf code) (o .front) 1 (20 * (k .n + 1 + a) + 18) (omega (arith, f .planned .scratch)));
+      flags = flagged-same w w′ (k .n) (λ a h. num-prefix w′ w (k .end - roomOf code) (o .front) 1 (fieldsPlace (k .n) a + FLAG) (omega (arith, f .planned .scratch)));
       beyond = o .back;
       uses = omega arith;
       more = omega arith;
@@ -217,8 +220,8 @@ module _ {code : List ℕ} {k : Plan} {t : Turn} {since start : ℕ} {w p s T r 
       path = refl;
       bottom = o .around .bottom;
       rows = o .around .front;
-      flags = flagged-same w w′ (k .n) (λ a h. num-in w′ w 8 (20 * (k .n + 1) + 20 * a + 12) (o .around .rests a h) 1 (20 * (k .n + 1 + a) + 18) (omega arith) (omega arith));
-      beyond = drop-more w′ w (42 * (k .n + 1) + 4 * k .buckets) (o .around .back) (k .end) (omega (arith, f .planned .scratch));
+      flags = flagged-same w w′ (k .n) (λ a h. num-in w′ w 8 (fieldsPlace (k .n) a + COUNT) (o .around .rests a h) 1 (fieldsPlace (k .n) a + FLAG) (omega arith) (omega arith));
+      beyond = drop-more w′ w (bucketPlace (k .n) (k .buckets)) (o .around .back) (k .end) (omega (arith, f .planned .scratch));
       uses = omega (arith, o .used);
       more = noted-more;
       older = noted-older o;

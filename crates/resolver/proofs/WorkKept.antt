@@ -1,28 +1,29 @@
 -- What the search reads of W stays where the counts of the path in hand, or the part for runs, change. Assumes nothing.
 use mathlib.Core.Path.{_≡_, sym, _∙_}
 use mathlib.Core.List.{List}
-use Prim.Native.Nat.{ℕ, _+_, _-_, _*_, _≤_}
+use Prim.Native.Nat.{ℕ, _+_, _-_, _≤_}
 use native.Mathlib.Omega.{arith}
-use lib.ListN.{length, take}
+use lib.ListN.{length}
 use Rattle.spec.specs.Search.{Rec}
 use Rattle.lent.specs.Bytes.{numAt}
 use Rattle.lent.proofs.Numbers.{num-prefix, num-suffix, num-within}
 use Rattle.lent.proofs.Parts.{take-less}
+use Rattle.layout.specs.Fields.{SPARE, FLAG, markAt, flagAt}
+use Rattle.layout.specs.Parts.{rowsEnd, fieldsPlace, listPlace, bucketPlace, SameRows}
 use Rattle.state.specs.Owns as owns
 use Rattle.state.specs.Owns.{roomOf}
 use Rattle.tables.specs.Tables.{SameLinks}
 use Rattle.parents.specs.Contracts.{Known}
 use Rattle.parents.proofs.Knows.{known-prefix}
-use Rattle.reachable.specs.Marks.{markAt, flagAt, flagged}
-use Rattle.reachable.specs.Contracts.{Room, SidesWithin, Closed}
+use Rattle.reachable.specs.Marks.{flagged}
+use Rattle.reachable.specs.Contracts.{Room}
 use Rattle.reachable.proofs.Flags.{flagged-same}
-use Rattle.reachable.proofs.Rows.{within-sides, closed-sides, sides-kept}
 use Rattle.steps.specs.Paths.{OnPath, CountsOnly}
 use Rattle.steps.specs.Lands.{Marks}
 
 -- the rows, the records' links, the marks and the flags are the same
 pub record Alike (n buckets : ℕ) (w w′ : List ℕ) : Type 0 where
-  pub rows : take (20 * (n + 1)) w′ ≡ take (20 * (n + 1)) w
+  pub rows : SameRows n w w′
   pub links : SameLinks n buckets w w′
   pub marks : (a : ℕ) → a ≤ n → markAt w′ n a ≡ markAt w n a
   pub flags : flagged w′ n ≡ flagged w n
@@ -45,16 +46,16 @@ alike-then a b =
 
 module _ {n : ℕ} {w w′ : List ℕ} (c : CountsOnly n w w′) where
   -- a number among an address's first twelve bytes
-  early : (a : ℕ) → a ≤ n → (k o : ℕ) → o + k ≤ 12 → numAt k w′ (20 * (n + 1 + a) + o) ≡ numAt k w (20 * (n + 1 + a) + o)
-  early a h = num-within w′ w 12 (20 * (n + 1 + a)) (20 * (n + 1 + a)) (c .before a h)
+  early : (a : ℕ) → a ≤ n → (k o : ℕ) → o + k ≤ 12 → numAt k w′ (fieldsPlace n a + o) ≡ numAt k w (fieldsPlace n a + o)
+  early a h = num-within w′ w 12 (fieldsPlace n a) (fieldsPlace n a) (c .before a h)
 
-  field : (a : ℕ) → a ≤ n → (k o : ℕ) → o + k ≤ 12 → {i : ℕ} → i ≡ 20 * (n + 1 + a) + o → numAt k w′ i ≡ numAt k w i
+  field : (a : ℕ) → a ≤ n → (k o : ℕ) → o + k ≤ 12 → {i : ℕ} → i ≡ fieldsPlace n a + o → numAt k w′ i ≡ numAt k w i
   field a h k o l e = rw e (early a h k o l)
 
   flag : (a : ℕ) → a ≤ n → flagAt w′ n a ≡ flagAt w n a
   flag a h =
-      let e : 20 * (n + 1 + a) + 18 ≡ 20 * (n + 1 + a) + 16 + 2 = omega arith in
-      rw e (num-within w′ w 4 (20 * (n + 1 + a) + 16) (20 * (n + 1 + a) + 16) (c .after a h) 1 2 (omega arith))
+      let e : fieldsPlace n a + FLAG ≡ fieldsPlace n a + SPARE + 2 = omega arith in
+      rw e (num-within w′ w 4 (fieldsPlace n a + SPARE) (fieldsPlace n a + SPARE) (c .after a h) 1 2 (omega arith))
 
   pub alike-counts : (buckets : ℕ) → Alike n buckets w w′
   alike-counts buckets =
@@ -63,7 +64,7 @@ module _ {n : ℕ} {w w′ : List ℕ} (c : CountsOnly n w w′) where
         links = record {
           firsts = λ a h. field a h 4 4 (omega arith) (omega arith);
           lasts = λ a h. field a h 4 8 (omega arith) (omega arith);
-          heads = λ b h. num-suffix w′ w (40 * (n + 1)) (c .back) 4 (42 * (n + 1) + 4 * b) (omega arith);
+          heads = λ b h. num-suffix w′ w (listPlace n) (c .back) 4 (bucketPlace n b) (omega arith);
           long = c .long;
         };
         marks = λ a h. field a h 4 0 (omega arith) (omega arith);
@@ -72,14 +73,14 @@ module _ {n : ℕ} {w w′ : List ℕ} (c : CountsOnly n w w′) where
 
 -- ---- another part for runs
 
-module _ (n buckets : ℕ) {code : List ℕ} {end : ℕ} {w w′ : List ℕ} (i : owns.Inside code w end w′) (scratch : 42 * (n + 1) + 4 * buckets + roomOf code ≤ end) where
-  low : (k at : ℕ) → at + k ≤ 42 * (n + 1) + 4 * buckets → numAt k w′ at ≡ numAt k w at
+module _ (n buckets : ℕ) {code : List ℕ} {end : ℕ} {w w′ : List ℕ} (i : owns.Inside code w end w′) (scratch : bucketPlace n buckets + roomOf code ≤ end) where
+  low : (k at : ℕ) → at + k ≤ bucketPlace n buckets → numAt k w′ at ≡ numAt k w at
   low k at h = num-prefix w′ w (end - roomOf code) (i .front) k at (omega arith)
 
   pub alike-run : Alike n buckets w w′
   alike-run =
       record {
-        rows = take-less w′ w (end - roomOf code) (i .front) (20 * (n + 1)) (omega arith);
+        rows = take-less w′ w (end - roomOf code) (i .front) (rowsEnd n) (omega arith);
         links = record {
           firsts = λ a h. low 4 _ (omega arith);
           lasts = λ a h. low 4 _ (omega arith);
@@ -102,12 +103,6 @@ module _ {n buckets : ℕ} {w w′ : List ℕ} (e : Alike n buckets w w′) wher
 
   pub alike-known : {code : List ℕ} {head : ℕ} → n ≡ length code → Known code w head → Known code w′ head
   alike-known is k = known-prefix w′ (sym (rw is at (e .rows))) k
-
-  pub alike-within : SidesWithin w n → SidesWithin w′ n
-  alike-within = within-sides (sides-kept w w′ n (e .rows))
-
-  pub alike-closed : Closed w n → Closed w′ n
-  alike-closed = closed-sides (sides-kept w w′ n (e .rows)) (e .flags)
 
   pub alike-room : Room n w → Room n w′
   alike-room r = record { short = r .short; room = omega (arith, r .room, e .links .long) }

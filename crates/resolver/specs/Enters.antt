@@ -12,19 +12,22 @@ use Rattle.spec.specs.Search.{Found, nowhere, found, P, St, need, Turn, Parent,
 use Rattle.spec.specs.Rooms.{Lent, shortage}
 use Rattle.theorems.specs.Needs.{clear, Later}
 use Rattle.lent.specs.Bytes.{Holds}
+use Rattle.layout.specs.Fields.{countAt}
+use Rattle.layout.specs.Rows.{startOf}
+use Rattle.layout.specs.Buffers.{Mem}
 use Rattle.state.specs.Symbols.{symOf}
 use Rattle.state.specs.Cells.{stackAt, State}
 use Rattle.tables.specs.Addrs.{addrs}
 use Rattle.tables.specs.Tables as tables
-use Rattle.tables.specs.Tables.{Nowhere}
+use Rattle.tables.specs.Tables.{Ready, noEntry}
 use Rattle.tables.specs.Recording.{Lends}
 use Rattle.tables.specs.declared.Counts.{Counts}
+use Rattle.tables.specs.declared.Answer.{Answer}
 use Rattle.tables.specs.declared.row.Seen.{Seen}
-use Rattle.parents.specs.Links.{startOf}
 use Rattle.reachable.specs.Contracts.{Room, Address}
-use Rattle.steps.specs.Paths.{countAt, OnPath}
+use Rattle.steps.specs.Paths.{OnPath}
 use Rattle.steps.specs.Lands.{Noted}
-use Rattle.steps.specs.Runs.{Mem, stOf, Did}
+use Rattle.steps.specs.Runs.{stOf, Did}
 use Rattle.steps.specs.declared.Plan.{Plan}
 use Rattle.steps.specs.declared.Level.{Level}
 use Rattle.steps.specs.declared.Run.{Run}
@@ -39,6 +42,9 @@ afterWith o code counts = record { code = code; energy = o .energy; counts = cou
 
 abbrev pub shutWith : Run → Level → Opening
 shutWith o l = record { opens = false; run = o; level = l }
+
+abbrev pub endedWith : Run → Answer → Level → Opening
+endedWith o a l = shutWith (afterWith o (a .code) (a .counts)) l
 
 abbrev pub openWith : Run → ℕ → ℕ → Seen → Level → Opening
 openWith o np position x l =
@@ -103,7 +109,7 @@ pub data Ends (s : Stack) : Sym → Found → Type 0 where
 
 pub record Arriving (p : List ℕ) (np : ℕ) (k : Plan) (m : tables.Mem) (start : ℕ) (l : Level) (x : Seen) (o : Run) : Type 0 where
   pub lent : Room (k .n) (m .w)
-  pub nowhere : Nowhere p np (k .n) (k .buckets) (k .rooms) m (o .counts) start
+  pub ready : Ready p np (k .n) (k .buckets) (k .rooms) m (o .counts) (noEntry start)
   pub state : State (m .s) (9 * x .from) (x .cells)
   pub inside : x .from + x .cells ≤ o .counts .used
   pub lands : (t : ℕ) → symOf (x .symbol) ≡ jumpdest t → t ≤ k .n

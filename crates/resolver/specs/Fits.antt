@@ -7,14 +7,17 @@ use Rattle.spec.specs.Stacks.{cells}
 use Rattle.spec.specs.Search as search
 use Rattle.spec.specs.Search.{Turn, Parent, parent, direct}
 use Rattle.spec.specs.Answer.{prepared}
+use Rattle.layout.specs.Parts.{bucketPlace, SameRows}
+use Rattle.layout.specs.Records.{toAt}
+use Rattle.layout.specs.Rows.{startOf}
+use Rattle.layout.specs.Buffers.{Mem}
 use Rattle.state.specs.Cells.{stackAt, State}
 use Rattle.state.specs.Owns.{roomOf}
 use Rattle.tables.specs.Addrs.{addrs}
-use Rattle.tables.specs.Records.{toAt}
 use Rattle.tables.specs.Tables.{Tables}
 use Rattle.tables.specs.Mets.{Remembers, Packs}
 use Rattle.tables.specs.declared.Counts.{Counts}
-use Rattle.parents.specs.Links.{startOf, Comes}
+use Rattle.parents.specs.Links.{Comes}
 use Rattle.parents.specs.Contracts.{Known}
 use Rattle.reachable.specs.Marks.{flagged}
 use Rattle.reachable.specs.Contracts.{Room}
@@ -22,7 +25,7 @@ use Rattle.steps.specs.Cursors.{pathCursor, stackCursor}
 use Rattle.steps.specs.Paths.{Inside, OnPath}
 use Rattle.steps.specs.Sound.{SoundStack, SoundRecs}
 use Rattle.steps.specs.Lands.{Marks}
-use Rattle.steps.specs.Runs.{Mem, tabled, recsIn}
+use Rattle.steps.specs.Runs.{tabled, recsIn}
 use Rattle.steps.specs.declared.Plan.{Plan}
 use Rattle.steps.specs.declared.Level.{Level}
 
@@ -32,7 +35,7 @@ pub record Planned (code : List ℕ) (k : Plan) (m : Mem) : Type 0 where
   pub limit : k .limit ≤ 500000
   pub lentW : Room (k .n) (m .w)
   pub ends : k .end ≤ length (m .w)
-  pub scratch : 42 * (k .n + 1) + 4 * k .buckets + roomOf code ≤ k .end
+  pub scratch : bucketPlace (k .n) (k .buckets) + roomOf code ≤ k .end
   pub lentP : 2 * k .rooms .p ≤ length (m .p)
   pub mostP : k .rooms .p ≤ 2 ^ 30
   pub shelves : 1 ≤ k .rooms .t → 1 ≤ k .shelves
@@ -90,7 +93,7 @@ pub record Parental (code : List ℕ) (k : Plan) (m : Mem) (c : Counts) (at : �
 pub record Stays (k : Plan) (np : ℕ) (m : Mem) (c : Counts) (m′ : Mem) (c′ : Counts) : Type 0 where
   pub path : take (2 * np) (m′ .p) ≡ take (2 * np) (m .p)
   pub bottom : take (9 * c .used) (m′ .s) ≡ take (9 * c .used) (m .s)
-  pub rows : take (20 * (k .n + 1)) (m′ .w) ≡ take (20 * (k .n + 1)) (m .w)
+  pub rows : SameRows (k .n) (m .w) (m′ .w)
   pub flags : flagged (m′ .w) (k .n) ≡ flagged (m .w) (k .n)
   pub beyond : drop (k .end) (m′ .w) ≡ drop (k .end) (m .w)
   pub uses : c .used ≤ c′ .used

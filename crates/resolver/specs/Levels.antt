@@ -4,9 +4,10 @@ use Prim.Native.Nat.{ℕ, zero, suc, _+_, _≤_}
 use mathlib.Core.List.{List}
 use Rattle.spec.specs.Search as search
 use Rattle.spec.specs.Search.{St, Turn, level}
+use Rattle.layout.specs.Buffers.{Mem}
 use Rattle.tables.specs.Addrs.{addrs}
 use Rattle.steps.specs.Paths.{OnPath}
-use Rattle.steps.specs.Runs.{Mem, stOf, Did}
+use Rattle.steps.specs.Runs.{stOf, Did}
 use Rattle.steps.specs.declared.Plan.{Plan}
 use Rattle.steps.specs.declared.Level.{Level}
 use Rattle.steps.specs.declared.Run.{Run}

@@ -1,6 +1,6 @@
 -- Turns, rounds and the search. Assumes nothing.
 use mathlib.Core.Path.{_≡_}
-use Prim.Native.Nat.{ℕ, zero, suc, _+_, _-_, _*_, _/_, _≤_, _<_, min}
+use Prim.Native.Nat.{ℕ, zero, suc, _+_, _-_, _*_, _≤_, _<_, min}
 use mathlib.Core.List.{List, [], _∷_, _++_}
 use mathlib.Core.Logic.{_⊎_}
 use mathlib.Core.Bool.{true, not, _&&_, _||_}
@@ -11,23 +11,27 @@ use Rattle.spec.specs.Search as search
 use Rattle.spec.specs.Search.{Node, Taker, takers, direct, Rec, dests, St, begin, turn-of, turn, round, rounds, reached-by}
 use Rattle.spec.specs.Reach.{closure}
 use Rattle.spec.specs.Answer.{prepared}
-use Rattle.spec.specs.Rooms.{Lent, units, shortage}
-use Rattle.theorems.specs.Lists.{In}
+use Rattle.spec.specs.Rooms.{Lent, units, shortage, longest, work-need}
+use Rattle.spec.specs.Entries.{absent}
+use Rattle.laws.specs.Lists.{In}
 use Rattle.lent.specs.Bytes.{Stored}
+use Rattle.layout.specs.Fields.{markAt}
+use Rattle.layout.specs.Parts.{bucketsOf, SameRows}
+use Rattle.layout.specs.Records.{recordPlace, toAt}
+use Rattle.layout.specs.Rows.{positionAt}
+use Rattle.layout.specs.Buffers.{Mem}
 use Rattle.state.specs.declared.run.Own.{Own}
-use Rattle.tables.specs.Records.{toAt, none}
 use Rattle.tables.specs.Tables.{Tables}
 use Rattle.tables.specs.Mets.{Remembers}
 use Rattle.tables.specs.declared.Rooms.{Rooms}
-use Rattle.parents.specs.Links.{positionAt}
 use Rattle.parents.specs.Contracts.{Known, Number}
-use Rattle.reachable.specs.Marks.{markAt, flagged, markedBy}
+use Rattle.reachable.specs.Marks.{flagged, markedBy}
 use Rattle.reachable.specs.Edges.{rowEdges}
 use Rattle.reachable.specs.Contracts.{Room, SidesWithin, Closed, Kept}
 use Rattle.steps.specs.Paths.{OnPath, Counted}
 use Rattle.steps.specs.Sound.{SoundRecs}
 use Rattle.steps.specs.Lands.{Marks}
-use Rattle.steps.specs.Runs.{Mem, tabled, recsIn, stOf, Did}
+use Rattle.steps.specs.Runs.{tabled, recsIn, stOf, Did}
 use Rattle.steps.specs.declared.Plan.{Plan}
 use Rattle.steps.specs.declared.Level.{Level}
 use Rattle.steps.specs.declared.Run.{Run}
@@ -58,7 +62,7 @@ pub record Passed (code : List ℕ) (k : Plan) (reached : List ℕ) (since : ℕ
   pub did : Did (k .rooms) f (stOf k m o) (d .code) (stOf k m′ d)
   pub idle : d .code ≡ 0 → Idle code k reached since m′ d
   pub flags : d .code ≡ 0 → flagged (m′ .w) (k .n) ≡ flagged (m .w) (k .n)
-  pub rows : d .code ≡ 0 → take (20 * (k .n + 1)) (m′ .w) ≡ take (20 * (k .n + 1)) (m .w)
+  pub rows : d .code ≡ 0 → SameRows (k .n) (m .w) (m′ .w)
   pub beyond : d .code ≡ 0 → drop (k .end) (m′ .w) ≡ drop (k .end) (m .w)
   pub older : d .code ≡ 0 → take (o .counts .records) (recsIn k m′ (d .counts)) ≡ recsIn k m (o .counts)
 
@@ -124,14 +128,14 @@ pub record Settles (n : ℕ) (w r : List ℕ) (since records : ℕ) : Type 0 whe
   pub within : SidesWithin w n
   pub closed : Closed w n
   pub order : since ≤ records
-  pub inR : 32 * records ≤ length r
+  pub inR : recordPlace records ≤ length r
   pub few : records ≤ 1073741824
-  pub goes : (i : ℕ) → i < records → (toAt r i ≡ none) ⊎ (toAt r i ≤ n)
+  pub goes : (i : ℕ) → i < records → (toAt r i ≡ absent) ⊎ (toAt r i ≤ n)
 
 -- the destinations of the records from i on, up to m
 unfoldable pub destsFrom : List ℕ → ℕ → ℕ → List ℕ
 destsFrom r i zero = []
-destsFrom r i (suc m) = if (eqb (toAt r i) none) (destsFrom r (suc i) m) (toAt r i ∷ destsFrom r (suc i) m)
+destsFrom r i (suc m) = if (eqb (toAt r i) absent) (destsFrom r (suc i) m) (toAt r i ∷ destsFrom r (suc i) m)
 
 pub record Settled (n : ℕ) (w r : List ℕ) (since records : ℕ) (w′ : List ℕ) : Type 0 where
   pub reached : (x : ℕ) → mem x (flagged w′ n) ≡ mem x (closure (rowEdges w n) (destsFrom r since (records - since) ++ flagged w n))
@@ -164,7 +168,7 @@ Reached ns n w since records recs = (a : ℕ) → a ≤ n → markedBy w n a (re
 pub record Rounds (code : List ℕ) (k : Plan) (m : Mem) (o : Run) (m′ : Mem) (d : Run) : Type 0 where
   pub did : Did (k .rooms) (rounds 128 (k .limit) (prepared code)) (stOf k m o) (d .code) (stOf k m′ d)
   pub between : d .code ≡ 0 → Between code k (last-since 128 (k .limit) (prepared code) 0 (stOf k m o)) m′ d
-  pub rows : d .code ≡ 0 → take (20 * (k .n + 1)) (m′ .w) ≡ take (20 * (k .n + 1)) (m .w)
+  pub rows : d .code ≡ 0 → SameRows (k .n) (m .w) (m′ .w)
   pub beyond : d .code ≡ 0 → drop (k .end) (m′ .w) ≡ drop (k .end) (m .w)
 
 -- ---- the search
@@ -176,9 +180,9 @@ abbrev pub planOf : ℕ → ℕ → ℕ → Rooms → Plan
 planOf n limit head rooms =
     record {
       n = n;
-      end = 64 * n + 256;
+      end = work-need n;
       head = head;
-      buckets = (13 * n + 52) / 4;
+      buckets = bucketsOf n;
       shelves = min (rooms .t) 0x10000;
       limit = limit;
       rooms = rooms;
@@ -192,9 +196,9 @@ begunRun = record { code = 0; energy = 0; counts = record { records = 0; address
 
 -- the rows are prepared, and W is not short
 pub record SearchAsks (code w : List ℕ) (limit head : ℕ) : Type 0 where
-  pub short : length code ≤ 24576
+  pub short : length code ≤ longest
   pub limited : limit ≤ 500000
-  pub lent : 64 * length code + 256 ≤ length w
+  pub lent : work-need (length code) ≤ length w
   pub known : Known code w head
 
 -- The code is the number of the first shortage of document 01's search, 0 if there is none. Where it is 0, the records, with their paths, destinations,
@@ -207,8 +211,8 @@ pub record Searched (code : List ℕ) (limit head : ℕ) (m m′ : Mem) (d : Run
   pub energy : d .code ≡ 0 → d .energy ≡ search.search limit (prepared code) .energy
   pub energy-most : d .code ≡ 0 → d .energy ≤ limit + 256
   pub between : d .code ≡ 0 → Between code (plan code limit head m) (last-since 128 limit (prepared code) 0 begin) m′ d
-  pub rows : d .code ≡ 0 → take (20 * (length code + 1)) (m′ .w) ≡ take (20 * (length code + 1)) (m .w)
-  pub beyond : d .code ≡ 0 → drop (64 * length code + 256) (m′ .w) ≡ drop (64 * length code + 256) (m .w)
+  pub rows : d .code ≡ 0 → SameRows (length code) (m .w) (m′ .w)
+  pub beyond : d .code ≡ 0 → drop (work-need (length code)) (m′ .w) ≡ drop (work-need (length code)) (m .w)
   pub reached : d .code ≡ 0
       → Reached (prepared code) (length code) (m′ .w) (last-since 128 limit (prepared code) 0 begin) (d .counts .records)
       (recsIn (plan code limit head m) m′ (d .counts))

@@ -1,5 +1,6 @@
 // What is done with a parent of a level, up to the level that it may open.
 // "Per parent, in this order: ... A one-block parent already on the path is skipped. ... The path grows (room P). ... It is remembered (room T)."
+use layout::MISSING;
 use lent::get16;
 use parents::link::parent_start;
 use state::sym::StackSym;
@@ -8,24 +9,21 @@ use steps::Plan;
 use steps::Run;
 use steps::cursor::FOUND;
 use steps::land::land;
-use steps::land::stray;
 use steps::meet::meet;
 use steps::path::grow;
 use steps::path::on_path;
 use steps::state_of::Taken;
 use steps::state_of::take_state;
+use tables::Answer;
 use tables::Counts;
 use tables::Entry;
 use tables::row::Seen;
 ghost use mathlib.Core.Path.{_≡_};
 ghost use Prim.Native.Nat.{_*_, _≤_};
 ghost use lib.ListN.{length};
-ghost use Rattle.spec.specs.Search.{nowhere, found};
-ghost use Rattle.state.specs.Cells.{stackAt};
-ghost use Rattle.tables.specs.Tables.{mem};
-ghost use Rattle.steps.specs.Lands.{Lands, Strays};
-ghost use Rattle.steps.specs.Runs.{buffers};
-ghost use Rattle.resolver.specs.Enters.{refusedWith, afterWith, shutWith, openWith, SkipAsks, skips, Ended, Arriving, Arrived, Entering, Entered, Saw, Following, Followed};
+ghost use Rattle.layout.specs.Buffers.{buffers};
+ghost use Rattle.tables.specs.Tables.{mem, noEntry};
+ghost use Rattle.resolver.specs.Enters.{refusedWith, afterWith, shutWith, endedWith, openWith, SkipAsks, skips, Arriving, Arrived, Entering, Entered, Saw, Following, Followed};
 
 // The number of a refusal where P is short.
 pub const SHORT_P: usize = 4;
@@ -67,6 +65,22 @@ fn shut(o: Run, l: Level) -> Opening
     }
 }
 
+// The path has ended, with what its record answered, and no level opens.
+fn ended(o: Run, a: Answer, l: Level) -> Opening
+    ensures { λ r. ⌜ r ≡ endedWith o a l ⌝ }
+{
+    let counts = a.counts;
+    Opening {
+        opens: false,
+        run: Run {
+            code: a.code,
+            energy: o.energy,
+            counts,
+        },
+        level: l,
+    }
+}
+
 // A level opens behind the grown path of np addresses, with the state that was seen.
 fn opened(o: Run, np: usize, position: usize, x: Seen, l: Level) -> Opening
     requires { ⌜ (l .left ≡ 0 → ⊥) ⌝ }
@@ -96,50 +110,16 @@ fn skipped(w: &[u8], n: usize, at: usize) -> bool
     on_path(w, n, parent_start(at))
 }
 
-// The path leads nowhere, and no level opens.
-fn end_nowhere(
-    p: &[u8],
-    np: usize,
-    w: &mut [u8],
-    r: &mut [u8],
-    q: &mut [u8],
-    s: &mut [u8],
-    k: Plan,
-    start: usize,
-    l: Level,
-    o: Run,
-) -> Opening
-    requires { ⌜ Strays (now p) np k (mem (now w) (now r) (now q) (now s)) (o .counts) start ⌝ }
-    ensures { λ e. ⌜ Ended (now (p .entry)) np k (mem (now (w .entry)) (now (r .entry)) (now (q .entry)) (now (s .entry))) start l o nowhere
-        (mem (now (w .exit)) (now (r .exit)) (now (q .exit)) (now (s .exit))) e ⌝ }
+// The entry of a path that leads nowhere.
+fn no_entry(start: usize) -> Entry
+    ensures { λ e. ⌜ e ≡ noEntry start ⌝ }
 {
-    let c = o.counts;
-    let a = stray(p, np, w, r, q, s, k, c, start);
-    let counts = a.counts;
-    shut(after(o, a.code, counts), l)
-}
-
-// The path leads to the entry's destination, and no level opens.
-fn end_at(
-    p: &[u8],
-    np: usize,
-    w: &mut [u8],
-    r: &mut [u8],
-    q: &mut [u8],
-    s: &mut [u8],
-    k: Plan,
-    l: Level,
-    x: Entry,
-    o: Run,
-) -> Opening
-    requires { ⌜ Lands (now p) np k (mem (now w) (now r) (now q) (now s)) (o .counts) x ⌝ }
-    ensures { λ e. ⌜ Ended (now (p .entry)) np k (mem (now (w .entry)) (now (r .entry)) (now (q .entry)) (now (s .entry))) (x .start) l o
-        (found (x .to) (stackAt (now (s .entry)) (9 * x .from) (x .cells))) (mem (now (w .exit)) (now (r .exit)) (now (q .exit)) (now (s .exit))) e ⌝ }
-{
-    let c = o.counts;
-    let a = land(p, np, w, r, q, s, k, c, x);
-    let counts = a.counts;
-    shut(after(o, a.code, counts), l)
+    Entry {
+        start,
+        to: MISSING,
+        from: 0,
+        cells: 0,
+    }
 }
 
 // Step 6: a Before opens a level, a Jumpdest is where the path leads, and anything else leads nowhere.
@@ -160,6 +140,7 @@ fn arrive(
     ensures { λ e. ⌜ Arrived (now (p .entry)) np k (mem (now (w .entry)) (now (r .entry)) (now (q .entry)) (now (s .entry))) start l x o
         (mem (now (w .exit)) (now (r .exit)) (now (q .exit)) (now (s .exit))) e ⌝ }
 {
+    let c = o.counts;
     let symbol = x.symbol;
     match symbol {
         StackSym::Before(position) => opened(o, np, position, x, l),
@@ -170,10 +151,10 @@ fn arrive(
                 from: x.from,
                 cells: x.cells,
             };
-            end_at(p, np, w, r, q, s, k, l, e, o)
+            ended(o, land(p, np, w, r, q, s, k, c, e), l)
         }
-        StackSym::Constant(_) => end_nowhere(p, np, w, r, q, s, k, start, l, o),
-        StackSym::Other(_) => end_nowhere(p, np, w, r, q, s, k, start, l, o),
+        StackSym::Constant(_) => ended(o, land(p, np, w, r, q, s, k, c, no_entry(start)), l),
+        StackSym::Other(_) => ended(o, land(p, np, w, r, q, s, k, c, no_entry(start)), l),
     }
 }
 
@@ -259,7 +240,8 @@ pub fn enter(
         return shut(refused(o, SHORT_P), l);
     }
     if l.left == 0 {
-        return end_nowhere(p, np, w, r, q, s, k, start, l, o);
+        let c = o.counts;
+        return ended(o, land(p, np, w, r, q, s, k, c, no_entry(start)), l);
     }
     follow(code, w, p, s, t, r, q, k, start, l, at, np, o)
 }

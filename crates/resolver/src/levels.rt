@@ -13,7 +13,7 @@ use steps::path::count;
 use steps::path::uncount;
 ghost use mathlib.Core.Path.{_≡_};
 ghost use Prim.Native.Nat.{_+_, _<_, _^_};
-ghost use Rattle.steps.specs.Runs.{buffers};
+ghost use Rattle.layout.specs.Buffers.{buffers};
 ghost use Rattle.resolver.specs.Levels.{spentWith, Opened, Leveled, Trying, Tried};
 
 // A unit of energy.

@@ -5,7 +5,7 @@ use parents::taker::next_taker;
 use reachable::is_marked;
 use steps::Plan;
 use steps::Run;
-ghost use Rattle.steps.specs.Runs.{buffers};
+ghost use Rattle.layout.specs.Buffers.{buffers};
 ghost use Rattle.resolver.specs.Turns.{RoundAsks, Rounded};
 
 pub fn round(

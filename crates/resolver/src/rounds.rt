@@ -1,6 +1,15 @@
 // The search: rounds of turns, from what is reached by the code's static sides alone.
 // "A round with no record is the last, and no round or turn starts once the limit is reached."
 use crate::round::round;
+use layout::MISSING;
+use layout::part::BUCKET;
+use layout::part::BUCKETS;
+use layout::part::NEED;
+use layout::part::NEED_MORE;
+use layout::part::SHARE;
+use layout::part::SHARE_MORE;
+use layout::record::RECORD;
+use layout::record::TO;
 use lent::get16;
 use lent::units;
 use lent::wipe_part;
@@ -9,12 +18,12 @@ use reachable::reach;
 use steps::Plan;
 use steps::Run;
 use tables::Counts;
-use tables::NONE;
 use tables::Rooms;
 use tables::met::begin_rows;
 ghost use mathlib.Core.Path.{_≡_};
 ghost use Prim.Native.Nat.{_≤_};
-ghost use Rattle.steps.specs.Runs.{buffers};
+ghost use Rattle.spec.specs.Rooms.{longest};
+ghost use Rattle.layout.specs.Buffers.{buffers};
 ghost use Rattle.resolver.specs.Turns.{Settles, Settled, Between, Rounds, SearchAsks, Searched, roomsOf, planOf, begunRun};
 
 // How many rounds there are at most.
@@ -30,9 +39,9 @@ fn settle(w: &mut [u8], n: usize, r: &[u8], since: usize, records: usize)
 {
     let mut i = since;
     while i < records {
-        let to = get16(r, 32 * i + 2);
+        let to = get16(r, RECORD * i + TO);
         i += 1;
-        if to != NONE {
+        if to != MISSING {
             expand(w, n, to, records + 1);
         }
     }
@@ -94,15 +103,15 @@ fn rooms_of(p: &[u8], s: &[u8], t: &[u8], r: &[u8], q: &[u8]) -> Rooms
 
 // The plan of a search over a code of n bytes. T has a bucket for each of its rows, up to `SHELVES`.
 fn plan_of(n: usize, limit: usize, head: usize, rooms: Rooms) -> Plan
-    requires { ⌜ n ≤ 24576 ⌝ }
+    requires { ⌜ n ≤ longest ⌝ }
     ensures { λ k. ⌜ k ≡ planOf n limit head rooms ⌝ }
 {
     let shelves = if rooms.t < SHELVES { rooms.t } else { SHELVES };
     Plan {
         n,
-        end: 64 * n + 256,
+        end: NEED * n + NEED_MORE,
         head,
-        buckets: (13 * n + 52) / 4,
+        buckets: (SHARE * n + SHARE_MORE) / BUCKET,
         shelves,
         limit,
         rooms,
@@ -129,7 +138,7 @@ pub fn search(
     let n = code.len();
     let k = plan_of(n, limit, head, rooms_of(p, s, t, r, q));
     reach(w, n);
-    wipe_part(w, 42 * (n + 1), 4 * k.buckets);
+    wipe_part(w, BUCKETS * (n + 1), BUCKET * k.buckets);
     begin_rows(t, k.shelves);
     let o = begin();
     rounds(code, w, p, s, t, r, q, k, o)

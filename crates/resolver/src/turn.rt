@@ -16,7 +16,7 @@ use steps::path::uncount;
 use tables::Counts;
 use tables::met::forget;
 ghost use mathlib.Core.Path.{_≡_};
-ghost use Rattle.steps.specs.Runs.{buffers};
+ghost use Rattle.layout.specs.Buffers.{buffers};
 ghost use Rattle.resolver.specs.Turns.{begunWith, endedWith, Places, Placed, TurnAsks, Turned};
 
 // The number of a refusal where S is short.

@@ -5,7 +5,7 @@ use Prim.Native.Nat.{ℕ, _+_, _*_, _≤_, _<_, min}
 use native.Mathlib.Nat.{min-eq-left, min-eq-right, le-of-lt, le-min}
 use native.Mathlib.Omega.{arith}
 use lib.ListN.{length}
-use Rattle.steps.specs.Runs.{Mem}
+use Rattle.layout.specs.Buffers.{Mem}
 use Rattle.sessions.specs.Input.{numberAt, pieceAt, Repeated}
 use Rattle.sessions.specs.Trial.{caseAt, reply, Lending, Tried}
 use Rattle.sessions.specs.declared.input.Read.{Read}

@@ -9,7 +9,7 @@ use lib.ListN.{length, getD, drop, length-drop, drop-of-length-le}
 use lib.Seq.{drop-cons}
 use borrow.Author.Tests.{lt-ltb, le-ltb}
 use Rattle.spec.specs.Lists.{if}
-use Rattle.theorems.proofs.Branch.{both, if-true, if-false}
+use Rattle.laws.proofs.Branch.{both, if-true, if-false}
 use Rattle.sessions.specs.Input.{worth, Worth, longer, read, decimal, numberAt}
 use Rattle.sessions.specs.declared.input.Read.{Read}
 

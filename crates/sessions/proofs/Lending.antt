@@ -1,13 +1,13 @@
 -- What a call leaves of the buffers, from what the entry promises. Assumes nothing.
-use mathlib.Core.Path.{_≡_, refl, sym, ap, _∙_}
+use mathlib.Core.Path.{_≡_, ap, _∙_}
 use mathlib.Core.List.{List, _++_}
-use Prim.Native.Nat.{ℕ, _≤_, min}
+use Prim.Native.Nat.{ℕ, min}
 use native.Mathlib.Nat.{min-le-right}
 use lib.ListN.{length, take, drop}
 use lib.Seq.{length-take-le}
 use Rattle.spec.specs.Rooms.{Lent}
 use Rattle.spec.specs.Answer.{Answer, answer, room-after, output-after}
-use Rattle.steps.specs.Runs.{Mem, buffers}
+use Rattle.layout.specs.Buffers.{Mem, buffers}
 use Rattle.answer.specs.Contracts.{lentOf}
 use Rattle.aznifrem.specs.Contracts.{Exported}
 use Rattle.sessions.specs.Trial.{Marked, Told, lending, reply, Lending}

@@ -2,7 +2,7 @@
 use mathlib.Core.Path.{_≡_, sym, _∙_}
 use mathlib.Core.List.{List}
 use Prim.Native.Nat.{ℕ}
-use Rattle.steps.specs.Runs.{Mem}
+use Rattle.layout.specs.Buffers.{Mem}
 use Rattle.sessions.specs.Trial.{caseAt, reply, Lending, Tried}
 
 pub one-tried : {input code code′ code″ out u v : List ℕ} {at a e : ℕ} {m m′ m″ : Mem} → Tried input at code m out code′ m′ u a → Tried input at code m out code″ m″ v e

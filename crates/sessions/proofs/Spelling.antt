@@ -7,7 +7,7 @@ use native.Mathlib.Omega.{arith}
 use lib.ListN.{length, getD, drop, set, drop-of-length-le}
 use lib.Seq.{append-snoc}
 use borrow.Author.Tests.{lt-ltb, le-ltb}
-use Rattle.theorems.proofs.Branch.{if-true, if-false}
+use Rattle.laws.proofs.Branch.{if-true, if-false}
 use Rattle.lent.specs.Bytes.{Stored}
 use Rattle.lent.proofs.Stored.{stored-none, stored-join, stored-byte}
 use Rattle.sessions.specs.Input.{worth, Worth, read, spelled, pieceAt, Ends, Spelled}

@@ -6,8 +6,8 @@ use native.Mathlib.Omega.{arith}
 use lib.Dec.{leb}
 use borrow.Author.Tests.{le-leb, lt-leb}
 use Rattle.spec.specs.Lists.{within}
-use Rattle.theorems.proofs.Branch.{if-true, if-false, and-false}
-use Rattle.theorems.proofs.Members.{and-true}
+use Rattle.laws.proofs.Branch.{if-true, if-false, and-false}
+use Rattle.laws.proofs.Members.{and-true}
 use Rattle.sessions.specs.Input.{worth, Worth}
 
 module _ (lo hi b : ℕ) where

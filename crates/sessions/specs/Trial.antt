@@ -4,7 +4,7 @@ use mathlib.Core.List.{List, _++_}
 use Prim.Native.Nat.{ℕ, _+_, _*_, _<_, min}
 use lib.ListN.{length, take, drop}
 use Rattle.spec.specs.Answer.{Answer, answer, room-after, output-after}
-use Rattle.steps.specs.Runs.{Mem}
+use Rattle.layout.specs.Buffers.{Mem}
 use Rattle.sessions.specs.Input.{numberAt, pieceAt, coded}
 use Rattle.sessions.specs.Room.{marks}
 use Rattle.sessions.specs.declared.trial.Case.{Case}

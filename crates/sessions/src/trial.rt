@@ -11,8 +11,8 @@ ghost use mathlib.Core.Path.{_≡_};
 ghost use Prim.Native.Nat.{_≤_, _<_, min};
 ghost use lib.ListN.{length};
 ghost use Rattle.spec.specs.Answer.{answer};
+ghost use Rattle.layout.specs.Buffers.{buffers};
 ghost use Rattle.io.specs.Counts.{Counts};
-ghost use Rattle.steps.specs.Runs.{buffers};
 ghost use Rattle.answer.specs.Contracts.{lentOf};
 ghost use Rattle.sessions.specs.Trial.{caseAt, Marked, Told, reply, Lending, Tried};
 

@@ -1,5 +1,5 @@
 -- Document 01, "Lent buffers, and what comes back": the refusals in their order, and the whole answer. Assumes nothing.
-use Prim.Native.Nat.{ℕ, zero, suc, _+_, _*_}
+use Prim.Native.Nat.{ℕ, zero, suc}
 use mathlib.Core.List.{List, [], _++_}
 use lib.Dec.{leb, ltb}
 use lib.ListN.{length, drop, replicate}
@@ -8,7 +8,7 @@ use Rattle.spec.specs.Walk.{instructions}
 use Rattle.spec.specs.Blocks.{blocks}
 use Rattle.spec.specs.Search.{Node, nodes, St, search}
 use Rattle.spec.specs.Ending.{finals, pruned}
-use Rattle.spec.specs.Rooms.{Lent, units, shortage}
+use Rattle.spec.specs.Rooms.{longest, work-need, Lent, units, shortage}
 use Rattle.spec.specs.Entries.{Map, bytes}
 
 pub data Answer : Type 0 where
@@ -51,9 +51,9 @@ answer l limit code =
     let s = searched limit code in
     let ok = within-out l (mapped code s) in
     let run = within-rooms ok (shortage l (s .needs)) in
-    if (ltb 24576 (length code)) (refused 1)
+    if (ltb longest (length code)) (refused 1)
     (if (ltb 500000 limit) (refused 2)
-    (if (ltb (l .w) (64 * length code + 256)) (refused 3) run))
+    (if (ltb (l .w) (work-need (length code))) (refused 3) run))
 
 -- ---- what a call leaves in the lent buffers, and what the exported entry gives
 

@@ -6,6 +6,7 @@ use mathlib.Core.List.{List}
 use lib.ListN.{length, take, drop}
 use Rattle.spec.specs.Walk.{walk, instructions, from}
 use Rattle.spec.specs.Stacks.{Sym, before, entry, cells, Ran, runs, run}
+use Rattle.spec.specs.Rooms.{longest}
 use Rattle.state.specs.Symbols.{symOf}
 use Rattle.state.specs.Cells.{symAt, Cells, reach, Lies}
 use Rattle.state.specs.Bounds.{Bounded}
@@ -26,7 +27,7 @@ roomOf code = 9 * (length code + 17)
 -- the walk of the code comes to `start`, so that what is left of it is the walk from there; and the part of w is there
 pub record Runs (code : List ℕ) (start : ℕ) (w : List ℕ) (end : ℕ) : Type 0 where
   pub stands : from start (instructions code) ≡ walk (drop start code) start 0
-  pub short : length code ≤ 24576
+  pub short : length code ≤ longest
   pub inside : end ≤ length w
   pub room : roomOf code ≤ end
 

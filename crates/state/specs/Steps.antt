@@ -9,6 +9,7 @@ use Rattle.spec.specs.Lists.{if}
 use Rattle.spec.specs.Opcodes.{argument}
 use Rattle.spec.specs.Walk.{Ins, big}
 use Rattle.spec.specs.Stacks.{Sym, Stack, read, Does, pushes-value, pushes-pc, dups, swaps, ands, adds, jumps, jumpis, lands, halts, plain, does, act, Ran, still}
+use Rattle.spec.specs.Rooms.{longest}
 use Rattle.state.specs.Symbols.{symOf}
 use Rattle.state.specs.Working.{stackOf, endOf, Held, Free, Moves}
 use Rattle.state.specs.declared.top.Top.{Top}
@@ -75,7 +76,7 @@ pub record Pushes (w : List ℕ) (t : Top) (code : List ℕ) (pc n : ℕ) : Type
 -- SWAP16 may put seventeen, and takes seventeen words at most. Its part of w has a cell for each byte of code, and seventeen.
 pub record Steps (code : List ℕ) (pc op : ℕ) (w : List ℕ) (t : Top) : Type 0 where
   pub whole : pc + suc (argument op) ≤ length code
-  pub short : length code ≤ 24576
+  pub short : length code ≤ longest
   pub room : 9 * (length code + 17) ≤ endOf t
   pub held : Held w t
   pub few : t .n ≤ 16 + pc

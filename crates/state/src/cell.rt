@@ -11,14 +11,23 @@ ghost use lib.ListN.{length};
 ghost use Rattle.state.specs.Symbols.{symOf};
 ghost use Rattle.state.specs.Cells.{symAt, symbol, PutAs, Put};
 
+// The tag of each kind of symbol.
+pub const BEFORE: usize = 0;
+
+pub const CONSTANT: usize = 1;
+
+pub const JUMPDEST: usize = 2;
+
+pub const OTHER: usize = 3;
+
 // The symbol of a tag and a number.
 fn symbol_of(tag: usize, n: usize) -> StackSym
     ensures { λ r. ⌜ symOf r ≡ symbol tag n ⌝ }
 {
     match tag {
-        0 => StackSym::Before(n),
-        1 => StackSym::Constant(n),
-        2 => StackSym::Jumpdest(n),
+        BEFORE => StackSym::Before(n),
+        CONSTANT => StackSym::Constant(n),
+        JUMPDEST => StackSym::Jumpdest(n),
         _ => StackSym::Other(n),
     }
 }
@@ -46,9 +55,9 @@ pub fn put_cell(b: &mut [u8], at: usize, x: StackSym)
     ensures { λ _. ⌜ Put (now (b .entry)) at (symOf x) (now (b .exit)) ⌝ }
 {
     match x {
-        StackSym::Before(n) => put_tagged(b, at, 0, n),
-        StackSym::Constant(n) => put_tagged(b, at, 1, n),
-        StackSym::Jumpdest(n) => put_tagged(b, at, 2, n),
-        StackSym::Other(n) => put_tagged(b, at, 3, n),
+        StackSym::Before(n) => put_tagged(b, at, BEFORE, n),
+        StackSym::Constant(n) => put_tagged(b, at, CONSTANT, n),
+        StackSym::Jumpdest(n) => put_tagged(b, at, JUMPDEST, n),
+        StackSym::Other(n) => put_tagged(b, at, OTHER, n),
     }
 }

@@ -6,6 +6,24 @@ use crate::top::Top;
 use crate::trade::trade;
 use crate::words::add;
 use crate::words::and;
+use evm::op::ADD;
+use evm::op::AND;
+use evm::op::DUP1;
+use evm::op::DUP16;
+use evm::op::INVALID;
+use evm::op::JUMP;
+use evm::op::JUMPDEST;
+use evm::op::JUMPI;
+use evm::op::PC;
+use evm::op::PUSH0;
+use evm::op::PUSH1;
+use evm::op::PUSH4;
+use evm::op::RETURN;
+use evm::op::REVERT;
+use evm::op::SELFDESTRUCT;
+use evm::op::STOP;
+use evm::op::SWAP1;
+use evm::op::SWAP16;
 use evm::walk::argument_at;
 ghost use mathlib.Core.Path.{_≡_};
 ghost use Prim.Native.Nat.{_+_, _-_, _≤_};
@@ -14,42 +32,6 @@ ghost use Rattle.spec.specs.Walk.{ins};
 ghost use Rattle.spec.specs.Stacks.{Stack, read, pops, push, from-value};
 ghost use Rattle.state.specs.Working.{stackOf, Ready, Near, Becomes};
 ghost use Rattle.state.specs.Steps.{leaps, next, spelt, Pushes, Steps, Turns};
-
-const STOP: u8 = 0x00;
-
-const ADD: u8 = 0x01;
-
-const AND: u8 = 0x16;
-
-const JUMP: u8 = 0x56;
-
-const JUMPI: u8 = 0x57;
-
-const PC: u8 = 0x58;
-
-const JUMPDEST: u8 = 0x5b;
-
-const PUSH0: u8 = 0x5f;
-
-const PUSH1: u8 = 0x60;
-
-const PUSH4: u8 = 0x63;
-
-const DUP1: u8 = 0x80;
-
-const DUP16: u8 = 0x8f;
-
-const SWAP1: u8 = 0x90;
-
-const SWAP16: u8 = 0x9f;
-
-const RETURN: u8 = 0xf3;
-
-const REVERT: u8 = 0xfd;
-
-const INVALID: u8 = 0xfe;
-
-const SELFDESTRUCT: u8 = 0xff;
 
 // What an instruction leaves: the run goes on, ends, or jumps to where a symbol says.
 pub enum Turn {

@@ -1,5 +1,6 @@
 // A symbol of a block's stack.
 // "A symbol is Before(n), Constant(v), Jumpdest(v) or Other(pc)."
+use evm::op::JUMPDEST;
 ghost use mathlib.Core.Path.{_≡_};
 ghost use Rattle.spec.specs.Stacks.{known-value, from-value, is, mask};
 ghost use Rattle.state.specs.Symbols.{symOf, knownOf};
@@ -49,7 +50,7 @@ impl StackSym {
         ensures { λ r. ⌜ symOf r ≡ from-value (now (code .entry)) value ⌝ }
     {
         if value < code.len() {
-            if code[value] == 0x5b {
+            if code[value] == JUMPDEST {
                 return StackSym::Jumpdest(value);
             }
         }

@@ -10,13 +10,15 @@ use borrow.Author.Tests.{ltb-true, lt-ltb, le-ltb, le-leb, lt-leb}
 use Rattle.spec.specs.Lists.{if}
 use Rattle.spec.specs.Rooms.{or-else}
 use Rattle.lent.specs.Bytes.{numAt, Holds}
-use Rattle.tables.specs.Records.{endOf}
-use Rattle.parents.specs.Links as links
-use Rattle.parents.specs.Links.{startOf}
+use Rattle.layout.specs.Rows as rows
 use Rattle.parents.specs.Contracts.{Number, Link}
-use Rattle.theorems.proofs.Branch.{both}
-use Rattle.theorems.proofs.Members.{and-both}
-use Rattle.steps.specs.Cursors.{foundFirst, clipped, firstCursor, nextCursor, lastCursor, Cursor, Asks}
+use Rattle.laws.proofs.Branch.{both}
+use Rattle.laws.proofs.Members.{and-both}
+use Rattle.steps.specs.Cursors.{clipped, firstCursor, nextCursor, lastCursor, Cursor, Asks}
+use Rattle.layout.specs.Fields.{firstFoundAt, FIRST-FOUND}
+use Rattle.layout.specs.Parts.{fieldsPlace}
+use Rattle.layout.specs.Records.{RECORD, recordPlace, R-ENDS, R-NEXT, endOf}
+use Rattle.layout.specs.Rows.{startOf}
 
 -- ---- a link to a found parent
 
@@ -48,52 +50,52 @@ or-first (suc a) b d = refl
 -- ---- what they read
 
 module _ {w r : List ℕ} {n at : ℕ} where
-  pub row-found : Cursor w r n at → 0x10000 ≤ at → 32 * (at - 0x10000) + 32 ≤ length r
+  pub row-found : Cursor w r n at → 0x10000 ≤ at → recordPlace (at - 0x10000) + RECORD ≤ length r
   row-found h l = h .found l
 
   pub row-direct : Cursor w r n at → at < 0x10000 → Link w at
   row-direct h l = record { some = h .some; inside = h .direct l }
 
 module _ {r q : List ℕ} {at : ℕ} where
-  pub row-asked : Asks r q at → 0x10000 ≤ at → 32 * (at - 0x10000) + 32 ≤ length r
+  pub row-asked : Asks r q at → 0x10000 ≤ at → recordPlace (at - 0x10000) + RECORD ≤ length r
   row-asked h l = h .row l
 
-  pub path-asked : {x : ℕ} → Asks r q at → 0x10000 ≤ at → Holds 4 r (32 * (at - 0x10000) + 4) x → (1 ≤ x) × (2 * x ≤ length q)
+  pub path-asked : {x : ℕ} → Asks r q at → 0x10000 ≤ at → Holds 4 r (recordPlace (at - 0x10000) + R-ENDS) x → (1 ≤ x) × (2 * x ≤ length q)
   unfolding endOf
   path-asked h l e = rw (e .is) (h .path l)
 
 -- ---- what they give
 
 module _ (w : List ℕ) (n b opened : ℕ) where
-  pub found-first : {x y : ℕ} → Holds 4 w (20 * (n + 1) + 20 * b + 4) x → y ≡ clipped opened x → y ≡ clipped opened (foundFirst w n b)
+  pub found-first : {x y : ℕ} → Holds 4 w (fieldsPlace n b + FIRST-FOUND) x → y ≡ clipped opened x → y ≡ clipped opened (firstFoundAt w n b)
   found-first h e = e ∙ ap (clipped opened) (h .is)
 
-  pub first-direct : {x : ℕ} → Number x (links.firstAt w b) 2 → (x ≡ 0 → ⊥) → x ≡ firstCursor w n b opened
+  pub first-direct : {x : ℕ} → Number x (rows.firstAt w b) 2 → (x ≡ 0 → ⊥) → x ≡ firstCursor w n b opened
   unfolding firstCursor
-  first-direct h d = or-first _ _ d ∙ ap (λ (a : ℕ). or-else a (clipped opened (foundFirst w n b))) (h .is)
+  first-direct h d = or-first _ _ d ∙ ap (λ (a : ℕ). or-else a (clipped opened (firstFoundAt w n b))) (h .is)
 
-  pub first-other : {x y : ℕ} → Number x (links.firstAt w b) 2 → x ≡ 0 → y ≡ clipped opened (foundFirst w n b) → y ≡ firstCursor w n b opened
+  pub first-other : {x y : ℕ} → Number x (rows.firstAt w b) 2 → x ≡ 0 → y ≡ clipped opened (firstFoundAt w n b) → y ≡ firstCursor w n b opened
   unfolding firstCursor
-  first-other h z e = e ∙ ap (λ (a : ℕ). or-else a (clipped opened (foundFirst w n b))) (sym z ∙ h .is)
+  first-other h z e = e ∙ ap (λ (a : ℕ). or-else a (clipped opened (firstFoundAt w n b))) (sym z ∙ h .is)
 
   module _ (r : List ℕ) (at : ℕ) where
-    pub next-found : {x y : ℕ} → 0x10000 ≤ at → Holds 4 r (32 * (at - 0x10000) + 12) x → y ≡ clipped opened x → y ≡ nextCursor w r n b opened at
+    pub next-found : {x y : ℕ} → 0x10000 ≤ at → Holds 4 r (recordPlace (at - 0x10000) + R-NEXT) x → y ≡ clipped opened x → y ≡ nextCursor w r n b opened at
     unfolding nextCursor if
     next-found l h e = rw (le-ltb at 0x10000 l) (e ∙ ap (clipped opened) (h .is))
 
-    pub next-direct : {x : ℕ} → at < 0x10000 → Number x (links.nextAt w at) 2 → (x ≡ 0 → ⊥) → x ≡ nextCursor w r n b opened at
+    pub next-direct : {x : ℕ} → at < 0x10000 → Number x (rows.nextAt w b at) 2 → (x ≡ 0 → ⊥) → x ≡ nextCursor w r n b opened at
     unfolding nextCursor if
-    next-direct l h d = rw (lt-ltb at 0x10000 l) (or-first _ _ d ∙ ap (λ (a : ℕ). or-else a (clipped opened (foundFirst w n b))) (h .is))
+    next-direct l h d = rw (lt-ltb at 0x10000 l) (or-first _ _ d ∙ ap (λ (a : ℕ). or-else a (clipped opened (firstFoundAt w n b))) (h .is))
 
-    pub next-other : {x y : ℕ} → at < 0x10000 → Number x (links.nextAt w at) 2 → x ≡ 0 → y ≡ clipped opened (foundFirst w n b) → y ≡ nextCursor w r n b opened at
+    pub next-other : {x y : ℕ} → at < 0x10000 → Number x (rows.nextAt w b at) 2 → x ≡ 0 → y ≡ clipped opened (firstFoundAt w n b) → y ≡ nextCursor w r n b opened at
     unfolding nextCursor if
-    next-other l h z e = rw (lt-ltb at 0x10000 l) (e ∙ ap (λ (a : ℕ). or-else a (clipped opened (foundFirst w n b))) (sym z ∙ h .is))
+    next-other l h z e = rw (lt-ltb at 0x10000 l) (e ∙ ap (λ (a : ℕ). or-else a (clipped opened (firstFoundAt w n b))) (sym z ∙ h .is))
 
 module _ (r q : List ℕ) (at : ℕ) where
   pub last-direct : {x : ℕ} → at < 0x10000 → x ≡ startOf at → x ≡ lastCursor r q at
   unfolding lastCursor if
   last-direct l e = rw (lt-ltb at 0x10000 l) e
 
-  pub last-found : {x y : ℕ} → 0x10000 ≤ at → Holds 4 r (32 * (at - 0x10000) + 4) x → Holds 2 q (2 * (x - 1)) y → y ≡ lastCursor r q at
+  pub last-found : {x y : ℕ} → 0x10000 ≤ at → Holds 4 r (recordPlace (at - 0x10000) + R-ENDS) x → Holds 2 q (2 * (x - 1)) y → y ≡ lastCursor r q at
   unfolding lastCursor if endOf
   last-found l h e = rw (le-ltb at 0x10000 l) (e .is ∙ ap (λ (x : ℕ). numAt 2 q (2 * (x - 1))) (h .is))

@@ -8,24 +8,26 @@ use lib.ListN.{length}
 use Rattle.spec.specs.Lists.{little}
 use Rattle.lent.specs.Bytes.{Holds, Stored}
 use Rattle.lent.proofs.Stored.{kept-take, kept-drop, kept-part, kept-num, read-back}
+use Rattle.layout.specs.Fields.{COUNT, SPARE, countAt}
+use Rattle.layout.specs.Parts.{rowsEnd, fieldsPlace, listPlace}
 use Rattle.tables.specs.Addrs.{addrs}
 use Rattle.tables.proofs.Addrs.{addrs-length}
 use Rattle.tables.proofs.Chains.{keyed}
 use Rattle.reachable.specs.Contracts.{Room}
-use Rattle.steps.specs.Paths.{countAt, occurs, Inside, OnPath, CountsOnly, Counting, Uncounting, Counted}
+use Rattle.steps.specs.Paths.{occurs, Inside, OnPath, CountsOnly, Counting, Uncounting, Counted}
 use Rattle.steps.proofs.Splits.{addrs-more, inside-at}
 use Rattle.steps.proofs.Occurs.{occurs-append, occurs-most, occurs-one, occurs-other}
 use Rattle.steps.proofs.Paths.{only-none, only-after}
 
 -- ---- a count that is stored
 
-module _ {n x : ℕ} (v : ℕ) {w w′ : List ℕ} (l : x ≤ n) (s : Stored 4 w (20 * (n + 1 + x) + 12) (little 4 v) w′) where
+module _ {n x : ℕ} (v : ℕ) {w w′ : List ℕ} (l : x ≤ n) (s : Stored 4 w (fieldsPlace n x + COUNT) (little 4 v) w′) where
   store-only : CountsOnly n w w′
   store-only = record {
-    front = kept-take s (20 * (n + 1)) (omega arith);
-    before = λ a h. kept-part s 12 (20 * (n + 1 + a)) (λ k. omega arith);
-    after = λ a h. kept-part s 4 (20 * (n + 1 + a) + 16) (λ k. omega arith);
-    back = kept-drop s (40 * (n + 1)) (omega arith);
+    front = kept-take s (rowsEnd n) (omega arith);
+    before = λ a h. kept-part s 12 (fieldsPlace n a) (λ k. omega arith);
+    after = λ a h. kept-part s 4 (fieldsPlace n a + SPARE) (λ k. omega arith);
+    back = kept-drop s (listPlace n) (omega arith);
     long = s .kept;
   }
 
@@ -36,7 +38,7 @@ module _ {n x : ℕ} (v : ℕ) {w w′ : List ℕ} (l : x ≤ n) (s : Stored 4 w
     where
       go : (a : ℕ) → a ≤ n → (a ≡ x) ⊎ (a ≡ x → ⊥) → countAt w′ n a ≡ occurs a other
       go a h (inl q) = rw q (read-back s b ∙ e)
-      go a h (inr q) = kept-num s 4 (20 * (n + 1 + a) + 12) (λ k. omega arith) ∙ o .counts a h ∙ sym (f a q)
+      go a h (inr q) = kept-num s 4 (fieldsPlace n a + COUNT) (λ k. omega arith) ∙ o .counts a h ∙ sym (f a q)
 
 -- ---- an address more
 
@@ -82,11 +84,11 @@ module _ {n from to : ℕ} {w p : List ℕ} where
     address : (j x : ℕ) → j < to → Holds 2 p (2 * j) x → x ≤ n
     address j x l g = inside-at p to j x (o .inside) l (g .is)
 
-    address-room : (x : ℕ) → x ≤ n → 20 * (n + 1 + x) + 12 + 4 ≤ length w₁
+    address-room : (x : ℕ) → x ≤ n → fieldsPlace n x + COUNT + 4 ≤ length w₁
     address-room x m = omega (arith, o .lent .room, o .counted .only .long)
 
     -- the counts are now those of the first j addresses
-    turned : (j x v : ℕ) {w₂ : List ℕ} → x ≤ n → Stored 4 w₁ (20 * (n + 1 + x) + 12) (little 4 v) w₂ → from ≤ j → j ≤ to → v ≡ occurs x (addrs p 0 j)
+    turned : (j x v : ℕ) {w₂ : List ℕ} → x ≤ n → Stored 4 w₁ (fieldsPlace n x + COUNT) (little 4 v) w₂ → from ≤ j → j ≤ to → v ≡ occurs x (addrs p 0 j)
         → ((a : ℕ) → (a ≡ x → ⊥) → occurs a (addrs p 0 j) ≡ occurs a (addrs p 0 i)) → Along n w p from to j w₂
     turned j x v l s lo hi e f = record {
       lent = o .lent;
@@ -105,10 +107,10 @@ module _ {n from to : ℕ} {w p : List ℕ} where
       next : x ≤ n
       next = address i x l g
 
-      pub count-room : 20 * (n + 1 + x) + 12 + 4 ≤ length w₁
+      pub count-room : fieldsPlace n x + COUNT + 4 ≤ length w₁
       count-room = address-room x next
 
-      pub count-turn : {v : ℕ} {w₂ : List ℕ} → Holds 4 w₁ (20 * (n + 1 + x) + 12) v → Stored 4 w₁ (20 * (n + 1 + x) + 12) (little 4 (v + 1)) w₂
+      pub count-turn : {v : ℕ} {w₂ : List ℕ} → Holds 4 w₁ (fieldsPlace n x + COUNT) v → Stored 4 w₁ (fieldsPlace n x + COUNT) (little 4 (v + 1)) w₂
           → Along n w p from to (i + 1) w₂
       count-turn {v} h s =
           turned (i + 1) x (v + 1) next s (omega (arith, o .low)) (omega arith) (omega (arith, h .is, o .counted .counts .counts x next, more-here p i g))
@@ -122,16 +124,16 @@ module _ {n from to : ℕ} {w p : List ℕ} where
       back = omega arith
 
       -- it is once more on the path than without its last address
-      last-is : {v : ℕ} → Holds 4 w₁ (20 * (n + 1 + x) + 12) v → v ≡ occurs x (addrs p 0 (i - 1)) + 1
+      last-is : {v : ℕ} → Holds 4 w₁ (fieldsPlace n x + COUNT) v → v ≡ occurs x (addrs p 0 (i - 1)) + 1
       last-is h = h .is ∙ o .counted .counts .counts x last ∙ rw back at (more-here p (i - 1) g)
 
-      pub uncount-room : 20 * (n + 1 + x) + 12 + 4 ≤ length w₁
+      pub uncount-room : fieldsPlace n x + COUNT + 4 ≤ length w₁
       uncount-room = address-room x last
 
-      pub uncount-some : {v : ℕ} → Holds 4 w₁ (20 * (n + 1 + x) + 12) v → 1 ≤ v
+      pub uncount-some : {v : ℕ} → Holds 4 w₁ (fieldsPlace n x + COUNT) v → 1 ≤ v
       uncount-some h = omega (arith, last-is h)
 
-      pub uncount-turn : {v : ℕ} {w₂ : List ℕ} → Holds 4 w₁ (20 * (n + 1 + x) + 12) v → Stored 4 w₁ (20 * (n + 1 + x) + 12) (little 4 (v - 1)) w₂
+      pub uncount-turn : {v : ℕ} {w₂ : List ℕ} → Holds 4 w₁ (fieldsPlace n x + COUNT) v → Stored 4 w₁ (fieldsPlace n x + COUNT) (little 4 (v - 1)) w₂
           → Along n w p from to (i - 1) w₂
       uncount-turn {v} h s =
           turned (i - 1) x (v - 1) last s (omega arith) (omega (arith, o .high)) (omega (arith, last-is h))

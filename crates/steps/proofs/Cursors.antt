@@ -14,20 +14,23 @@ use Rattle.spec.specs.Search.{Parent, Rec, found-parents, direct, Turn, St, par
 use Rattle.spec.specs.Answer.{prepared}
 use Rattle.spec.specs.Rooms.{or-else}
 use Rattle.lent.specs.Bytes.{numAt}
-use Rattle.tables.specs.Records as records
-use Rattle.tables.specs.Records.{endOf, pathAt, recsOf}
+use Rattle.layout.specs.Records as records
+use Rattle.tables.specs.Records.{pathAt, recsOf}
 use Rattle.tables.specs.Tables.{mem, recs, Tables}
 use Rattle.tables.specs.declared.Rooms.{Rooms}
 use Rattle.tables.specs.declared.Counts.{Counts}
-use Rattle.parents.specs.Links as links
-use Rattle.parents.specs.Links.{startOf, Parents, directTo, fromOf}
+use Rattle.layout.specs.Rows as rows
+use Rattle.parents.specs.Links.{Parents, directTo, fromOf}
 use Rattle.parents.specs.Contracts.{Known}
 use Rattle.parents.proofs.Chains.{walk-parents, end-parents}
 use Rattle.parents.proofs.Knows.{parentOf, Comes, direct-comes, parents-again}
-use Rattle.theorems.proofs.Branch.{both}
-use Rattle.theorems.proofs.Members.{In, in-keep, in-map}
-use Rattle.theorems.proofs.Lists.{Rising, one-more}
-use Rattle.steps.specs.Cursors.{foundFirst, clipped, firstCursor, nextCursor, pathCursor, lastCursor, stackCursor, foundTo, live, Left, none-left, direct-left, found-left}
+use Rattle.laws.proofs.Branch.{both}
+use Rattle.laws.proofs.Members.{In, in-keep, in-map}
+use Rattle.laws.proofs.Lists.{Rising, one-more}
+use Rattle.steps.specs.Cursors.{clipped, firstCursor, nextCursor, pathCursor, lastCursor, stackCursor, foundTo, live, Left, none-left, direct-left, found-left}
+use Rattle.layout.specs.Fields.{firstFoundAt}
+use Rattle.layout.specs.Records.{endOf}
+use Rattle.layout.specs.Rows.{startOf}
 use Rattle.steps.proofs.Rises.{direct-rises}
 use Rattle.steps.proofs.Founds.{stateAt, following-left}
 
@@ -64,7 +67,7 @@ level-parents code t b st e =
 -- ---- what is left
 
 -- a direct parent, and if there is none what else is left
-pub or-left : {code w starts : List ℕ} {n b lo x : ℕ} {rs : List Rec} (link : ℕ) → Parents w n link starts → Rising lo starts → ((a : ℕ) → In a starts → Comes code a)
+pub or-left : {code w starts : List ℕ} {n b lo x : ℕ} {rs : List Rec} (link : ℕ) → Parents w n b link starts → Rising lo starts → ((a : ℕ) → In a starts → Comes code a)
     → Left code w n b rs x (foundTo b rs) → Left code w n b rs (or-else link x) (map (parentOf code b) starts ++ foundTo b rs)
 or-left zero p h c l = rw (end-parents p refl) l
 or-left (suc link) p h c l = direct-left {link = suc link} (omega arith) p h c
@@ -76,7 +79,7 @@ end-left (found-left h) e = absurd (omega arith)
 
 -- the found ones, from the first on
 pub all-found : (code : List ℕ) {w r q s : List ℕ} {n buckets : ℕ} {k : Rooms} {c : Counts} → Tables n buckets k (mem w r q s) c → (b : ℕ) → b ≤ n → (opened : ℕ) → opened ≤ c .records
-    → Left code w n b (recsOf r q s (k .s) opened) (clipped opened (foundFirst w n b)) (foundTo b (recsOf r q s (k .s) opened))
+    → Left code w n b (recsOf r q s (k .s) opened) (clipped opened (firstFoundAt w n b)) (foundTo b (recsOf r q s (k .s) opened))
 all-found code {w} {r} {q} {s} {n} {k = k} {c = c} t b inside opened most =
     rw (t .parents .firsts b inside) (following-left r q s (k .s) b opened code w n (c .records) (omega (arith, t .few)) most 0 (omega arith))
 
@@ -86,7 +89,7 @@ pub first-left : {code w r q s : List ℕ} {head buckets : ℕ} {k : Rooms} {c :
 unfolding firstCursor
 first-left {code} {w} {r} {q} {s} {k = k} {c = c} t known b inside opened e =
     rw (e, parents-again code b)
-    (or-left (links.firstAt w b) (known .parents b inside) (direct-rises code b) comes (all-found code t b inside opened (omega arith)))
+    (or-left (rows.firstAt w b) (known .parents b inside) (direct-rises code b) comes (all-found code t b inside opened (omega arith)))
   where
     comes : (a : ℕ) → In a (map fromOf (directTo b (prepared code))) → Comes code a
     comes a i =
@@ -108,7 +111,7 @@ module _ (at : ℕ) (l : at < 0x10000) where
   unfolding stackCursor if
   direct-stack code r s room = rw (lt-ltb at 0x10000 l)
 
-  pub direct-next : (w r : List ℕ) (n b opened : ℕ) → nextCursor w r n b opened at ≡ or-else (links.nextAt w at) (clipped opened (foundFirst w n b))
+  pub direct-next : (w r : List ℕ) (n b opened : ℕ) → nextCursor w r n b opened at ≡ or-else (rows.nextAt w b at) (clipped opened (firstFoundAt w n b))
   unfolding nextCursor if
   direct-next w r n b opened = rw (lt-ltb at 0x10000 l)
 
@@ -139,10 +142,10 @@ unfolding fuel if
 fuel-falls at next d l h =
     rw (ne-eqb at 0 d) (both (λ (x : ℕ). x < 0x80000000 - at) (eqb next 0) (λ _. omega arith) (λ e. omega (arith, h (eqb-false next 0 e))))
 
-pub link-rises : {w starts : List ℕ} {n lo link : ℕ} → Parents w n link starts → Rising lo starts → (link ≡ 0 → ⊥) → 2 * lo + 1 ≤ link
+pub link-rises : {w starts : List ℕ} {n t lo link : ℕ} → Parents w n t link starts → Rising lo starts → (link ≡ 0 → ⊥) → lo + 1 ≤ link
 link-rises {lo = lo} {link = link} p h d = go (subst (Rising lo) (walk-parents p d .is) h)
   where
-    go : {rest : List ℕ} → Rising lo (startOf link ∷ rest) → 2 * lo + 1 ≤ link
+    go : {rest : List ℕ} → Rising lo (startOf link ∷ rest) → lo + 1 ≤ link
     go (one-more l r) = omega arith
 
 pub or-rises : (at link x : ℕ) → ((link ≡ 0 → ⊥) → at < link) → ((x ≡ 0 → ⊥) → at < x) → (or-else link x ≡ 0 → ⊥) → at < or-else link x

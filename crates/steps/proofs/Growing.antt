@@ -9,13 +9,14 @@ use lib.Dec.{ltb}
 use lib.ListN.{length, take, drop}
 use borrow.Author.Tests.{lt-ltb, le-ltb}
 use Rattle.spec.specs.Lists.{little}
-use Rattle.theorems.proofs.Branch.{if-true, if-false}
+use Rattle.laws.proofs.Branch.{if-true, if-false}
 use Rattle.lent.specs.Bytes.{Holds, Stored}
 use Rattle.lent.proofs.Parts.{by-halves}
 use Rattle.lent.proofs.Stored.{kept-take, kept-drop, read-back, read-all}
-use Rattle.parents.specs.Links.{startOf}
+use Rattle.layout.specs.Records.{recordPlace, R-ENDS, endOf}
+use Rattle.layout.specs.Rows.{startOf}
 use Rattle.tables.specs.Addrs.{addrs}
-use Rattle.tables.specs.Records.{endOf, pathAt, Row}
+use Rattle.tables.specs.Records.{pathAt, Row}
 use Rattle.tables.proofs.Addrs.{addrs-length, addrs-prefix, addrs-within}
 use Rattle.tables.proofs.Lookup.{end-here}
 use Rattle.steps.specs.Cursors.{pathCursor}
@@ -88,7 +89,7 @@ module _ {p r q : List ℕ} {room np at : ℕ} (g : Growing p r q room np at) wh
     pub found-row : Row r q (at - 0x10000)
     found-row = g .found l
 
-    module _ {from e : ℕ} (a : from ≡ endOf r (at - 0x10000)) (h : Holds 4 r (32 * (at - 0x10000) + 4) e) where
+    module _ {from e : ℕ} (a : from ≡ endOf r (at - 0x10000)) (h : Holds 4 r (recordPlace (at - 0x10000) + R-ENDS) e) where
       ends : e ≡ endOf r (suc (at - 0x10000))
       ends = end-here r (at - 0x10000) h
 

@@ -7,25 +7,27 @@ use Prim.Native.Nat.{ℕ, zero, suc, _+_, _-_, _*_, _^_, _≤_, _<_}
 use native.Mathlib.Decide.{ℕ-discrete}
 use native.Mathlib.Omega.{arith}
 use lib.Dec.{eqb, ltb, leb}
-use lib.ListN.{length, take, drop, length-append}
+use lib.ListN.{length, take, length-append}
 use lib.Seq.{take-all, take-append-le}
 use borrow.Author.Tests.{lt-ltb, le-ltb, le-leb, lt-leb, eq-eqb, ne-eqb}
 use Rattle.spec.specs.Lists.{if, mem, little}
 use Rattle.spec.specs.Search.{Found, nowhere, found, Rec, dest, dests, kept}
-use Rattle.theorems.proofs.Branch.{both, if-true, if-false, and-false}
-use Rattle.theorems.proofs.Members.{gather-append}
+use Rattle.spec.specs.Entries.{absent}
+use Rattle.laws.proofs.Branch.{both, if-true, if-false, and-false}
+use Rattle.laws.proofs.Members.{gather-append}
 use Rattle.lent.specs.Bytes.{Stored}
 use Rattle.lent.proofs.Parts.{take-less}
 use Rattle.lent.proofs.Stored.{kept-take, kept-drop, kept-part, kept-num}
+use Rattle.layout.specs.Fields.{FIRST-FOUND, LAST-FOUND, COUNT, markAt}
+use Rattle.layout.specs.Parts.{rowsEnd, fieldsPlace, listPlace, bucketPlace, SameRows, SameFields, SameList, PastBuckets}
 use Rattle.state.specs.Cells.{stackAt}
-use Rattle.reachable.specs.Marks.{markAt}
 use Rattle.reachable.specs.Contracts.{Address, Marked}
 use Rattle.reachable.proofs.Tests.{mem-append, mem-one}
 use Rattle.reachable.proofs.Frames.{num-in}
 use Rattle.reachable.proofs.Marks.{by-mark, marked-others, marked-one}
 use Rattle.tables.specs.Addrs.{addrs}
 use Rattle.tables.specs.Tables as tables
-use Rattle.tables.specs.Tables.{recs, counted, SameLinks}
+use Rattle.tables.specs.Tables.{recs, counted, SameLinks, newFound, Enters, enters, enters-nowhere}
 use Rattle.tables.specs.Recording.{Recorded}
 use Rattle.tables.specs.declared.Rooms.{Rooms}
 use Rattle.tables.specs.declared.Counts.{Counts}
@@ -33,7 +35,7 @@ use Rattle.tables.specs.declared.Entry.{Entry}
 use Rattle.tables.specs.declared.Answer.{Answer}
 use Rattle.tables.proofs.Counted.{recs-length}
 use Rattle.tables.proofs.Uses.{tables-kept}
-use Rattle.tables.proofs.Noted.{recorded-more}
+use Rattle.tables.proofs.Noted.{new-nowhere, new-at, recorded-more}
 use Rattle.steps.specs.Lands.{Marks, Lands, remarked, Grows, Noted}
 use Rattle.steps.specs.declared.Plan.{Plan}
 
@@ -112,10 +114,10 @@ module _ {n since : ℕ} {w reached : List ℕ} {rs : List Rec} (o : Marks n w r
 
 record Spared (n buckets : ℕ) (w w′ : List ℕ) : Type 0 where
   links : SameLinks n buckets w w′
-  front : take (20 * (n + 1)) w′ ≡ take (20 * (n + 1)) w
-  rests : (a : ℕ) → a ≤ n → take 8 (drop (20 * (n + 1) + 20 * a + 12) w′) ≡ take 8 (drop (20 * (n + 1) + 20 * a + 12) w)
-  work : take (2 * (n + 1)) (drop (40 * (n + 1)) w′) ≡ take (2 * (n + 1)) (drop (40 * (n + 1)) w)
-  back : drop (42 * (n + 1) + 4 * buckets) w′ ≡ drop (42 * (n + 1) + 4 * buckets) w
+  front : SameRows n w w′
+  rests : SameFields 8 COUNT n w w′
+  work : SameList n w w′
+  back : PastBuckets n buckets w w′
 
 spared-all : {n buckets : ℕ} {w : List ℕ} → Spared n buckets w w
 spared-all =
@@ -130,20 +132,20 @@ spared-all =
 spared-mark : {n buckets a when : ℕ} {w w′ : List ℕ} → Address n w a → Marked n w a when w′ → Spared n buckets w w′
 spared-mark {n} {buckets} {a} {when} {w} {w′} i m = by-mark i m (λ _ s. stored s) (λ _ e. rw e spared-all)
   where
-    stored : Stored 4 w (20 * (n + 1 + a)) (little 4 when) w′ → Spared n buckets w w′
+    stored : Stored 4 w (fieldsPlace n a) (little 4 when) w′ → Spared n buckets w w′
     stored s =
         let b = i .inside in
         record {
           links = record {
-            firsts = λ y l. kept-num s 4 (20 * (n + 1) + 20 * y + 4) (λ g. omega arith);
-            lasts = λ y l. kept-num s 4 (20 * (n + 1) + 20 * y + 8) (λ g. omega arith);
-            heads = λ h l. kept-num s 4 (42 * (n + 1) + 4 * h) (λ g. omega arith);
+            firsts = λ y l. kept-num s 4 (fieldsPlace n y + FIRST-FOUND) (λ g. omega arith);
+            lasts = λ y l. kept-num s 4 (fieldsPlace n y + LAST-FOUND) (λ g. omega arith);
+            heads = λ h l. kept-num s 4 (bucketPlace n h) (λ g. omega arith);
             long = s .kept;
           };
-          front = kept-take s (20 * (n + 1)) (omega arith);
-          rests = λ y l. kept-part s 8 (20 * (n + 1) + 20 * y + 12) (λ g. omega arith);
-          work = kept-part s (2 * (n + 1)) (40 * (n + 1)) (λ g. omega arith);
-          back = kept-drop s (42 * (n + 1) + 4 * buckets) (omega arith);
+          front = kept-take s (rowsEnd n) (omega arith);
+          rests = λ y l. kept-part s 8 (fieldsPlace n y + COUNT) (λ g. omega arith);
+          work = kept-part s (2 * (n + 1)) (listPlace n) (λ g. omega arith);
+          back = kept-drop s (bucketPlace n buckets) (omega arith);
         }
 
 -- ---- noted: recorded, and marked if it is new
@@ -152,7 +154,7 @@ module _ {p : List ℕ} {np n buckets start : ℕ} {k : Rooms} {m m′ : tables.
   -- recording leaves the marks
   mark-recorded : (y : ℕ) → y ≤ n → markAt (m′ .w) n y ≡ markAt (m .w) n y
   mark-recorded y l =
-      num-in (m′ .w) (m .w) 4 (20 * (n + 1) + 20 * y) (h .beyond .apart .marks y l) 4 (20 * (n + 1 + y)) (omega arith) (omega arith)
+      num-in (m′ .w) (m .w) 4 (fieldsPlace n y) (h .beyond .apart .marks y l) 4 (fieldsPlace n y) (omega arith) (omega arith)
 
   -- and a count that a record more has as it was
   same-count : (f : Counts → ℕ) → f (counted c np (kept x)) ≡ f c → f (a .counts) ≡ f c
@@ -229,36 +231,56 @@ module _ {p : List ℕ} {np start : ℕ} {k : Plan} {w r q s w₁ r₁ q₁ s₁
   landed-old e = noted-by spared-all (λ _. refl) (λ g. absurd (omega arith))
 
 -- no destination: nothing to mark
-pub strayed : {p : List ℕ} {np start : ℕ} {k : Plan} {w r q s w₁ r₁ q₁ s₁ : List ℕ} {c : Counts} {a : Answer}
+strayed : {p : List ℕ} {np start : ℕ} {k : Plan} {w r q s w₁ r₁ q₁ s₁ : List ℕ} {c : Counts} {a : Answer}
     → Recorded p np (k .n) (k .buckets) (k .rooms) (tables.mem w r q s) c start nowhere (tables.mem w₁ r₁ q₁ s₁) a
     → Noted p np k (tables.mem w r q s) c start nowhere (tables.mem w₁ r₁ q₁ s₁) a
 strayed h = noted-by h spared-all (λ _. refl) (λ _ y l. sym (if-false false _ _ refl))
 
 -- the number of records, of which there are few, and two more
 pub lands-few : {p : List ℕ} {np : ℕ} {k : Plan} {m : tables.Mem} {c : Counts} {e : Entry} → Lands p np k m c e → c .records + 2 < 2 ^ 32
-lands-few y = let i = y .somewhere .tables .within in omega (arith, i .fitsR, i .mostR)
+lands-few y = let i = y .ready .tables .within in omega (arith, i .fitsR, i .mostR)
+
+-- a destination is an address
+lands-inside : {p : List ℕ} {np : ℕ} {k : Plan} {m : tables.Mem} {c : Counts} {e : Entry} → Lands p np k m c e → (e .to ≡ absent → ⊥) → e .to ≤ k .n
+lands-inside {k = k} {m = m} {e = e} y d = go (y .ready .entry)
+  where
+    go : Enters (k .n) (m .s) e → e .to ≤ k .n
+    go (enters-nowhere z _) = absurd (d z)
+    go (enters i _) = i
 
 module _ {p : List ℕ} {np : ℕ} {k : Plan} {w r q s w₁ r₁ q₁ s₁ : List ℕ} {c : Counts} {e : Entry} {a : Answer} (y : Lands p np k (tables.mem w r q s) c e)
-    (h : Recorded p np (k .n) (k .buckets) (k .rooms) (tables.mem w r q s) c (e .start) (found (e .to) (stackAt s (9 * e .from) (e .cells))) (tables.mem w₁ r₁ q₁ s₁) a) where
+    (h : Recorded p np (k .n) (k .buckets) (k .rooms) (tables.mem w r q s) c (e .start) (newFound s e) (tables.mem w₁ r₁ q₁ s₁) a) where
+  -- the same of where the entry leads
+  recorded-as : {x : Found} → newFound s e ≡ x → Recorded p np (k .n) (k .buckets) (k .rooms) (tables.mem w r q s) c (e .start) x (tables.mem w₁ r₁ q₁ s₁) a
+  recorded-as is = subst (λ (x : Found). Recorded p np (k .n) (k .buckets) (k .rooms) (tables.mem w r q s) c (e .start) x (tables.mem w₁ r₁ q₁ s₁) a) is h
+
+  noted-as : {x : Found} {w₂ : List ℕ} → newFound s e ≡ x → Noted p np k (tables.mem w r q s) c (e .start) x (tables.mem w₂ r₁ q₁ s₁) a
+      → Noted p np k (tables.mem w r q s) c (e .start) (newFound s e) (tables.mem w₂ r₁ q₁ s₁) a
+  noted-as {w₂ = w₂} is n = subst (λ (x : Found). Noted p np k (tables.mem w r q s) c (e .start) x (tables.mem w₂ r₁ q₁ s₁) a) (sym is) n
+
+  pub landed-nowhere : e .to ≡ absent → Noted p np k (tables.mem w r q s) c (e .start) (newFound s e) (tables.mem w₁ r₁ q₁ s₁) a
+  landed-nowhere z = let is = new-nowhere s e z in noted-as is (strayed (recorded-as is))
+
   -- what `mark` asks
-  pub lands-address : Address (k .n) w₁ (e .to)
-  lands-address =
+  pub lands-address : (e .to ≡ absent → ⊥) → Address (k .n) w₁ (e .to)
+  lands-address some-to =
       record {
         lent = record { short = y .lent .short; room = omega (arith, y .lent .room, h .beyond .apart .long) };
-        inside = y .somewhere .to;
+        inside = lands-inside y some-to;
       }
 
   -- a record was added, so its destination is marked
-  pub landed-new : {w₂ : List ℕ} → (a .counts .records ≡ c .records → ⊥) → Marked (k .n) w₁ (e .to) (c .records + 2) w₂
-      → Noted p np k (tables.mem w r q s) c (e .start) (found (e .to) (stackAt s (9 * e .from) (e .cells))) (tables.mem w₂ r₁ q₁ s₁) a
-  landed-new {w₂} d m =
-      noted-by h (spared-mark lands-address m) (λ g. absurd (d g)) (λ _ z l. marked z (ℕ-discrete z (e .to)))
+  pub landed-new : (e .to ≡ absent → ⊥) → {w₂ : List ℕ} → (a .counts .records ≡ c .records → ⊥) → Marked (k .n) w₁ (e .to) (c .records + 2) w₂
+      → Noted p np k (tables.mem w r q s) c (e .start) (newFound s e) (tables.mem w₂ r₁ q₁ s₁) a
+  landed-new some-to {w₂} d m =
+      let is : newFound s e ≡ found (e .to) (stackAt s (9 * e .from) (e .cells)) = new-at s e (y .ready .tables .few) (lands-inside y some-to) in
+      noted-as is (noted-by (recorded-as is) (spared-mark (lands-address some-to) m) (λ g. absurd (d g)) (λ _ z l. marked z (ℕ-discrete z (e .to))))
     where
       marked : (z : ℕ) → Dec (z ≡ e .to) → markAt w₂ (k .n) z ≡ remarked (mem z (e .to ∷ [])) (c .records) (markAt w₁ (k .n) z)
       marked z (yes i) =
-          rw (mem-one z (e .to), eq-eqb z (e .to) i, i) (marked-one lands-address m (lands-few y))
+          rw (mem-one z (e .to), eq-eqb z (e .to) i, i) (marked-one (lands-address some-to) m (lands-few y))
       marked z (no i) =
-          marked-others lands-address m z i ∙ sym (if-false (mem z (e .to ∷ []) && eqb (markAt w₁ (k .n) z) 0) _ _ (rw (mem-one z (e .to), ne-eqb z (e .to) i)))
+          marked-others (lands-address some-to) m z i ∙ sym (if-false (mem z (e .to ∷ []) && eqb (markAt w₁ (k .n) z) 0) _ _ (rw (mem-one z (e .to), ne-eqb z (e .to) i)))
 
 -- ---- for the caller: the older records stay
 

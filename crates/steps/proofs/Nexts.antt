@@ -7,26 +7,31 @@ use native.Mathlib.Omega.{arith}
 use lib.ListN.{length, take, drop, take-append-drop, drop-of-length-le}
 use Rattle.spec.specs.Lists.{lastOf}
 use Rattle.spec.specs.Search.{Parent, parent, found, Rec}
-use Rattle.spec.specs.Rooms.{or-else}
+use Rattle.spec.specs.Rooms.{or-else, longest}
+use Rattle.spec.specs.Entries.{absent}
 use Rattle.lent.specs.Bytes.{numAt}
 use Rattle.state.specs.Cells.{State}
 use Rattle.tables.specs.Addrs.{addrs}
 use Rattle.tables.specs.Chains.{following}
-use Rattle.tables.specs.Records as records
-use Rattle.tables.specs.Records.{none, toAt, endOf, keptOf, pathAt, recAt, recsOf, Row}
+use Rattle.layout.specs.Records as records
+use Rattle.tables.specs.Records.{pathAt, recAt, recsOf, Row}
 use Rattle.tables.specs.Tables.{mem, recs, Tables, Goes, leads-nowhere, leads}
 use Rattle.tables.specs.declared.Rooms.{Rooms}
 use Rattle.tables.specs.declared.Counts.{Counts}
 use Rattle.tables.proofs.Addrs.{addrs-length}
 use Rattle.tables.proofs.Chains.{following-is}
 use Rattle.tables.proofs.Counted.{recs-length}
-use Rattle.parents.specs.Links as links
-use Rattle.parents.specs.Links.{startOf, Parents}
+use Rattle.layout.specs.Rows as rows
+use Rattle.parents.specs.Links.{Parents}
 use Rattle.parents.proofs.Chains.{walk-parents, small-parents, parents-prefix}
 use Rattle.parents.proofs.Knows.{parentOf, Comes}
-use Rattle.theorems.proofs.Members.{In, here, there, in-only, in-right}
-use Rattle.theorems.proofs.Lists.{Rising, one-more}
-use Rattle.steps.specs.Cursors.{foundFirst, clipped, nextCursor, pathCursor, lastCursor, stackCursor, Cursor, Asks, foundTo, LeadsTo, Left, none-left, direct-left, found-left}
+use Rattle.laws.proofs.Members.{In, here, there, in-only, in-right}
+use Rattle.laws.proofs.Lists.{Rising, one-more}
+use Rattle.steps.specs.Cursors.{clipped, nextCursor, pathCursor, lastCursor, stackCursor, Cursor, Asks, foundTo, LeadsTo, Left, none-left, direct-left, found-left}
+use Rattle.layout.specs.Fields.{firstFoundAt}
+use Rattle.layout.specs.Parts.{rowsEnd, SameRows}
+use Rattle.layout.specs.Records.{toAt, endOf, keptOf}
+use Rattle.layout.specs.Rows.{startOf}
 use Rattle.steps.specs.Paths.{Inside}
 use Rattle.steps.specs.Sound.{SoundRecs}
 use Rattle.steps.proofs.Clips.{clip-some}
@@ -91,7 +96,7 @@ pub record NextLeft (code w r q s : List ℕ) (n b opened room m : ℕ) (rs : Li
   pub direct : at < 0x10000 → DirectNext code r q n at
   pub found : 0x10000 ≤ at → FoundNext code r q s n b room m rs at
 
-module _ (code : List ℕ) {w r q s : List ℕ} {n buckets : ℕ} {k : Rooms} {c : Counts} (t : Tables n buckets k (mem w r q s) c) (short : n ≤ 24576) (lent : 20 * (n + 1) ≤ length w)
+module _ (code : List ℕ) {w r q s : List ℕ} {n buckets : ℕ} {k : Rooms} {c : Counts} (t : Tables n buckets k (mem w r q s) c) (short : n ≤ longest) (lent : rowsEnd n ≤ length w)
     (b : ℕ) (inside : b ≤ n) (opened : ℕ) (most : opened ≤ c .records) where
   -- the records that were there
   abbrev rs : List Rec
@@ -101,18 +106,18 @@ module _ (code : List ℕ) {w r q s : List ℕ} {n buckets : ℕ} {k : Rooms} {c
   Next at ps = NextLeft code w r q s n b opened (k .s) (c .records) rs at ps
 
   -- a direct one
-  from-direct : (at lo : ℕ) {more : List ℕ} → 1 ≤ at → at < 0x10000 → startOf at ≤ n → Parents w n (links.nextAt w at) more → Rising lo (startOf at ∷ more)
+  from-direct : (at lo : ℕ) {more : List ℕ} → 1 ≤ at → at < 0x10000 → startOf at ≤ n → Parents w n b (rows.nextAt w b at) more → Rising lo (startOf at ∷ more)
       → ((a : ℕ) → In a (startOf at ∷ more) → Comes code a)
       → Next at (map (parentOf code b) (startOf at ∷ more) ++ foundTo b rs)
   from-direct at lo {more} some l start p (one-more _ h) comes =
       record {
         rest = map (parentOf code b) more ++ foundTo b rs;
         is = rw (path, direct-stack at l code r s (k .s));
-        left = rw next (or-left (links.nextAt w at) p h (λ a i. comes a (there i)) (all-found code t b inside opened most));
+        left = rw next (or-left (rows.nextAt w b at) p h (λ a i. comes a (there i)) (all-found code t b inside opened most));
         falls =
             rw next
-            (fuel-falls at (or-else (links.nextAt w at) (clipped opened (foundFirst w n b))) (λ e. omega arith) (omega arith)
-            (or-rises at (links.nextAt w at) (clipped opened (foundFirst w n b)) (λ d. omega (arith, link-rises p h d)) (λ d. omega (arith, clip-some opened (foundFirst w n b) d))));
+            (fuel-falls at (or-else (rows.nextAt w b at) (clipped opened (firstFoundAt w n b))) (λ e. omega arith) (omega arith)
+            (or-rises at (rows.nextAt w b at) (clipped opened (firstFoundAt w n b)) (λ d. omega (arith, link-rises p h d)) (λ d. omega (arith, clip-some opened (firstFoundAt w n b) d))));
         cursor = record { some = some; direct = λ _. omega arith; found = λ z. absurd (omega arith) };
         asks = record { some = some; row = λ z. absurd (omega arith); path = λ z. absurd (omega arith) };
         last = ap lastOf path ∙ sym last;
@@ -129,7 +134,7 @@ module _ (code : List ℕ) {w r q s : List ℕ} {n buckets : ℕ} {k : Rooms} {c
       last : lastCursor r q at ≡ startOf at
       last = direct-last at l r q
 
-      next : nextCursor w r n b opened at ≡ or-else (links.nextAt w at) (clipped opened (foundFirst w n b))
+      next : nextCursor w r n b opened at ≡ or-else (rows.nextAt w b at) (clipped opened (firstFoundAt w n b))
       next = direct-next at l w r n b opened
 
   -- a found one: record i leads to b
@@ -209,7 +214,7 @@ module _ (code : List ℕ) {w r q s : List ℕ} {n buckets : ℕ} {k : Rooms} {c
       i : ℕ
       i = at - 0x10000
 
-      few : b < none
+      few : b < absent
       few = omega (arith, t .few)
 
       below : i < opened
@@ -240,7 +245,7 @@ module _ (code : List ℕ) {w r q s : List ℕ} {n buckets : ℕ} {k : Rooms} {c
       next = found-next at l w r n b opened
 
   -- either
-  from-left : {w₀ : List ℕ} {at : ℕ} {ps : List Parent} → take (20 * (n + 1)) w ≡ take (20 * (n + 1)) w₀ → SoundRecs n rs
+  from-left : {w₀ : List ℕ} {at : ℕ} {ps : List Parent} → SameRows n w₀ w → SoundRecs n rs
       → Left code w₀ n b rs at ps → (at ≡ 0 → ⊥) → Next at ps
   from-left e sound none-left d = absurd (d refl)
   from-left {w₀} e sound (direct-left {link} {lo} some p h comes) d =
@@ -254,7 +259,7 @@ module _ (code : List ℕ) {w r q s : List ℕ} {n buckets : ℕ} {k : Rooms} {c
 
 -- With the records as they were when the level opened, and the buffers as they are now.
 pub next-left : {code w₀ w r q s : List ℕ} {n b buckets at : ℕ} {k : Rooms} {c : Counts} {rs : List Rec} {ps : List Parent} (opened : ℕ)
-    → n ≤ 24576 → b ≤ n → 20 * (n + 1) ≤ length w → Tables n buckets k (mem w r q s) c → take (20 * (n + 1)) w ≡ take (20 * (n + 1)) w₀
+    → n ≤ longest → b ≤ n → rowsEnd n ≤ length w → Tables n buckets k (mem w r q s) c → SameRows n w₀ w
     → rs ≡ take opened (recs k (mem w r q s) c) → opened ≤ c .records → SoundRecs n rs → Left code w₀ n b rs at ps → (at ≡ 0 → ⊥)
     → NextLeft code w r q s n b opened (k .s) (c .records) rs at ps
 next-left {code} {w₀} {w} {r} {q} {s} {n} {b} {at = at} {k} {c} {rs} {ps} opened short inside lent t e is most sound left d =

@@ -9,7 +9,7 @@ use lib.Dec.{eqb}
 use lib.ListN.{length}
 use borrow.Author.Tests.{eq-eqb, ne-eqb}
 use Rattle.spec.specs.Lists.{if, mem}
-use Rattle.theorems.proofs.Branch.{both, if-true, if-false}
+use Rattle.laws.proofs.Branch.{both, if-true, if-false}
 use Rattle.steps.specs.Paths.{occurs}
 
 pub occurs-append : (a : ℕ) (xs ys : List ℕ) → occurs a (xs ++ ys) ≡ occurs a xs + occurs a ys

@@ -10,11 +10,13 @@ use lib.ListN.{length}
 use Rattle.spec.specs.Lists.{mem}
 use Rattle.spec.specs.Stacks.{Stack}
 use Rattle.spec.specs.Search.{Found, kept, dest, S}
-use Rattle.theorems.proofs.Branch.{if-false}
-use Rattle.lent.proofs.Once.{Bytes, Same, Outside, same-num, same-both, same-as, same-then, same-rows, same-whole, same-outside}
+use Rattle.laws.proofs.Branch.{if-false}
+use Rattle.lent.proofs.Once.{Bytes, Same, Outside, same-num, same-both, same-as, same-then, same-whole, same-outside}
+use Rattle.layout.specs.Fields.{COUNT, SPARE, markAt}
+use Rattle.layout.specs.Parts.{ROW, fieldsPlace, listPlace}
+use Rattle.layout.proofs.Once.{same-to-list}
 use Rattle.state.specs.Owns.{roomOf}
 use Rattle.state.proofs.Once.{one-symbol, one-lies}
-use Rattle.reachable.specs.Marks.{markAt}
 use Rattle.tables.specs.Addrs.{addrs}
 use Rattle.tables.specs.Tables as tables
 use Rattle.tables.specs.Tables.{recs, counted}
@@ -66,9 +68,9 @@ one-noted {p} {np} {start} {k} {m} {m′} {m″} {c} {x} {a} {e} b d f g = go (k
           one-answer code counts,
           one-more (ap (λ (o : Counts). o .records) made) (omega (arith, f .tables .within .fitsS)) one (f .around .stays) (rw (sym counts) at (g .around .stays))
               (f .around .front ∙ sym (g .around .front))
-              (λ a h. same-as (same-num (b .w) (d .w) (long .w) 4 (20 * (k .n + 1 + a)) (marks counts a h)) (omega arith) refl)
-              (λ a h. same-both (20 * (k .n + 1) + 20 * a + 12) 8 (f .around .rests a h) (g .around .rests a h))
-              (same-both (40 * (k .n + 1)) (2 * (k .n + 1)) (f .around .work) (g .around .work))
+              (λ a h. same-as (same-num (b .w) (d .w) (long .w) 4 (fieldsPlace (k .n) a) (marks counts a h)) (omega arith) refl)
+              (λ a h. same-both (fieldsPlace (k .n) a + COUNT) 8 (f .around .rests a h) (g .around .rests a h))
+              (same-both (listPlace (k .n)) (2 * (k .n + 1)) (f .around .work) (g .around .work))
               (f .around .back ∙ sym (g .around .back)) b d,
         )
     go (inr z) o h =
@@ -117,16 +119,13 @@ one-grown {p} {more} {u} {v} {np} {room} {x} {y} b d f g = go (keyed x 0) (keyed
 pub one-counted : {n np : ℕ} {w p u v : List ℕ} → Bytes u → Bytes v → Counted n w p np u → Counted n w p np v → u ≡ v
 one-counted {n} {np} {w} {p} {u} {v} b d f g =
     let long : length u ≡ length v = f .only .long ∙ sym (g .only .long) in
-    let address : (a : ℕ) → a < n + 1 → Same u v (20 * (n + 1) + 20 * a) 20 =
+    let address : (a : ℕ) → a ≤ n → Same u v (fieldsPlace n a) ROW =
     λ a h.
-    let before : Same u v (20 * (n + 1 + a)) 12 = same-both (20 * (n + 1 + a)) 12 (f .only .before a (omega arith)) (g .only .before a (omega arith)) in
-    let count : Same u v (20 * (n + 1 + a) + 12) 4 =
-    same-num b d long 4 (20 * (n + 1 + a) + 12) (f .counts .counts a (omega arith) ∙ sym (g .counts .counts a (omega arith))) in
-    let after : Same u v (20 * (n + 1 + a) + 16) 4 = same-both (20 * (n + 1 + a) + 16) 4 (f .only .after a (omega arith)) (g .only .after a (omega arith)) in
-    same-as (same-then (same-then before count refl) after refl) (omega arith) refl in
-    let rows : Same u v 0 (20 * (n + 1)) = record { is = f .only .front ∙ sym (g .only .front) } in
-    let front : Same u v 0 (40 * (n + 1)) = same-as (same-then rows (same-rows (20 * (n + 1)) 20 (n + 1) address) (omega arith)) refl (omega arith) in
-    same-whole (40 * (n + 1)) front (f .only .back ∙ sym (g .only .back))
+    let before : Same u v (fieldsPlace n a) COUNT = same-both (fieldsPlace n a) COUNT (f .only .before a h) (g .only .before a h) in
+    let count : Same u v (fieldsPlace n a + COUNT) 4 = same-num b d long 4 (fieldsPlace n a + COUNT) (f .counts .counts a h ∙ sym (g .counts .counts a h)) in
+    let after : Same u v (fieldsPlace n a + SPARE) 4 = same-both (fieldsPlace n a + SPARE) 4 (f .only .after a h) (g .only .after a h) in
+    same-then (same-then before count refl) after refl in
+    same-whole (listPlace n) (same-to-list (f .only .front ∙ sym (g .only .front)) address) (f .only .back ∙ sym (g .only .back))
 
 -- ---- a parent's state
 

@@ -12,8 +12,8 @@ use Rattle.spec.specs.Stacks.{Stack, run}
 use Rattle.spec.specs.Search.{Node, nodes, settled, sides, Parent, parent, direct}
 use Rattle.spec.specs.Answer.{prepared}
 use Rattle.parents.specs.Links.{directTo, fromOf}
-use Rattle.theorems.proofs.Branch.{both}
-use Rattle.theorems.proofs.Lists.{Rising, none-left, one-more, rising-from}
+use Rattle.laws.proofs.Branch.{both}
+use Rattle.laws.proofs.Lists.{Rising, none-left, one-more, rising-from}
 use Rattle.theorems.proofs.Cutting.{starts-rise}
 
 -- one block more in front: of its sides, which differ, one at most leads to t

@@ -7,17 +7,18 @@ use native.Mathlib.Omega.{arith}
 use lib.ListN.{length, drop}
 use Rattle.spec.specs.Walk.{instructions}
 use Rattle.spec.specs.Stacks.{Sym, before, constant, jumpdest, other, Stack, reads, read, run, through, compose}
+use Rattle.spec.specs.Rooms.{longest}
 use Rattle.state.proofs.Reach.{depth-read, reach-compose}
-use Rattle.theorems.proofs.Members.{In, here, there, in-cases, in-map}
-use Rattle.theorems.proofs.Landing.{run-lands}
+use Rattle.laws.proofs.Members.{In, here, there, in-cases, in-map}
 use Rattle.parents.proofs.Goals.{run-deep}
+use Rattle.theorems.proofs.Landing.{run-lands}
 use Rattle.steps.specs.Sound.{SoundStack}
 
 pub sound-more : {n a b : ℕ} {s : Stack} → SoundStack n a s → a ≤ b → SoundStack n b s
 sound-more o h = record { deep = omega (arith, o .deep); lands = o .lands }
 
 -- a block's own, from any place
-pub sound-own : (code : List ℕ) → length code ≤ 24576 → (a : ℕ) → SoundStack (length code) 1 (run code (instructions code) a .stack)
+pub sound-own : (code : List ℕ) → length code ≤ longest → (a : ℕ) → SoundStack (length code) 1 (run code (instructions code) a .stack)
 sound-own code h a = record { deep = omega (arith, run-deep code a); lands = λ t i. omega (arith, run-lands code (instructions code) a t i) }
 
 -- ---- what is read

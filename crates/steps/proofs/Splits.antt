@@ -6,7 +6,7 @@ use Prim.Native.Nat.{ℕ, zero, suc, _+_, _-_, _*_, _≤_, _<_}
 use native.Mathlib.Nat.{add-zero, zero-add, suc-add}
 use native.Mathlib.Omega.{arith}
 use Rattle.lent.specs.Bytes.{numAt}
-use Rattle.theorems.proofs.Members.{In, here, in-left, in-right, in-cases}
+use Rattle.laws.proofs.Members.{In, here, in-left, in-right, in-cases}
 use Rattle.tables.specs.Addrs.{addrs}
 use Rattle.steps.specs.Paths.{Inside}
 

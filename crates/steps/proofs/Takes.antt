@@ -9,9 +9,11 @@ use Rattle.spec.specs.Lists.{if}
 use Rattle.spec.specs.Walk.{instructions}
 use Rattle.spec.specs.Stacks.{Stack, cells, read, run, compose}
 use Rattle.spec.specs.Search.{S}
-use Rattle.theorems.proofs.Branch.{if-true, if-false}
+use Rattle.laws.proofs.Branch.{if-true, if-false}
 use Rattle.lent.specs.Bytes.{Holds}
 use Rattle.lent.proofs.Stored.{kept-take, kept-drop}
+use Rattle.layout.specs.Records.{recordPlace, R-KEPT, keptOf}
+use Rattle.layout.specs.Rows.{startOf}
 use Rattle.state.specs.Symbols.{symOf}
 use Rattle.state.specs.Cells.{stackAt, State, reach}
 use Rattle.state.specs.Stored.{Readable}
@@ -21,11 +23,9 @@ use Rattle.state.specs.declared.sym.StackSym.{StackSym}
 use Rattle.state.specs.declared.run.Own.{Own}
 use Rattle.state.proofs.States.{state-lies, lies-count}
 use Rattle.state.proofs.Composing.{cells-compose}
-use Rattle.tables.specs.Records.{keptOf}
 use Rattle.tables.specs.Recording.{shortOf}
 use Rattle.tables.specs.declared.Rooms.{Rooms}
 use Rattle.tables.specs.declared.Counts.{Counts}
-use Rattle.parents.specs.Links.{startOf}
 use Rattle.steps.specs.Cursors.{stackCursor}
 use Rattle.steps.specs.States.{Composing, Took}
 use Rattle.steps.specs.declared.Plan.{Plan}
@@ -37,7 +37,7 @@ pub kept-none : {i : ℕ} (r : List ℕ) → i ≡ 0 → 0 ≡ keptOf r i
 unfolding keptOf
 kept-none r e = rw e
 
-pub kept-some : (i v : ℕ) (r : List ℕ) → (i ≡ 0 → ⊥) → Holds 4 r (32 * (i - 1) + 8) v → v ≡ keptOf r i
+pub kept-some : (i v : ℕ) (r : List ℕ) → (i ≡ 0 → ⊥) → Holds 4 r (recordPlace (i - 1) + R-KEPT) v → v ≡ keptOf r i
 unfolding keptOf
 kept-some zero v r n h = absurd (n refl)
 kept-some (suc i) v r n h = let e : suc i - 1 ≡ i = omega arith in rw e at (h .is)
@@ -171,7 +171,7 @@ module _ {code w s r : List ℕ} {k : Plan} {c : Counts} {l : Level} {at : ℕ} 
   same : Inside code w (k .end) w
   same = record { front = refl; back = refl; kept = refl }
 
-  module _ (h : 0x10000 ≤ at) {kept : ℕ} (a : Holds 4 r (32 * (at - 0x10000) + 8) kept) where
+  module _ (h : 0x10000 ≤ at) {kept : ℕ} (a : Holds 4 r (recordPlace (at - 0x10000) + R-KEPT) kept) where
     kept-is : kept ≡ keptOf r (suc (at - 0x10000))
     unfolding keptOf
     kept-is = a .is

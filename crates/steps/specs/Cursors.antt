@@ -10,31 +10,31 @@ use Rattle.spec.specs.Lists.{if, mem, lastOf, keep}
 use Rattle.spec.specs.Walk.{instructions}
 use Rattle.spec.specs.Stacks.{Stack, run}
 use Rattle.spec.specs.Search.{Parent, found, Rec, dests, found-parents}
-use Rattle.spec.specs.Rooms.{or-else}
+use Rattle.spec.specs.Rooms.{or-else, longest}
+use Rattle.laws.specs.Lists.{In, Rising}
 use Rattle.lent.specs.Bytes.{numAt}
+use Rattle.layout.specs.Fields.{firstFoundAt}
+use Rattle.layout.specs.Records as records
+use Rattle.layout.specs.Rows as rows
+use Rattle.layout.specs.Parts.{ROW, rowPlace, listPlace}
+use Rattle.layout.specs.Records.{RECORD, recordPlace, endOf, keptOf}
+use Rattle.layout.specs.Rows.{startOf}
 use Rattle.state.specs.Cells.{stackAt}
-use Rattle.tables.specs.Records as records
-use Rattle.tables.specs.Records.{endOf, keptOf, pathAt}
-use Rattle.parents.specs.Links as links
-use Rattle.parents.specs.Links.{startOf, Parents, parentOf, Comes}
-use Rattle.theorems.specs.Lists.{In, Rising}
+use Rattle.tables.specs.Records.{pathAt}
+use Rattle.parents.specs.Links.{Parents, parentOf, Comes}
 
 -- ---- the numbers
-
--- the link to the first found parent of the block b
-abbrev pub foundFirst : List ℕ → ℕ → ℕ → ℕ
-foundFirst w n b = records.firstAt w n b
 
 -- the number of a found parent, by the link to it, if it was there when the level opened
 unfoldable pub clipped : ℕ → ℕ → ℕ
 clipped opened link = if (ltb 0 link && leb link opened) (0x10000 + (link - 1)) 0
 
 unfoldable pub firstCursor : List ℕ → ℕ → ℕ → ℕ → ℕ
-firstCursor w n b opened = or-else (links.firstAt w b) (clipped opened (foundFirst w n b))
+firstCursor w n b opened = or-else (rows.firstAt w b) (clipped opened (firstFoundAt w n b))
 
 unfoldable pub nextCursor : List ℕ → List ℕ → ℕ → ℕ → ℕ → ℕ → ℕ
 nextCursor w r n b opened at =
-    if (ltb at 0x10000) (or-else (links.nextAt w at) (clipped opened (foundFirst w n b))) (clipped opened (records.nextAt r (at - 0x10000)))
+    if (ltb at 0x10000) (or-else (rows.nextAt w b at) (clipped opened (firstFoundAt w n b))) (clipped opened (records.nextAt r (at - 0x10000)))
 
 -- ---- the parent that a number stands for: its path, its last block, and its stack
 
@@ -53,20 +53,20 @@ stackCursor code r s room at =
 
 -- the rows of an address b lie in W
 pub record AtBlock (w : List ℕ) (n b : ℕ) : Type 0 where
-  pub short : n ≤ 24576
+  pub short : n ≤ longest
   pub inside : b ≤ n
-  pub room : 40 * (n + 1) ≤ length w
+  pub room : listPlace n ≤ length w
 
 -- a parent is there: a direct one's row in W, or a found one's in R
 pub record Cursor (w r : List ℕ) (n at : ℕ) : Type 0 where
   pub some : 1 ≤ at
-  pub direct : at < 0x10000 → 20 * startOf at + 20 ≤ length w
-  pub found : 0x10000 ≤ at → 32 * (at - 0x10000) + 32 ≤ length r
+  pub direct : at < 0x10000 → rowPlace (startOf at) + ROW ≤ length w
+  pub found : 0x10000 ≤ at → recordPlace (at - 0x10000) + RECORD ≤ length r
 
 -- and the last address of a found one's path in Q
 pub record Asks (r q : List ℕ) (at : ℕ) : Type 0 where
   pub some : 1 ≤ at
-  pub row : 0x10000 ≤ at → 32 * (at - 0x10000) + 32 ≤ length r
+  pub row : 0x10000 ≤ at → recordPlace (at - 0x10000) + RECORD ≤ length r
   pub path : 0x10000 ≤ at → (1 ≤ endOf r (suc (at - 0x10000))) × (2 * endOf r (suc (at - 0x10000)) ≤ length q)
 
 -- ---- what is left of a block's parents, with the records as they were when the level opened
@@ -90,6 +90,6 @@ pub record LeadsTo (b : ℕ) (recs : List Rec) (i : ℕ) : Type 0 where
 -- the starts of direct parents rise, and so do the links to them: a level's loop ends
 pub data Left (code w : List ℕ) (n b : ℕ) (recs : List Rec) : ℕ → List Parent → Type 0 where
   none-left : Left code w n b recs 0 []
-  direct-left : {link lo : ℕ} {starts : List ℕ} → 1 ≤ link → Parents w n link starts → Rising lo starts → ((a : ℕ) → In a starts → Comes code a)
+  direct-left : {link lo : ℕ} {starts : List ℕ} → 1 ≤ link → Parents w n b link starts → Rising lo starts → ((a : ℕ) → In a starts → Comes code a)
       → Left code w n b recs link (map (parentOf code b) starts ++ foundTo b recs)
   found-left : {i : ℕ} → LeadsTo b recs i → Left code w n b recs (0x10000 + i) (foundTo b (drop i recs))

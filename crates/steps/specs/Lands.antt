@@ -5,21 +5,23 @@ use mathlib.Core.Bool.{Bool, true, _&&_, _||_}
 use Prim.Native.Nat.{ℕ, _+_, _*_, _≤_}
 use mathlib.Core.List.{List, [], _∷_, _++_}
 use lib.Dec.{eqb, ltb}
-use lib.ListN.{length, take, drop}
+use lib.ListN.{length, take}
 use Rattle.spec.specs.Lists.{if, mem}
 use Rattle.spec.specs.Search.{Found, Rec, dest, dests, kept, St, Turn}
 use Rattle.spec.specs.Rooms.{Lent, or-else, shortage}
 use Rattle.theorems.specs.Needs.{clear}
-use Rattle.reachable.specs.Marks.{markAt, markedBy}
-use Rattle.reachable.specs.Contracts.{Room}
+use Rattle.layout.specs.Fields.{COUNT, markAt}
+use Rattle.layout.specs.Parts.{SameRows, SameFields, SameList, PastBuckets}
 use Rattle.tables.specs.Addrs.{addrs}
 use Rattle.tables.specs.Tables as tables
-use Rattle.tables.specs.Tables.{recs, counted, Tables, Nowhere, Somewhere, Stays}
+use Rattle.tables.specs.Tables.{recs, counted, Tables, Ready, Stays}
 use Rattle.tables.specs.Recording.{Lends, shortOf, entryNeeds, noted, Holding, with-recs, recorded?}
 use Rattle.tables.specs.declared.Rooms.{Rooms}
 use Rattle.tables.specs.declared.Counts.{Counts}
 use Rattle.tables.specs.declared.Entry.{Entry}
 use Rattle.tables.specs.declared.Answer.{Answer}
+use Rattle.reachable.specs.Marks.{markedBy}
+use Rattle.reachable.specs.Contracts.{Room}
 use Rattle.steps.specs.declared.Plan.{Plan}
 
 -- An address counts as reached, for a level that opens with j records, if the round began with it reached or one of those records leads there. That holds
@@ -30,11 +32,7 @@ pub record Marks (n : ℕ) (w reached : List ℕ) (since : ℕ) (rs : List Rec) 
 
 pub record Lands (p : List ℕ) (np : ℕ) (k : Plan) (m : tables.Mem) (c : Counts) (e : Entry) : Type 0 where
   pub lent : Room (k .n) (m .w)
-  pub somewhere : Somewhere p np (k .n) (k .buckets) (k .rooms) m c e
-
-pub record Strays (p : List ℕ) (np : ℕ) (k : Plan) (m : tables.Mem) (c : Counts) (start : ℕ) : Type 0 where
-  pub lent : Room (k .n) (m .w)
-  pub nowhere : Nowhere p np (k .n) (k .buckets) (k .rooms) m c start
+  pub ready : Ready p np (k .n) (k .buckets) (k .rooms) m c e
 
 -- the mark f of an address, when the record after the first l leads there (d) or not
 abbrev pub remarked : Bool → ℕ → ℕ → ℕ
@@ -43,10 +41,10 @@ remarked d l f = if (d && eqb f 0) (l + 2) f
 -- what stays, where the counts c became d: of R, Q and S every byte that is not a new record's but for an older one's link to the next parent, the cells
 -- in use at the bottom of S among them; of W the rows, the fields of each address from byte 12 on, the worklist and what lies past the buckets
 pub record Around (k : Plan) (m : tables.Mem) (c : Counts) (m′ : tables.Mem) (d : Counts) : Type 0 where
-  pub front : take (20 * (k .n + 1)) (m′ .w) ≡ take (20 * (k .n + 1)) (m .w)
-  pub rests : (a : ℕ) → a ≤ k .n → take 8 (drop (20 * (k .n + 1) + 20 * a + 12) (m′ .w)) ≡ take 8 (drop (20 * (k .n + 1) + 20 * a + 12) (m .w))
-  pub work : take (2 * (k .n + 1)) (drop (40 * (k .n + 1)) (m′ .w)) ≡ take (2 * (k .n + 1)) (drop (40 * (k .n + 1)) (m .w))
-  pub back : drop (42 * (k .n + 1) + 4 * k .buckets) (m′ .w) ≡ drop (42 * (k .n + 1) + 4 * k .buckets) (m .w)
+  pub front : SameRows (k .n) (m .w) (m′ .w)
+  pub rests : SameFields 8 COUNT (k .n) (m .w) (m′ .w)
+  pub work : SameList (k .n) (m .w) (m′ .w)
+  pub back : PastBuckets (k .n) (k .buckets) (m .w) (m′ .w)
   pub longW : length (m′ .w) ≡ length (m .w)
   pub stays : Stays (k .rooms) c d (m .r) (m .q) (m .s) (m′ .r) (m′ .q) (m′ .s)
   pub bottom : take (9 * c .used) (m′ .s) ≡ take (9 * c .used) (m .s)

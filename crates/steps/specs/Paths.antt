@@ -6,11 +6,12 @@ use mathlib.Core.List.{List, [], _∷_, _++_}
 use lib.Dec.{eqb}
 use lib.ListN.{length, take, drop}
 use Rattle.spec.specs.Lists.{if}
-use Rattle.lent.specs.Bytes.{numAt}
-use Rattle.theorems.specs.Lists.{In}
+use Rattle.laws.specs.Lists.{In}
+use Rattle.layout.specs.Fields.{SPARE, countAt}
+use Rattle.layout.specs.Parts.{SameRows, SameStart, SameFields, PastFields}
+use Rattle.layout.specs.Rows.{startOf}
 use Rattle.tables.specs.Addrs.{addrs}
 use Rattle.tables.specs.Records.{Row}
-use Rattle.parents.specs.Links.{startOf}
 use Rattle.reachable.specs.Contracts.{Room}
 
 -- ---- growing
@@ -35,10 +36,6 @@ pub record Grown (p : List ℕ) (np room : ℕ) (more p′ : List ℕ) (x : ℕ)
 
 -- ---- counts
 
--- how often the address a is on the path
-abbrev pub countAt : List ℕ → ℕ → ℕ → ℕ
-countAt w n a = numAt 4 w (20 * (n + 1 + a) + 12)
-
 unfoldable pub occurs : ℕ → List ℕ → ℕ
 occurs a [] = 0
 occurs a (x ∷ xs) = if (eqb a x) 1 0 + occurs a xs
@@ -52,10 +49,10 @@ pub record OnPath (n : ℕ) (w path : List ℕ) : Type 0 where
 
 -- W is as it was but for the counts
 pub record CountsOnly (n : ℕ) (w w′ : List ℕ) : Type 0 where
-  pub front : take (20 * (n + 1)) w′ ≡ take (20 * (n + 1)) w
-  pub before : (a : ℕ) → a ≤ n → take 12 (drop (20 * (n + 1 + a)) w′) ≡ take 12 (drop (20 * (n + 1 + a)) w)
-  pub after : (a : ℕ) → a ≤ n → take 4 (drop (20 * (n + 1 + a) + 16) w′) ≡ take 4 (drop (20 * (n + 1 + a) + 16) w)
-  pub back : drop (40 * (n + 1)) w′ ≡ drop (40 * (n + 1)) w
+  pub front : SameRows n w w′
+  pub before : SameStart 12 n w w′
+  pub after : SameFields 4 SPARE n w w′
+  pub back : PastFields n w w′
   pub long : length w′ ≡ length w
 
 pub record Counting (n : ℕ) (w p : List ℕ) (from to : ℕ) : Type 0 where

@@ -5,6 +5,7 @@ use mathlib.Core.List.{List, []}
 use Rattle.spec.specs.Search.{Rec, St}
 use Rattle.spec.specs.Rooms.{Lent, shortage}
 use Rattle.theorems.specs.Needs.{clear}
+use Rattle.layout.specs.Buffers.{Mem}
 use Rattle.tables.specs.Tables as tables
 use Rattle.tables.specs.Tables.{mem, recs}
 use Rattle.tables.specs.Recording.{Lends}
@@ -13,18 +14,6 @@ use Rattle.tables.specs.declared.Rooms.{Rooms}
 use Rattle.tables.specs.declared.Counts.{Counts}
 use Rattle.steps.specs.declared.Plan.{Plan}
 use Rattle.steps.specs.declared.Run.{Run}
-
--- the six buffers
-pub record Mem : Type 0 where
-  pub w : List ℕ
-  pub p : List ℕ
-  pub s : List ℕ
-  pub t : List ℕ
-  pub r : List ℕ
-  pub q : List ℕ
-
-abbrev pub buffers : List ℕ → List ℕ → List ℕ → List ℕ → List ℕ → List ℕ → Mem
-buffers w p s t r q = record { w = w; p = p; s = s; t = t; r = r; q = q }
 
 -- those that hold the records
 abbrev pub tabled : Mem → tables.Mem

@@ -5,8 +5,8 @@ use mathlib.Core.List.{List}
 use lib.ListN.{length}
 use Rattle.spec.specs.Stacks.{jumpdest, Stack}
 use Rattle.spec.specs.Search.{found, Rec}
+use Rattle.laws.specs.Lists.{In}
 use Rattle.state.specs.Cells.{reach}
-use Rattle.theorems.specs.Lists.{In}
 use Rattle.steps.specs.Paths.{Inside}
 
 -- the state of a path of m blocks reaches 2^19 words deep for each at most, and its Jumpdests lie in the code

@@ -5,13 +5,15 @@ use mathlib.Core.List.{List, [], _∷_}
 use lib.ListN.{length, take, drop}
 use Rattle.spec.specs.Stacks.{Stack, cells, read, compose}
 use Rattle.spec.specs.Search.{S}
+use Rattle.spec.specs.Rooms.{longest}
+use Rattle.layout.specs.Records.{RECORD, recordPlace, keptOf}
+use Rattle.layout.specs.Rows.{startOf}
 use Rattle.state.specs.Symbols.{symOf}
 use Rattle.state.specs.Cells.{stackAt, State, Lies, reach}
 use Rattle.state.specs.Owns.{roomOf}
-use Rattle.tables.specs.Records.{keptOf}
 use Rattle.tables.specs.Recording.{shortOf}
 use Rattle.tables.specs.declared.Counts.{Counts}
-use Rattle.parents.specs.Links.{startOf, Comes}
+use Rattle.parents.specs.Links.{Comes}
 use Rattle.steps.specs.Cursors.{stackCursor}
 use Rattle.steps.specs.declared.Plan.{Plan}
 use Rattle.steps.specs.declared.Level.{Level}
@@ -20,7 +22,7 @@ use Rattle.steps.specs.declared.state_of.Taken.{Taken}
 -- the level's state stands among the cells in use; the parent's is a block's own, or stands among the kept cells; no number passes 64 bits
 pub record Composing (code w s r : List ℕ) (k : Plan) (c : Counts) (l : Level) (at : ℕ) : Type 0 where
   pub some : 1 ≤ at
-  pub short : length code ≤ 24576
+  pub short : length code ≤ longest
   pub inW : k .end ≤ length w
   pub scratch : roomOf code ≤ k .end
   pub child : State s (9 * l .from) (l .cells)
@@ -29,7 +31,7 @@ pub record Composing (code w s r : List ℕ) (k : Plan) (c : Counts) (l : Level)
   pub lentS : 9 * k .rooms .s ≤ length s
   pub mostS : k .rooms .s ≤ 2 ^ 30
   pub direct : at < 0x10000 → Comes code (startOf at)
-  pub row : 0x10000 ≤ at → 32 * (at - 0x10000) + 32 ≤ length r
+  pub row : 0x10000 ≤ at → recordPlace (at - 0x10000) + RECORD ≤ length r
   pub kept : 0x10000 ≤ at → keptOf r (suc (at - 0x10000)) ≤ c .kept
   pub parent : 0x10000 ≤ at → State s (9 * (k .rooms .s - keptOf r (suc (at - 0x10000)))) (keptOf r (suc (at - 0x10000)) - keptOf r (at - 0x10000))
   pub deep : reach (stackAt s (9 * l .from) (l .cells)) ≤ 2 ^ 50

@@ -1,5 +1,10 @@
 // The parents of a block, one after the other: a number below `FOUND` is a link to a direct parent, any other a found one's record, and 0 is the end.
 // "Its parents are fixed when it opens: those then stored for its block whose path's last block is then reached, in the order first stored."
+use layout::field::FIRST_FOUND;
+use layout::record::ENDS;
+use layout::record::NEXT;
+use layout::record::RECORD;
+use layout::row::ROW;
 use lent::get16;
 use lent::get32;
 use parents::link::first_parent;
@@ -7,7 +12,8 @@ use parents::link::next_parent;
 use parents::link::parent_start;
 ghost use mathlib.Core.Path.{_≡_};
 ghost use Prim.Native.Nat.{_^_, _<_};
-ghost use Rattle.steps.specs.Cursors.{clipped, foundFirst, firstCursor, nextCursor, lastCursor, AtBlock, Cursor, Asks};
+ghost use Rattle.layout.specs.Fields.{firstFoundAt};
+ghost use Rattle.steps.specs.Cursors.{clipped, firstCursor, nextCursor, lastCursor, AtBlock, Cursor, Asks};
 
 // The least number of a found parent: it and the record's index.
 pub const FOUND: usize = 0x1_0000;
@@ -29,9 +35,9 @@ fn clip(link: usize, opened: usize) -> usize
 // The first found parent of the block b that was there when the level opened.
 fn first_found(w: &[u8], n: usize, b: usize, opened: usize) -> usize
     requires { ⌜ AtBlock (now w) n b ⌝ }
-    ensures { λ r. ⌜ r ≡ clipped opened (foundFirst (now (w .entry)) n b) ⌝ }
+    ensures { λ r. ⌜ r ≡ clipped opened (firstFoundAt (now (w .entry)) n b) ⌝ }
 {
-    clip(get32(w, 20 * (n + 1) + 20 * b + 4), opened)
+    clip(get32(w, ROW * (n + 1 + b) + FIRST_FOUND), opened)
 }
 
 // The first parent of the block b.
@@ -52,9 +58,9 @@ pub fn next_cursor(w: &[u8], r: &[u8], n: usize, b: usize, opened: usize, at: us
     ensures { λ x. ⌜ x ≡ nextCursor (now (w .entry)) (now (r .entry)) n b opened at ⌝ }
 {
     if FOUND <= at {
-        return clip(get32(r, 32 * (at - FOUND) + 12), opened);
+        return clip(get32(r, RECORD * (at - FOUND) + NEXT), opened);
     }
-    let link = next_parent(w, at);
+    let link = next_parent(w, b, at);
     if link != 0 {
         return link;
     }
@@ -69,5 +75,5 @@ pub fn last_block(r: &[u8], q: &[u8], at: usize) -> usize
     if at < FOUND {
         return parent_start(at);
     }
-    get16(q, 2 * (get32(r, 32 * (at - FOUND) + 4) - 1))
+    get16(q, 2 * (get32(r, RECORD * (at - FOUND) + ENDS) - 1))
 }

@@ -1,6 +1,10 @@
 // The path in hand, in P: growing it by a parent's path, and how often each address is on it, in W.
 // "A one-block parent already on the path is skipped. ... The path grows (room P)."
 use crate::cursor::FOUND;
+use layout::field::COUNT;
+use layout::record::ENDS;
+use layout::record::RECORD;
+use layout::row::ROW;
 use lent::copy;
 use lent::get16;
 use lent::get32;
@@ -11,12 +15,10 @@ use tables::end_before;
 ghost use mathlib.Core.Path.{_≡_};
 ghost use mathlib.Core.Bool.{not};
 ghost use lib.Dec.{eqb};
+ghost use Rattle.layout.specs.Fields.{countAt};
 ghost use Rattle.reachable.specs.Contracts.{Address};
 ghost use Rattle.steps.specs.Cursors.{pathCursor};
-ghost use Rattle.steps.specs.Paths.{countAt, Growing, Grown, Counting, Counted, Uncounting};
-
-// Where an address has its count on the path, among its 20 bytes.
-const COUNT: usize = 12;
+ghost use Rattle.steps.specs.Paths.{Growing, Grown, Counting, Counted, Uncounting};
 
 // Puts the path of the parent at `at` behind the np addresses in hand; gives how many there are then, or 0 if the room is short.
 pub fn grow(p: &mut [u8], r: &[u8], q: &[u8], room: usize, np: usize, at: usize) -> usize
@@ -31,7 +33,7 @@ pub fn grow(p: &mut [u8], r: &[u8], q: &[u8], room: usize, np: usize, at: usize)
         return np + 1;
     }
     let from = end_before(r, at - FOUND);
-    let len = get32(r, 32 * (at - FOUND) + 4) - from;
+    let len = get32(r, RECORD * (at - FOUND) + ENDS) - from;
     if room < np + len {
         return 0;
     }
@@ -44,7 +46,7 @@ pub fn on_path(w: &[u8], n: usize, a: usize) -> bool
     requires { ⌜ Address n (now w) a ⌝ }
     ensures { λ r. ⌜ r ≡ not (eqb (countAt (now (w .entry)) n a) 0) ⌝ }
 {
-    get32(w, 20 * (n + 1 + a) + COUNT) != 0
+    get32(w, ROW * (n + 1 + a) + COUNT) != 0
 }
 
 // Counts the addresses of the path from `from` to `to`.
@@ -54,7 +56,7 @@ pub fn count(w: &mut [u8], n: usize, p: &[u8], from: usize, to: usize)
 {
     let mut i = from;
     while i < to {
-        let at = 20 * (n + 1 + get16(p, 2 * i)) + COUNT;
+        let at = ROW * (n + 1 + get16(p, 2 * i)) + COUNT;
         put32(w, at, get32(w, at) + 1);
         i += 1;
     }
@@ -68,7 +70,7 @@ pub fn uncount(w: &mut [u8], n: usize, p: &[u8], from: usize, to: usize)
     let mut i = to;
     while from < i {
         i -= 1;
-        let at = 20 * (n + 1 + get16(p, 2 * i)) + COUNT;
+        let at = ROW * (n + 1 + get16(p, 2 * i)) + COUNT;
         put32(w, at, get32(w, at) - 1);
     }
 }

@@ -3,6 +3,8 @@
 use crate::Level;
 use crate::Plan;
 use crate::cursor::FOUND;
+use layout::record::KEPT;
+use layout::record::RECORD;
 use lent::get32;
 use parents::link::parent_start;
 use state::compose::compose_kept;
@@ -16,7 +18,7 @@ use tables::Counts;
 ghost use mathlib.Core.Path.{_≡_};
 ghost use Prim.Native.Nat.{_*_, _≤_, _<_};
 ghost use lib.ListN.{length};
-ghost use Rattle.tables.specs.Records.{keptOf};
+ghost use Rattle.layout.specs.Records.{recordPlace, keptOf};
 ghost use Rattle.steps.specs.Cursors.{stackCursor};
 ghost use Rattle.steps.specs.States.{Composing, Took};
 
@@ -79,7 +81,7 @@ fn take_found(
         (now (w .exit)) (now (s .exit)) x ⌝ }
 {
     let rooms = k.rooms;
-    let kept = get32(r, 32 * (at - FOUND) + 8);
+    let kept = get32(r, RECORD * (at - FOUND) + KEPT);
     let n = kept - kept_before(r, at - FOUND);
     let from = 9 * (rooms.s - kept);
     let symbol = symbol_at(s, from, n, l.position);
@@ -101,13 +103,13 @@ fn take_found(
 
 // The kept cells of the records before record i.
 fn kept_before(r: &[u8], i: usize) -> usize
-    requires { ⌜ 32 * i ≤ length (now r) ⌝ }
+    requires { ⌜ recordPlace i ≤ length (now r) ⌝ }
     ensures { λ x. ⌜ x ≡ keptOf (now (r .entry)) i ⌝ }
 {
     if i == 0 {
         return 0;
     }
-    get32(r, 32 * (i - 1) + 8)
+    get32(r, RECORD * (i - 1) + KEPT)
 }
 
 // Reads the symbol of the parent at `at` that the level asks for, and composes the level's state with the parent's, right after the cells in use.

@@ -10,16 +10,21 @@ use lib.Seq.{take-append-le, take-all}
 use borrow.Author.Tests.{eq-eqb, ne-eqb}
 use Rattle.spec.specs.Lists.{total}
 use Rattle.spec.specs.Search.{Found, nowhere, found, Rec, kept}
-use Rattle.theorems.proofs.Branch.{if-true, if-false}
+use Rattle.spec.specs.Entries.{absent}
+use Rattle.laws.proofs.Branch.{if-true, if-false}
 use Rattle.lent.specs.Bytes.{numAt}
 use Rattle.lent.proofs.Parts.{drop-more}
 use Rattle.lent.proofs.Once.{Bytes, Same, same-num, same-as, same-then, same-rows, same-whole}
+use Rattle.layout.specs.Fields.{FIRST-FOUND, LAST-FOUND, COUNT, firstFoundAt, lastFoundAt}
+use Rattle.layout.specs.Parts.{fieldsPlace, listPlace, bucketsPlace, bucketPlace, SameRows, PastBuckets}
+use Rattle.layout.specs.Records.{recordPlace, R-TO, R-FREE, startAt, toAt, nextAt, linkAt, sumAt, endOf, keptOf}
+use Rattle.layout.proofs.Once.{same-to-list}
 use Rattle.state.specs.Cells.{stackAt, Lies}
 use Rattle.state.proofs.Syms.{split}
 use Rattle.state.proofs.Once.{one-lies}
 use Rattle.tables.specs.Addrs.{addrs, pathSum}
 use Rattle.tables.specs.Chains.{newest, following}
-use Rattle.tables.specs.Records.{none, startAt, toAt, nextAt, linkAt, sumAt, endOf, keptOf, bucketAt, firstAt, lastAt, pathAt, foundAt, recAt, recsOf}
+use Rattle.tables.specs.Records.{bucketAt, pathAt, foundAt, recAt, recsOf}
 use Rattle.tables.specs.Tables.{Mem, recs, Goes, leads-nowhere, leads, Tables, Stays}
 use Rattle.tables.specs.declared.Rooms.{Rooms}
 use Rattle.tables.specs.declared.Counts.{Counts}
@@ -40,22 +45,22 @@ addrs-same {b} {d} p q long i (suc n) e =
 -- ---- tables with the same records: the bytes that these stand in, and the links
 
 abbrev target : Found → ℕ
-target nowhere = none
+target nowhere = absent
 target (found u s) = u
 
 module _ (r s : List ℕ) (room i : ℕ) {x : Found} (e : foundAt r s room i ≡ x) where
-  goes-nowhere : toAt r i ≡ none → nowhere ≡ x
+  goes-nowhere : toAt r i ≡ absent → nowhere ≡ x
   unfolding foundAt
-  goes-nowhere h = sym (if-true _ _ _ (eq-eqb (toAt r i) none h)) ∙ e
+  goes-nowhere h = sym (if-true _ _ _ (eq-eqb (toAt r i) absent h)) ∙ e
 
-  goes-found : (toAt r i ≡ none → ⊥) → found (toAt r i) (stackAt s (9 * (room - keptOf r (suc i))) (keptOf r (suc i) - keptOf r i)) ≡ x
+  goes-found : (toAt r i ≡ absent → ⊥) → found (toAt r i) (stackAt s (9 * (room - keptOf r (suc i))) (keptOf r (suc i) - keptOf r i)) ≡ x
   unfolding foundAt
-  goes-found h = sym (if-false _ _ _ (ne-eqb (toAt r i) none h)) ∙ e
+  goes-found h = sym (if-false _ _ _ (ne-eqb (toAt r i) absent h)) ∙ e
 
   goes-to : toAt r i ≡ target x
-  goes-to = go (keyed (toAt r i) none)
+  goes-to = go (keyed (toAt r i) absent)
     where
-      go : (toAt r i ≡ none) ⊎ (toAt r i ≡ none → ⊥) → toAt r i ≡ target x
+      go : (toAt r i ≡ absent) ⊎ (toAt r i ≡ absent → ⊥) → toAt r i ≡ target x
       go (inl h) = h ∙ ap target (goes-nowhere h)
       go (inr h) = ap target (goes-found h)
 
@@ -139,12 +144,12 @@ module _ {n buckets : ℕ} {k : Rooms} {m m′ : Mem} {c : Counts} (p : Tables n
 
   -- the rows of R but for their free bytes
   module _ (b : Bytes (m .r)) (d : Bytes (m′ .r)) (long : length (m .r) ≡ length (m′ .r)) where
-    row-bytes : (i : ℕ) → i < c .records → Same (m .r) (m′ .r) (32 * i) 24
+    row-bytes : (i : ℕ) → i < c .records → Same (m .r) (m′ .r) (recordPlace i) 24
     unfolding endOf keptOf
     row-bytes i l =
-        let at : (o : ℕ) → numAt 4 (m .r) (32 * i + o) ≡ numAt 4 (m′ .r) (32 * i + o) → Same (m .r) (m′ .r) (32 * i + o) 4 = λ o e. same-num b d long 4 (32 * i + o) e in
-        let front : Same (m .r) (m′ .r) (32 * i) 4 = same-then (same-num b d long 2 (32 * i) (starts i l)) (same-num b d long 2 (32 * i + 2) (tos i l)) refl in
-        let half : Same (m .r) (m′ .r) (32 * i) 12 = same-then (same-then front (at 4 (ends (suc i) l)) refl) (at 8 (kepts (suc i) l)) refl in
+        let at : (o : ℕ) → numAt 4 (m .r) (recordPlace i + o) ≡ numAt 4 (m′ .r) (recordPlace i + o) → Same (m .r) (m′ .r) (recordPlace i + o) 4 = λ o e. same-num b d long 4 (recordPlace i + o) e in
+        let front : Same (m .r) (m′ .r) (recordPlace i) 4 = same-then (same-num b d long 2 (recordPlace i) (starts i l)) (same-num b d long 2 (recordPlace i + R-TO) (tos i l)) refl in
+        let half : Same (m .r) (m′ .r) (recordPlace i) 12 = same-then (same-then front (at 4 (ends (suc i) l)) refl) (at 8 (kepts (suc i) l)) refl in
         same-then (same-then (same-then half (at 12 (nexts i l)) refl) (at 16 (links i l)) refl) (at 20 (sums i l)) refl
 
   -- the addresses of Q in use
@@ -164,7 +169,7 @@ module _ {n buckets : ℕ} {k : Rooms} {m m′ : Mem} {c : Counts} (p : Tables n
     where
       go : Goes n (k .s) (m .r) (m .s) i → Goes n (k .s) (m′ .r) (m′ .s) i
           → Same (m .s) (m′ .s) (9 * (k .s - keptOf (m .r) (suc i))) (9 * (keptOf (m .r) (suc i) - keptOf (m .r) i))
-      go (leads-nowhere e z) g = let none : 9 * (keptOf (m .r) (suc i) - keptOf (m .r) i) ≡ 0 = omega arith in rw none (record { is = refl })
+      go (leads-nowhere e z) g = let absent : 9 * (keptOf (m .r) (suc i) - keptOf (m .r) i) ≡ 0 = omega arith in rw absent (record { is = refl })
       go (leads e t) (leads-nowhere f z) = absurd (omega (arith, tos i h, p .few))
       go (leads e t) (leads f u) =
           let one = goes-found (m .r) (m .s) (k .s) i (founds i h) (omega (arith, p .few)) in
@@ -176,7 +181,7 @@ module _ {n buckets : ℕ} {k : Rooms} {m m′ : Mem} {c : Counts} (p : Tables n
           one-lies (record { state = t; is = refl }) (rw (← kepts (suc i) h, ← kepts i (omega arith)) at other)
 
   kept-bytes : (i : ℕ) → i ≤ c .records → Same (m .s) (m′ .s) (9 * (k .s - keptOf (m .r) i)) (9 * keptOf (m .r) i)
-  kept-bytes zero h = let none : keptOf (m .r) 0 ≡ 0 = kept-zero (m .r) in rw none (record { is = refl })
+  kept-bytes zero h = let absent : keptOf (m .r) 0 ≡ 0 = kept-zero (m .r) in rw absent (record { is = refl })
   kept-bytes (suc i) h =
       let rises : keptOf (m .r) i ≤ keptOf (m .r) (suc i) = kept-rises i (p .goes i h) in
       let most : keptOf (m .r) (suc i) ≤ k .s = omega (arith, kept-grow (p .goes) (c .records) (suc i) h (omega arith), p .kept, p .within .fitsS) in
@@ -184,17 +189,17 @@ module _ {n buckets : ℕ} {k : Rooms} {m m′ : Mem} {c : Counts} (p : Tables n
 
   -- the first and the last found parent of each address in W, and the heads of the buckets
   module _ (b : Bytes (m .w)) (d : Bytes (m′ .w)) (long : length (m .w) ≡ length (m′ .w)) where
-    parent-bytes : (a : ℕ) → a ≤ n → Same (m .w) (m′ .w) (20 * (n + 1) + 20 * a + 4) 8
+    parent-bytes : (a : ℕ) → a ≤ n → Same (m .w) (m′ .w) (fieldsPlace n a + FIRST-FOUND) 8
     parent-bytes a h =
-        let first : firstAt (m .w) n a ≡ firstAt (m′ .w) n a =
+        let first : firstFoundAt (m .w) n a ≡ firstFoundAt (m′ .w) n a =
         p .parents .firsts a h ∙ following-same (toAt (m′ .r)) (toAt (m .r)) a 0 (c .records) tos ∙ sym (q .parents .firsts a h) in
-        let last : lastAt (m .w) n a ≡ lastAt (m′ .w) n a =
+        let last : lastFoundAt (m .w) n a ≡ lastFoundAt (m′ .w) n a =
         p .parents .lasts a h ∙ newest-same (toAt (m′ .r)) (toAt (m .r)) a (c .records) tos ∙ sym (q .parents .lasts a h) in
-        same-then (same-num b d long 4 (20 * (n + 1) + 20 * a + 4) first) (same-num b d long 4 (20 * (n + 1) + 20 * a + 8) last) (omega arith)
+        same-then (same-num b d long 4 (fieldsPlace n a + FIRST-FOUND) first) (same-num b d long 4 (fieldsPlace n a + LAST-FOUND) last) (omega arith)
 
-    bucket-bytes : (h : ℕ) → h < buckets → Same (m .w) (m′ .w) (42 * (n + 1) + 4 * h) 4
+    bucket-bytes : (h : ℕ) → h < buckets → Same (m .w) (m′ .w) (bucketPlace n h) 4
     bucket-bytes h l =
-        same-num b d long 4 (42 * (n + 1) + 4 * h)
+        same-num b d long 4 (bucketPlace n h)
         (p .chains .chained .heads h l ∙ newest-same (bucketAt buckets (m′ .r)) (bucketAt buckets (m .r)) h (c .records) shelf ∙ sym (q .chains .chained .heads h l))
 
 -- every buffer holds bytes
@@ -213,11 +218,11 @@ pub record AllLong (m m′ : Mem) : Type 0 where
 
 -- all that the records stand in, and their links, is the same
 pub record OneTables (n buckets : ℕ) (k : Rooms) (c : Counts) (m m′ : Mem) : Type 0 where
-  pub rows : (i : ℕ) → i < c .records → Same (m .r) (m′ .r) (32 * i) 24
+  pub rows : (i : ℕ) → i < c .records → Same (m .r) (m′ .r) (recordPlace i) 24
   pub paths : Same (m .q) (m′ .q) 0 (2 * c .addresses)
   pub states : Same (m .s) (m′ .s) (9 * (k .s - c .kept)) (9 * c .kept)
-  pub parents : (a : ℕ) → a ≤ n → Same (m .w) (m′ .w) (20 * (n + 1) + 20 * a + 4) 8
-  pub heads : Same (m .w) (m′ .w) (42 * (n + 1)) (4 * buckets)
+  pub parents : (a : ℕ) → a ≤ n → Same (m .w) (m′ .w) (fieldsPlace n a + FIRST-FOUND) 8
+  pub heads : Same (m .w) (m′ .w) (bucketsPlace n) (4 * buckets)
 
 pub one-tables : {n buckets : ℕ} {k : Rooms} {m m′ : Mem} {c : Counts} → AllBytes m → AllBytes m′ → AllLong m m′ → Tables n buckets k m c → Tables n buckets k m′ c
     → recs k m c ≡ recs k m′ c → OneTables n buckets k c m m′
@@ -227,7 +232,7 @@ one-tables {n} {buckets} {k} {m} {m′} {c} b d long p q same =
       paths = rw (p .ends) at (path-bytes p q same (b .q) (d .q) (long .q) (c .records) (omega arith));
       states = rw (p .kept) at (kept-bytes p q same (c .records) (omega arith));
       parents = parent-bytes p q same (b .w) (d .w) (long .w);
-      heads = same-rows (42 * (n + 1)) 4 buckets (bucket-bytes p q same (b .w) (d .w) (long .w));
+      heads = same-rows (bucketsPlace n) 4 buckets (bucket-bytes p q same (b .w) (d .w) (long .w));
     }
 
 -- ---- a record more: where W is the same but for what a record changes in it, all four are the same
@@ -236,11 +241,11 @@ module _ {n buckets : ℕ} {k : Rooms} {r₀ q₀ s₀ : List ℕ} {m′ m″ : 
     (one : OneTables n buckets k d m′ m″) (p : Stays k c d r₀ q₀ s₀ (m′ .r) (m′ .q) (m′ .s)) (q : Stays k c d r₀ q₀ s₀ (m″ .r) (m″ .q) (m″ .s)) where
   more-r : Bytes (m′ .r) → Bytes (m″ .r) → m′ .r ≡ m″ .r
   more-r a b =
-      let row : (i : ℕ) → i < c .records → Same (m′ .r) (m″ .r) (0 + 32 * i) 32 =
+      let row : (i : ℕ) → i < c .records → Same (m′ .r) (m″ .r) (0 + recordPlace i) 32 =
       λ i l.
-      let free : Same (m′ .r) (m″ .r) (32 * i + 24) 8 = same-num a b (p .longR ∙ sym (q .longR)) 8 (32 * i + 24) (p .rows i l .free ∙ sym (q .rows i l .free)) in
+      let free : Same (m′ .r) (m″ .r) (recordPlace i + R-FREE) 8 = same-num a b (p .longR ∙ sym (q .longR)) 8 (recordPlace i + R-FREE) (p .rows i l .free ∙ sym (q .rows i l .free)) in
       same-as (same-then (one .rows i (omega arith)) free refl) (omega arith) refl in
-      same-whole (32 * c .records + 24) (same-then (same-rows 0 32 (c .records) row) (one .rows (c .records) (omega arith)) (omega arith)) (p .tail ∙ sym (q .tail))
+      same-whole (recordPlace (c .records) + R-FREE) (same-then (same-rows 0 32 (c .records) row) (one .rows (c .records) (omega arith)) (omega arith)) (p .tail ∙ sym (q .tail))
 
   more-q : m′ .q ≡ m″ .q
   more-q = same-whole (2 * d .addresses) (one .paths) (p .backQ ∙ sym (q .backQ))
@@ -251,17 +256,15 @@ module _ {n buckets : ℕ} {k : Rooms} {r₀ q₀ s₀ : List ℕ} {m′ m″ : 
       let back : drop (9 * (k .s - c .kept)) (m′ .s) ≡ drop (9 * (k .s - c .kept)) (m″ .s) = p .backS ∙ sym (q .backS) in
       same-whole (9 * k .s) (same-as (same-then front (one .states) (omega arith)) refl (omega arith)) (drop-more (m′ .s) (m″ .s) (9 * (k .s - c .kept)) back (9 * k .s) (omega arith))
 
-  module _ (front : take (20 * (n + 1)) (m′ .w) ≡ take (20 * (n + 1)) (m″ .w)) (marks : (a : ℕ) → a ≤ n → Same (m′ .w) (m″ .w) (20 * (n + 1) + 20 * a) 4)
-      (rests : (a : ℕ) → a ≤ n → Same (m′ .w) (m″ .w) (20 * (n + 1) + 20 * a + 12) 8) (work : Same (m′ .w) (m″ .w) (40 * (n + 1)) (2 * (n + 1)))
-      (back : drop (42 * (n + 1) + 4 * buckets) (m′ .w) ≡ drop (42 * (n + 1) + 4 * buckets) (m″ .w)) where
+  module _ (front : SameRows n (m″ .w) (m′ .w)) (marks : (a : ℕ) → a ≤ n → Same (m′ .w) (m″ .w) (fieldsPlace n a) 4)
+      (rests : (a : ℕ) → a ≤ n → Same (m′ .w) (m″ .w) (fieldsPlace n a + COUNT) 8) (work : Same (m′ .w) (m″ .w) (listPlace n) (2 * (n + 1)))
+      (back : PastBuckets n buckets (m″ .w) (m′ .w)) where
     more-w : m′ .w ≡ m″ .w
     more-w =
-        let address : (a : ℕ) → a < n + 1 → Same (m′ .w) (m″ .w) (20 * (n + 1) + 20 * a) 20 =
-        λ a h. same-then (same-then (marks a (omega arith)) (one .parents a (omega arith)) refl) (rests a (omega arith)) refl in
-        let rows : Same (m′ .w) (m″ .w) 0 (20 * (n + 1)) = record { is = front } in
-        let upto : Same (m′ .w) (m″ .w) 0 (40 * (n + 1)) = same-as (same-then rows (same-rows (20 * (n + 1)) 20 (n + 1) address) (omega arith)) refl (omega arith) in
-        let list : Same (m′ .w) (m″ .w) 0 (42 * (n + 1)) = same-as (same-then upto work (omega arith)) refl (omega arith) in
-        same-whole (42 * (n + 1) + 4 * buckets) (same-then list (one .heads) (omega arith)) back
+        let upto : Same (m′ .w) (m″ .w) 0 (listPlace n) =
+        same-to-list front (λ a h. same-then (same-then (marks a h) (one .parents a h) refl) (rests a h) refl) in
+        let list : Same (m′ .w) (m″ .w) 0 (bucketsPlace n) = same-as (same-then upto work (omega arith)) refl (omega arith) in
+        same-whole (bucketPlace n buckets) (same-then list (one .heads) (omega arith)) back
 
     pub one-more : AllBytes m′ → AllBytes m″ → m′ ≡ m″
     one-more a b =

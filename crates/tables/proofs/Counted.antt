@@ -8,11 +8,14 @@ use lib.Dec.{eqb}
 use lib.ListN.{length, length-append}
 use borrow.Author.Tests.{eq-eqb, ne-eqb, eqb-true, eqb-false}
 use Rattle.spec.specs.Lists.{if, same, some?, total}
-use Rattle.spec.specs.Search.{nowhere, found, Rec, is-at, is-nowhere, kept}
+use Rattle.spec.specs.Stacks.{Stack}
+use Rattle.spec.specs.Search.{nowhere, found, Rec, dest, is-at, is-nowhere, kept}
+use Rattle.spec.specs.Entries.{absent}
+use Rattle.layout.specs.Records.{toAt, endOf, keptOf}
 use Rattle.state.specs.Cells.{stackAt}
 use Rattle.state.proofs.States.{state-lies, lies-count}
 use Rattle.tables.specs.Chains.{any}
-use Rattle.tables.specs.Records.{none, toAt, endOf, keptOf, pathAt, foundAt, recAt, recsOf, isRec, hasRec, Row}
+use Rattle.tables.specs.Records.{pathAt, foundAt, recAt, recsOf, isRec, hasRec, Row}
 use Rattle.tables.specs.Tables.{Goes, leads-nowhere, leads}
 use Rattle.tables.proofs.Addrs.{addrs-length}
 
@@ -31,6 +34,12 @@ some-end f (y ∷ xs) x = rw (some-end f xs x) (swap (f y) (f x) (some? f xs))
 total-end : {A : Type 0} (f : A → ℕ) (xs : List A) (x : A) → total f (xs ++ x ∷ []) ≡ total f xs + f x
 total-end f [] x = omega arith
 total-end f (y ∷ xs) x = rw (total-end f xs x) (omega arith)
+
+-- the destination of a record that may have none
+pub dest-if : (b : Bool) (t : ℕ) (k : Stack) → dest (if b nowhere (found t k)) ≡ if b [] (t ∷ [])
+unfolding if
+dest-if true t k = refl
+dest-if false t k = refl
 
 module _ (r q s : List ℕ) (room : ℕ) where
   pub recs-length : (m : ℕ) → length (recsOf r q s room m) ≡ m
@@ -57,13 +66,13 @@ module _ (r q s : List ℕ) (room : ℕ) where
   pub recs-addresses : {m : ℕ} → ((i : ℕ) → i < m → Row r q i) → total (λ (x : Rec). length (x .path)) (recsOf r q s room m) ≡ endOf r m
   recs-addresses {m} rows = addresses-upto rows m (omega arith)
 
-  module _ {n : ℕ} (few : n < none) where
+  module _ {n : ℕ} (few : n < absent) where
     kept-one : (i : ℕ) → Goes n room r s i → keptOf r i + kept (foundAt r s room i) ≡ keptOf r (suc i)
     unfolding foundAt if
-    kept-one i (leads-nowhere e z) = rw (eq-eqb (toAt r i) none e) (omega arith)
+    kept-one i (leads-nowhere e z) = rw (eq-eqb (toAt r i) absent e) (omega arith)
     kept-one i (leads e t) =
-        let d : toAt r i ≡ none → ⊥ = λ z. omega arith in
-        rw (ne-eqb (toAt r i) none d)
+        let d : toAt r i ≡ absent → ⊥ = λ z. omega arith in
+        rw (ne-eqb (toAt r i) absent d)
         (omega (arith, lies-count (state-lies s (9 * (room - keptOf r (suc i))) (keptOf r (suc i) - keptOf r i) t), t .some))
 
     kept-upto : {m : ℕ} → ((i : ℕ) → i < m → Goes n room r s i) → (j : ℕ) → j ≤ m → total (λ (x : Rec). kept (x .to)) (recsOf r q s room j) ≡ keptOf r j
@@ -77,26 +86,26 @@ module _ (r q s : List ℕ) (room : ℕ) where
 
   -- ---- one of them leads there, or nowhere, by the path
 
-  leads-at : (t : ℕ) → (t ≡ none → ⊥) → (i : ℕ) → is-at t (foundAt r s room i) ≡ eqb t (toAt r i)
+  leads-at : (t : ℕ) → (t ≡ absent → ⊥) → (i : ℕ) → is-at t (foundAt r s room i) ≡ eqb t (toAt r i)
   unfolding foundAt if
-  leads-at t d i = go (eqb (toAt r i) none) refl
+  leads-at t d i = go (eqb (toAt r i) absent) refl
     where
-      go : (b : Bool) → eqb (toAt r i) none ≡ b → is-at t (if b nowhere (found (toAt r i) (stackAt s (9 * (room - keptOf r (suc i))) (keptOf r (suc i) - keptOf r i)))) ≡ eqb t (toAt r i)
-      go true e = sym (ne-eqb t (toAt r i) (λ z. d (z ∙ eqb-true (toAt r i) none e)))
+      go : (b : Bool) → eqb (toAt r i) absent ≡ b → is-at t (if b nowhere (found (toAt r i) (stackAt s (9 * (room - keptOf r (suc i))) (keptOf r (suc i) - keptOf r i)))) ≡ eqb t (toAt r i)
+      go true e = sym (ne-eqb t (toAt r i) (λ z. d (z ∙ eqb-true (toAt r i) absent e)))
       go false e = refl
 
-  leads-none : (i : ℕ) → is-nowhere (foundAt r s room i) ≡ eqb none (toAt r i)
+  leads-none : (i : ℕ) → is-nowhere (foundAt r s room i) ≡ eqb absent (toAt r i)
   unfolding foundAt if
-  leads-none i = go (eqb (toAt r i) none) refl
+  leads-none i = go (eqb (toAt r i) absent) refl
     where
-      go : (b : Bool) → eqb (toAt r i) none ≡ b → is-nowhere (if b nowhere (found (toAt r i) (stackAt s (9 * (room - keptOf r (suc i))) (keptOf r (suc i) - keptOf r i)))) ≡ eqb none (toAt r i)
-      go true e = sym (eq-eqb none (toAt r i) (sym (eqb-true (toAt r i) none e)))
-      go false e = sym (ne-eqb none (toAt r i) (λ z. eqb-false (toAt r i) none e (sym z)))
+      go : (b : Bool) → eqb (toAt r i) absent ≡ b → is-nowhere (if b nowhere (found (toAt r i) (stackAt s (9 * (room - keptOf r (suc i))) (keptOf r (suc i) - keptOf r i)))) ≡ eqb absent (toAt r i)
+      go true e = sym (eq-eqb absent (toAt r i) (sym (eqb-true (toAt r i) absent e)))
+      go false e = sym (ne-eqb absent (toAt r i) (λ z. eqb-false (toAt r i) absent e (sym z)))
 
-  pub recs-at : (t : ℕ) → (t ≡ none → ⊥) → (path : List ℕ) (m : ℕ) → some? (λ (x : Rec). is-at t (x .to) && same path (x .path)) (recsOf r q s room m) ≡ hasRec r q t path m
+  pub recs-at : (t : ℕ) → (t ≡ absent → ⊥) → (path : List ℕ) (m : ℕ) → some? (λ (x : Rec). is-at t (x .to) && same path (x .path)) (recsOf r q s room m) ≡ hasRec r q t path m
   unfolding recAt isRec
   recs-at t d path m = some-recs (λ (x : Rec). is-at t (x .to) && same path (x .path)) (isRec r q t path) m (λ i l. rw (leads-at t d i))
 
-  pub recs-nowhere : (path : List ℕ) (m : ℕ) → some? (λ (x : Rec). is-nowhere (x .to) && same path (x .path)) (recsOf r q s room m) ≡ hasRec r q none path m
+  pub recs-nowhere : (path : List ℕ) (m : ℕ) → some? (λ (x : Rec). is-nowhere (x .to) && same path (x .path)) (recsOf r q s room m) ≡ hasRec r q absent path m
   unfolding recAt isRec
-  recs-nowhere path m = some-recs (λ (x : Rec). is-nowhere (x .to) && same path (x .path)) (isRec r q none path) m (λ i l. rw (leads-none i))
+  recs-nowhere path m = some-recs (λ (x : Rec). is-nowhere (x .to) && same path (x .path)) (isRec r q absent path) m (λ i l. rw (leads-none i))

@@ -12,14 +12,15 @@ use Rattle.spec.specs.Lists.{if, total}
 use Rattle.spec.specs.Stacks.{cells}
 use Rattle.spec.specs.Search.{Found, nowhere, found, Rec, kept, R, Q, Need, St, Turn, in-use, addresses, record-nowhere, record-found}
 use Rattle.spec.specs.Rooms.{Lent, or-else, shortage}
+use Rattle.spec.specs.Entries.{absent}
 use Rattle.theorems.proofs.Older.{clear}
-use Rattle.theorems.proofs.Branch.{if-true, if-false}
+use Rattle.laws.proofs.Branch.{if-true, if-false}
 use Rattle.state.specs.Cells.{stackAt}
 use Rattle.state.proofs.States.{state-lies, lies-count}
 use Rattle.tables.specs.Addrs.{addrs, Summed}
-use Rattle.tables.specs.Records.{none, hasRec}
+use Rattle.tables.specs.Records.{hasRec}
 use Rattle.tables.specs.Links.{Beyond}
-use Rattle.tables.specs.Tables.{Mem, mem, recs, newFound, newRec, Enters, enters-nowhere, enters, Ready, Nowhere, Somewhere, Adds, counted, Stays, Added}
+use Rattle.tables.specs.Tables.{Mem, mem, recs, newFound, newRec, Enters, enters-nowhere, enters, Ready, Adds, counted, Stays, Added}
 use Rattle.tables.specs.Recording.{Lends, shortOf, entryNeeds, noted, Holding, recorded?, Recorded}
 use Rattle.tables.specs.declared.Rooms.{Rooms}
 use Rattle.tables.specs.declared.Counts.{Counts}
@@ -51,13 +52,13 @@ beyond-all n buckets w =
     record { apart = record { front = refl; marks = λ a l. refl; rests = λ a l. refl; long = refl }; work = refl; back = refl }
 
 -- where an entry leads
-new-nowhere : (s : List ℕ) (e : Entry) → e .to ≡ none → newFound s e ≡ nowhere
+pub new-nowhere : (s : List ℕ) (e : Entry) → e .to ≡ absent → newFound s e ≡ nowhere
 unfolding if
-new-nowhere s e z = rw (eq-eqb (e .to) none z)
+new-nowhere s e z = rw (eq-eqb (e .to) absent z)
 
-new-at : (s : List ℕ) (e : Entry) {n : ℕ} → n < none → e .to ≤ n → newFound s e ≡ found (e .to) (stackAt s (9 * e .from) (e .cells))
+pub new-at : (s : List ℕ) (e : Entry) {n : ℕ} → n < absent → e .to ≤ n → newFound s e ≡ found (e .to) (stackAt s (9 * e .from) (e .cells))
 unfolding if
-new-at s e few z = rw (ne-eqb (e .to) none (λ d. omega arith))
+new-at s e few z = rw (ne-eqb (e .to) absent (λ d. omega arith))
 
 module _ {p w r q s : List ℕ} {np n buckets : ℕ} {k : Rooms} {c : Counts} {e : Entry} (y : Ready p np n buckets k (mem w r q s) c e) where
   abbrev path : List ℕ
@@ -196,25 +197,6 @@ module _ {p w r q s : List ℕ} {np n buckets : ℕ} {k : Rooms} {c : Counts} {e
             stays = a .stays;
             beyond = a .beyond;
           }
-
--- ---- the two ways
-
-module _ {p : List ℕ} {np n buckets : ℕ} {k : Rooms} {m : Mem} {c : Counts} where
-  pub nowhere-ready : {start : ℕ} → Nowhere p np n buckets k m c start → Ready p np n buckets k m c (record { start = start; to = none; from = 0; cells = 0 })
-  nowhere-ready h =
-      record { tables = h .tables; path = h .path; most = h .most; start = h .small; entry = enters-nowhere refl refl; inside = omega arith }
-
-  pub somewhere-ready : {e : Entry} → Somewhere p np n buckets k m c e → Ready p np n buckets k m c e
-  somewhere-ready h = record { tables = h .tables; path = h .path; most = h .most; start = h .small; entry = enters (h .to) (h .state); inside = h .inside }
-
-  module _ {m′ : Mem} {a : Answer} where
-    pub recorded-nowhere : {start : ℕ} → Recorded p np n buckets k m c start (newFound (m .s) (record { start = start; to = none; from = 0; cells = 0 })) m′ a
-        → Recorded p np n buckets k m c start nowhere m′ a
-    recorded-nowhere {start} h = rw (new-nowhere (m .s) (record { start = start; to = none; from = 0; cells = 0 }) refl) at h
-
-    pub recorded-found : {e : Entry} → Somewhere p np n buckets k m c e → Recorded p np n buckets k m c (e .start) (newFound (m .s) e) m′ a
-        → Recorded p np n buckets k m c (e .start) (found (e .to) (stackAt (m .s) (9 * e .from) (e .cells))) m′ a
-    recorded-found {e} y h = rw (new-at (m .s) e (y .tables .few) (y .to)) at h
 
 -- ---- for the caller: all is as it was, or there is a record more
 

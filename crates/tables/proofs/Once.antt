@@ -8,14 +8,17 @@ use native.Mathlib.Decide.{decLt}
 use native.Mathlib.Omega.{arith}
 use lib.ListN.{length}
 use Rattle.spec.specs.Search.{Found, kept}
-use Rattle.theorems.proofs.Branch.{if-false}
+use Rattle.laws.proofs.Branch.{if-false}
 use Rattle.lent.specs.Bytes.{numAt}
 use Rattle.lent.proofs.Once.{Bytes, Same, same-num, same-both, same-as, same-then, same-rows, same-all}
+use Rattle.layout.specs.Fields.{COUNT}
+use Rattle.layout.specs.Parts.{fieldsPlace, listPlace}
+use Rattle.layout.specs.Seens.{SEEN, seenPlace, T-GAP, T-FROM, T-CELLS, T-SUM, T-LINK, T-HEAD, topAt}
 use Rattle.tables.specs.Addrs.{addrs}
 use Rattle.tables.specs.Chains.{newest}
 use Rattle.tables.specs.Tables.{Mem, recs, counted}
 use Rattle.tables.specs.Recording.{recorded?, Recorded}
-use Rattle.tables.specs.Rows.{topAt, shelfAt, Stamped, Pushed}
+use Rattle.tables.specs.Rows.{shelfAt, Stamped, Pushed}
 use Rattle.tables.specs.Mets.{Memorized, Emptied}
 use Rattle.tables.specs.declared.Rooms.{Rooms}
 use Rattle.tables.specs.declared.Counts.{Counts}
@@ -42,16 +45,16 @@ each f g z h e i l = go (decLt i z)
 -- ---- T: the rows, each with the head of a shelf in its last four bytes
 
 module _ {u v : List ℕ} (p : Bytes u) (q : Bytes v) (long : length u ≡ length v) where
-  by-rows : ((i : ℕ) → Same u v (32 * i) 28) → ((h : ℕ) → topAt u h ≡ topAt v h) → u ≡ v
+  by-rows : ((i : ℕ) → Same u v (seenPlace i) T-HEAD) → ((h : ℕ) → topAt u h ≡ topAt v h) → u ≡ v
   by-rows rows tops =
-      same-all (32 * length u) (omega arith) long
-      (same-rows 0 32 (length u) (λ i h. same-as (same-then (rows i) (same-num p q long 4 (32 * i + 28) (tops i)) refl) (omega arith) refl))
+      same-all (seenPlace (length u)) (omega arith) long
+      (same-rows 0 SEEN (length u) (λ i h. same-as (same-then (rows i) (same-num p q long 4 (seenPlace i + T-HEAD) (tops i)) refl) (omega arith) refl))
 
 pub one-emptied : {buckets : ℕ} {t u v : List ℕ} → Bytes u → Bytes v → Emptied buckets t u → Emptied buckets t v → u ≡ v
 unfolding newest
 one-emptied {buckets} {t} {u} {v} b d p q =
     by-rows b d (p .heads .long ∙ sym (q .heads .long))
-    (λ i. same-as (same-both (32 * i + 0) 28 (p .heads .parts 28 i 0 (omega arith)) (q .heads .parts 28 i 0 (omega arith))) (omega arith) refl)
+    (λ i. same-as (same-both (seenPlace i + 0) T-HEAD (p .heads .parts T-HEAD i 0 (omega arith)) (q .heads .parts T-HEAD i 0 (omega arith))) (omega arith) refl)
     (λ h. go h (decLt h buckets))
   where
     go : (h : ℕ) → Dec (h < buckets) → topAt u h ≡ topAt v h
@@ -69,27 +72,27 @@ module _ {buckets m sum : ℕ} {t u v : List ℕ} {x : Seen} (b : Bytes u) (d : 
       (λ i l. shelf-same buckets (p .rows i l) ∙ sym (shelf-same buckets (q .rows i l)))
       (ap (λ (y : ℕ). y % buckets) (p .tells .stamped ∙ sym (q .tells .stamped)))
 
-  push-chain : numAt 4 u (32 * m + 24) ≡ numAt 4 v (32 * m + 24)
+  push-chain : numAt 4 u (seenPlace m + T-LINK) ≡ numAt 4 v (seenPlace m + T-LINK)
   push-chain =
       p .shelves .chained .links m (omega arith)
       ∙ newest-same (shelfAt buckets v) (shelfAt buckets u) (shelfAt buckets u m) m (λ i l. push-shelves i (omega arith))
       ∙ ap (λ (y : ℕ). newest (shelfAt buckets v) y m) (push-shelves m (omega arith))
       ∙ sym (q .shelves .chained .links m (omega arith))
 
-  push-new : Same u v (32 * m) 28
+  push-new : Same u v (seenPlace m) T-HEAD
   push-new =
-      let at : (o : ℕ) → numAt 4 u (32 * m + o) ≡ numAt 4 v (32 * m + o) → Same u v (32 * m + o) 4 = λ o e. same-num b d push-long 4 (32 * m + o) e in
-      let front : Same u v (32 * m) 12 = same-then (same-both (32 * m) 11 (p .seen) (q .seen)) (same-both (32 * m + 11) 1 (p .gap) (q .gap)) refl in
-      let places : Same u v (32 * m) 20 =
-      same-then (same-then front (at 12 (p .tells .place ∙ sym (q .tells .place))) refl) (at 16 (p .tells .cells ∙ sym (q .tells .cells))) refl in
-      same-then (same-then places (at 20 (p .tells .stamped ∙ sym (q .tells .stamped))) refl) (at 24 push-chain) refl
+      let at : (o : ℕ) → numAt 4 u (seenPlace m + o) ≡ numAt 4 v (seenPlace m + o) → Same u v (seenPlace m + o) 4 = λ o e. same-num b d push-long 4 (seenPlace m + o) e in
+      let front : Same u v (seenPlace m) T-FROM = same-then (same-both (seenPlace m) T-GAP (p .seen) (q .seen)) (same-both (seenPlace m + T-GAP) 1 (p .gap) (q .gap)) refl in
+      let places : Same u v (seenPlace m) T-SUM =
+      same-then (same-then front (at T-FROM (p .tells .place ∙ sym (q .tells .place))) refl) (at T-CELLS (p .tells .cells ∙ sym (q .tells .cells))) refl in
+      same-then (same-then places (at T-SUM (p .tells .stamped ∙ sym (q .tells .stamped))) refl) (at T-LINK push-chain) refl
 
-  push-rows : (i : ℕ) → Same u v (32 * i) 28
+  push-rows : (i : ℕ) → Same u v (seenPlace i) T-HEAD
   push-rows i = go (decLt i m) (decLt m i)
     where
-      go : Dec (i < m) → Dec (m < i) → Same u v (32 * i) 28
-      go (yes l) h = same-both (32 * i) 28 (p .older i l) (q .older i l)
-      go (no l) (yes h) = same-both (32 * i) 28 (p .later i h) (q .later i h)
+      go : Dec (i < m) → Dec (m < i) → Same u v (seenPlace i) T-HEAD
+      go (yes l) h = same-both (seenPlace i) T-HEAD (p .older i l) (q .older i l)
+      go (no l) (yes h) = same-both (seenPlace i) T-HEAD (p .later i h) (q .later i h)
       go (no l) (no h) = let e : i ≡ m = omega arith in rw e push-new
 
   push-tops : (h : ℕ) → topAt u h ≡ topAt v h
@@ -145,9 +148,9 @@ one-recorded {p} {np} {n} {buckets} {start} {k} {m} {m′} {m″} {c} {x} {a} {e
           one-answer code counts,
           one-more (ap (λ (o : Counts). o .records) made) (omega (arith, f .tables .within .fitsS)) one (f .stays) (rw (sym counts) at (g .stays))
               (f .beyond .apart .front ∙ sym (g .beyond .apart .front))
-              (λ a h. same-both (20 * (n + 1) + 20 * a) 4 (f .beyond .apart .marks a h) (g .beyond .apart .marks a h))
-              (λ a h. same-both (20 * (n + 1) + 20 * a + 12) 8 (f .beyond .apart .rests a h) (g .beyond .apart .rests a h))
-              (same-both (40 * (n + 1)) (2 * (n + 1)) (f .beyond .work) (g .beyond .work))
+              (λ a h. same-both (fieldsPlace n a) 4 (f .beyond .apart .marks a h) (g .beyond .apart .marks a h))
+              (λ a h. same-both (fieldsPlace n a + COUNT) 8 (f .beyond .apart .rests a h) (g .beyond .apart .rests a h))
+              (same-both (listPlace n) (2 * (n + 1)) (f .beyond .work) (g .beyond .work))
               (f .beyond .back ∙ sym (g .beyond .back)) b d,
         )
     go (inr z) o h =

@@ -7,9 +7,10 @@ use lib.Dec.{eqb}
 use borrow.Author.Tests.{eq-eqb, eqb-true, not-true, not-false}
 use Rattle.spec.specs.Stacks.{cells, eqSym, eqStack}
 use Rattle.spec.specs.Search.{Met}
-use Rattle.theorems.proofs.Branch.{and-false}
-use Rattle.theorems.proofs.Members.{and-both}
+use Rattle.laws.proofs.Branch.{and-false}
+use Rattle.laws.proofs.Members.{and-both}
 use Rattle.lent.specs.Bytes.{Holds}
+use Rattle.layout.specs.Seens.{seenPlace, T-SYMBOL, T-FROM, T-CELLS, T-SUM, T-LINK, T-HEAD, blockAt, placeAt, cellsAt, stampAt}
 use Rattle.state.specs.Symbols.{symOf}
 use Rattle.state.specs.Cells.{symAt, symsAt, stackAt, stored}
 use Rattle.state.specs.Compared.{TwoStates}
@@ -17,7 +18,7 @@ use Rattle.state.specs.declared.sym.StackSym.{StackSym}
 use Rattle.state.proofs.States.{state-lies, state-syms, lies-count}
 use Rattle.tables.specs.Addrs.{mixed}
 use Rattle.tables.specs.Chains.{any, Left}
-use Rattle.tables.specs.Rows.{blockAt, placeAt, cellsAt, stampAt, shelfAt, weight, symSums, stamp, metAt, seenMet, sameMet, isMet, Stamped, Compares, Finds, SymSummed}
+use Rattle.tables.specs.Rows.{shelfAt, weight, symSums, stamp, metAt, seenMet, sameMet, isMet, Stamped, Compares, Finds, SymSummed}
 use Rattle.tables.specs.declared.row.Seen.{Seen}
 use Rattle.tables.proofs.Orders.{left-first, left-none, left-below, left-hit, left-less, left-more}
 use Rattle.tables.proofs.Stamps.{eq-sym-true, eq-stack-true}
@@ -58,28 +59,28 @@ module _ {t s : List ℕ} {i : ℕ} {x : Seen} {sum : ℕ} (c : Compares t s i x
       state-syms s (9 * x .from) (x .cells) (c .state) ∙ ap stored (o .stack) ∙ sym (state-syms s (9 * placeAt t i) (cellsAt t i) (c .row .state)) in
       c .row .stamped ∙ sym (c .stamped .is ∙ rw (o .last, o .symbol, mine))
 
-  pub row-sum : {y : ℕ} → Holds 4 t (32 * i + 20) y → (y ≡ sum → ⊥) → false ≡ isMet t s (seenMet s x) i
+  pub row-sum : {y : ℕ} → Holds 4 t (seenPlace i + T-SUM) y → (y ≡ sum → ⊥) → false ≡ isMet t s (seenMet s x) i
   row-sum h d = false-of (isMet t s (seenMet s x) i) (λ e. d (h .is ∙ same-stamp e))
 
-  pub row-last : {y : ℕ} → Holds 2 t (32 * i) y → (y ≡ x .last → ⊥) → false ≡ isMet t s (seenMet s x) i
+  pub row-last : {y : ℕ} → Holds 2 t (seenPlace i) y → (y ≡ x .last → ⊥) → false ≡ isMet t s (seenMet s x) i
   unfolding metAt
   row-last h d = false-of (isMet t s (seenMet s x) i) (λ e. d (h .is ∙ sym (same-row e .last)))
 
-  pub row-symbol : (y : StackSym) {b : Bool} → symOf y ≡ symAt t (32 * i + 2) → b ≡ eqSym (symOf (x .symbol)) (symOf y) → not b ≡ true → false ≡ isMet t s (seenMet s x) i
+  pub row-symbol : (y : StackSym) {b : Bool} → symOf y ≡ symAt t (seenPlace i + T-SYMBOL) → b ≡ eqSym (symOf (x .symbol)) (symOf y) → not b ≡ true → false ≡ isMet t s (seenMet s x) i
   unfolding metAt
   row-symbol y {b} e f z = rw (← e, ← f, not-true b z, and-false (eqb (x .last) (blockAt t i)) refl)
 
-  pub row-cells : {y : ℕ} → Holds 4 t (32 * i + 16) y → (y ≡ x .cells → ⊥) → false ≡ isMet t s (seenMet s x) i
+  pub row-cells : {y : ℕ} → Holds 4 t (seenPlace i + T-CELLS) y → (y ≡ x .cells → ⊥) → false ≡ isMet t s (seenMet s x) i
   unfolding metAt
   row-cells h d =
       false-of (isMet t s (seenMet s x) i)
       (λ e. d (h .is ∙ lies-count (state-lies s (9 * placeAt t i) (cellsAt t i) (c .row .state)) ∙ ap cells (sym (same-row e .stack)) ∙ sym (lies-count (state-lies s (9 * x .from) (x .cells) (c .state)))))
 
-  module _ {y z : ℕ} (h : Holds 4 t (32 * i + 16) y) (same : y ≡ x .cells) (g : Holds 4 t (32 * i + 12) z) where
+  module _ {y z : ℕ} (h : Holds 4 t (seenPlace i + T-CELLS) y) (same : y ≡ x .cells) (g : Holds 4 t (seenPlace i + T-FROM) z) where
     pub row-states : TwoStates s (9 * x .from) (9 * z) (x .cells)
     row-states = record { first = c .state; second = rw (g .is, sym same ∙ h .is) (c .row .state) }
 
-    pub row-same : (v : StackSym) {k : ℕ} {b d : Bool} → Holds 2 t (32 * i) k → k ≡ x .last → symOf v ≡ symAt t (32 * i + 2) → b ≡ eqSym (symOf (x .symbol)) (symOf v) → not b ≡ false
+    pub row-same : (v : StackSym) {k : ℕ} {b d : Bool} → Holds 2 t (seenPlace i) k → k ≡ x .last → symOf v ≡ symAt t (seenPlace i + T-SYMBOL) → b ≡ eqSym (symOf (x .symbol)) (symOf v) → not b ≡ false
         → d ≡ eqStack (stackAt s (9 * x .from) (x .cells)) (stackAt s (9 * z) (x .cells)) → d ≡ isMet t s (seenMet s x) i
     unfolding metAt
     row-same v {k} {b} {d} hk ek ev eb tb ed =
@@ -97,7 +98,7 @@ module _ {t s : List ℕ} {buckets m : ℕ} {x : Seen} {sum : ℕ} (f : Finds t 
     unfolding shelfAt
     on-shelf i l g = ap (λ (v : ℕ). v % buckets) (same-stamp (compare i l) g) ∙ sym e
 
-    pub first-row : {y : ℕ} → h < buckets → Holds 4 t (32 * h + 28) y → Left (shelfAt buckets t) (isMet t s (seenMet s x)) m h y
+    pub first-row : {y : ℕ} → h < buckets → Holds 4 t (seenPlace h + T-HEAD) y → Left (shelfAt buckets t) (isMet t s (seenMet s x)) m h y
     first-row l g = left-first (f .shelves .chained) (isMet t s (seenMet s x)) h on-shelf l (g .is)
 
     module _ {cur : ℕ} (l : Left (shelfAt buckets t) (isMet t s (seenMet s x)) m h cur) where
@@ -111,7 +112,7 @@ module _ {t s : List ℕ} {buckets m : ℕ} {x : Seen} {sum : ℕ} (f : Finds t 
         pub hit-row : {b : Bool} → b ≡ isMet t s (seenMet s x) (cur - 1) → b ≡ true → true ≡ any (isMet t s (seenMet s x)) m
         hit-row = left-hit (f .shelves .chained) (isMet t s (seenMet s x)) h on-shelf l d
 
-        module _ {y : ℕ} (g : Holds 4 t (32 * (cur - 1) + 24) y) where
+        module _ {y : ℕ} (g : Holds 4 t (seenPlace (cur - 1) + T-LINK) y) where
           pub less-row : y < cur
           less-row = left-less (f .shelves .chained) (isMet t s (seenMet s x)) h on-shelf l d (g .is)
 

@@ -1,7 +1,7 @@
 -- The laws of a remembered row more, on its shelf. Assumes nothing.
 use mathlib.Core.Path.{_≡_, sym, ap, _∙_}
 use mathlib.Core.List.{List}
-use Prim.Native.Nat.{ℕ, _+_, _*_, _%_, _^_, _≤_, _<_}
+use Prim.Native.Nat.{ℕ, _+_, _%_, _^_, _≤_, _<_}
 use native.Mathlib.Nat.{add-zero}
 use native.Mathlib.Numerals.{add-one}
 use native.Mathlib.Decide.{decLt}
@@ -13,9 +13,10 @@ use Rattle.lent.specs.Bytes.{numAt, Holds, Stored}
 use Rattle.lent.proofs.Parts.{part-prefix, part-suffix}
 use Rattle.lent.proofs.Numbers.{number-little, num-prefix, num-suffix}
 use Rattle.lent.proofs.Stored.{kept-take, kept-drop, kept-part, kept-num, read-num, read-all, read-back, stored-join}
+use Rattle.layout.specs.Seens.{seenPlace, T-SYMBOL, T-GAP, T-FROM, T-CELLS, T-SUM, T-LINK, T-HEAD, blockAt, chainAt, topAt}
 use Rattle.state.specs.Symbols.{symOf}
 use Rattle.state.specs.Cells.{symAt, Put}
-use Rattle.tables.specs.Rows.{blockAt, chainAt, topAt, shelfAt, Tells, SameTold, SeenPut, placeBytes, Tellable, RowPut, Pushes, Pushed}
+use Rattle.tables.specs.Rows.{shelfAt, Tells, SameTold, SeenPut, placeBytes, Tellable, RowPut, Pushes, Pushed}
 use Rattle.tables.specs.declared.row.Seen.{Seen}
 use Rattle.tables.proofs.Orders.{chained-more}
 
@@ -26,30 +27,35 @@ sym-kept s i h = rw (kept-num s 1 i (λ g. omega (arith, h g)), kept-num s 8 (i 
 
 -- ---- the stores of a row
 
-pub seen-put : {t t₁ t₂ : List ℕ} {at : ℕ} (last : ℕ) (x : Sym) → last < 2 ^ 16 → Stored 2 t at (little 2 last) t₁ → Put t₁ (at + 2) x t₂ → SeenPut t at last x t₂
+pub seen-put : {t t₁ t₂ : List ℕ} {at : ℕ} (last : ℕ) (x : Sym) → last < 2 ^ 16 → Stored 2 t at (little 2 last) t₁ → Put t₁ (at + T-SYMBOL) x t₂ → SeenPut t at last x t₂
 seen-put last x h a b = record { stored = stored-join a (b .stored); small = h; reads = b .reads }
 
-pub place-stored : (from cells sum link : ℕ) {at : ℕ} {t t₁ t₂ t₃ t₄ : List ℕ} → Stored 4 t at (little 4 from) t₁ → Stored 4 t₁ (at + 4) (little 4 cells) t₂
-    → Stored 4 t₂ (at + 8) (little 4 sum) t₃ → Stored 4 t₃ (at + 12) (little 4 link) t₄ → Stored 16 t at (placeBytes from cells sum link) t₄
+pub place-stored : (at from cells sum link : ℕ) {t t₁ t₂ t₃ t₄ : List ℕ} → Stored 4 t (at + T-FROM) (little 4 from) t₁
+    → Stored 4 t₁ (at + T-CELLS) (little 4 cells) t₂ → Stored 4 t₂ (at + T-SUM) (little 4 sum) t₃ → Stored 4 t₃ (at + T-LINK) (little 4 link) t₄
+    → Stored 16 t (at + T-FROM) (placeBytes from cells sum link) t₄
 unfolding placeBytes
-place-stored from cells sum link a b c d = stored-join (stored-join (stored-join a b) c) d
+place-stored at from cells sum link a b c d =
+    let e : at + T-CELLS ≡ at + T-FROM + 4 = omega arith in
+    let f : at + T-SUM ≡ at + T-FROM + 8 = omega arith in
+    let g : at + T-LINK ≡ at + T-FROM + 12 = omega arith in
+    stored-join (stored-join (stored-join a (rw e at b)) (rw f at c)) (rw g at d)
 
-module _ (i : ℕ) (x : Seen) (sum link : ℕ) {t t₁ t₂ : List ℕ} (h : Tellable x sum link) (a : SeenPut t (32 * i) (x .last) (symOf (x .symbol)) t₁)
-    (b : Stored 16 t₁ (32 * i + 12) (placeBytes (x .from) (x .cells) sum link) t₂) where
+module _ (i : ℕ) (x : Seen) (sum link : ℕ) {t t₁ t₂ : List ℕ} (h : Tellable x sum link) (a : SeenPut t (seenPlace i) (x .last) (symOf (x .symbol)) t₁)
+    (b : Stored 16 t₁ (seenPlace i + T-FROM) (placeBytes (x .from) (x .cells) sum link) t₂) where
   block-read : blockAt t₁ i ≡ x .last
   unfolding numAt
-  block-read = ap (numAt 2 t₁) (sym (add-zero (32 * i))) ∙ read-num (a .stored) 2 0 (omega arith) ∙ number-little 2 (x .last) (h .last)
+  block-read = ap (numAt 2 t₁) (sym (add-zero (seenPlace i))) ∙ read-num (a .stored) 2 0 (omega arith) ∙ number-little 2 (x .last) (h .last)
 
   told : Tells t₂ i x sum link
   unfolding placeBytes numAt
   told =
-      let p : 32 * i + 12 + 0 ≡ 32 * i + 12 = omega arith in
-      let c : 32 * i + 12 + 4 ≡ 32 * i + 16 = omega arith in
-      let d : 32 * i + 12 + 8 ≡ 32 * i + 20 = omega arith in
-      let l : 32 * i + 12 + 12 ≡ 32 * i + 24 = omega arith in
+      let p : seenPlace i + T-FROM + 0 ≡ seenPlace i + T-FROM = omega arith in
+      let c : seenPlace i + T-FROM + 4 ≡ seenPlace i + T-CELLS = omega arith in
+      let d : seenPlace i + T-FROM + 8 ≡ seenPlace i + T-SUM = omega arith in
+      let l : seenPlace i + T-FROM + 12 ≡ seenPlace i + T-LINK = omega arith in
       record {
-        block = kept-num b 2 (32 * i) (λ g. omega arith) ∙ block-read;
-        symbol = sym-kept b (32 * i + 2) (λ g. omega arith) ∙ a .reads;
+        block = kept-num b 2 (seenPlace i) (λ g. omega arith) ∙ block-read;
+        symbol = sym-kept b (seenPlace i + T-SYMBOL) (λ g. omega arith) ∙ a .reads;
         place = ap (numAt 4 t₂) (sym p) ∙ read-num b 4 0 (omega arith) ∙ number-little 4 (x .from) (h .from);
         cells = ap (numAt 4 t₂) (sym c) ∙ read-num b 4 4 (omega arith) ∙ number-little 4 (x .cells) (h .cells);
         stamped = ap (numAt 4 t₂) (sym d) ∙ read-num b 4 8 (omega arith) ∙ number-little 4 sum (h .stamped);
@@ -60,10 +66,10 @@ module _ (i : ℕ) (x : Seen) (sum link : ℕ) {t t₁ t₂ : List ℕ} (h : Tel
   row-put =
       record {
         tells = told;
-        seen = kept-part b 11 (32 * i) (λ g. omega arith) ∙ read-all (a .stored);
-        front = kept-take b (32 * i) (omega arith) ∙ kept-take (a .stored) (32 * i) (omega arith);
-        gap = kept-part b 1 (32 * i + 11) (λ g. omega arith) ∙ kept-part (a .stored) 1 (32 * i + 11) (λ g. omega arith);
-        back = kept-drop b (32 * i + 28) (omega arith) ∙ kept-drop (a .stored) (32 * i + 28) (omega arith);
+        seen = kept-part b 11 (seenPlace i) (λ g. omega arith) ∙ read-all (a .stored);
+        front = kept-take b (seenPlace i) (omega arith) ∙ kept-take (a .stored) (seenPlace i) (omega arith);
+        gap = kept-part b 1 (seenPlace i + T-GAP) (λ g. omega arith) ∙ kept-part (a .stored) 1 (seenPlace i + T-GAP) (λ g. omega arith);
+        back = kept-drop b (seenPlace i + T-HEAD) (omega arith) ∙ kept-drop (a .stored) (seenPlace i + T-HEAD) (omega arith);
         long = b .kept ∙ a .stored .kept;
       }
 
@@ -85,23 +91,23 @@ told-then p q =
     }
 
 -- the head of a shelf
-module _ (h v : ℕ) {t t′ : List ℕ} (s : Stored 4 t (32 * h + 28) (little 4 v) t′) where
+module _ (h v : ℕ) {t t′ : List ℕ} (s : Stored 4 t (seenPlace h + T-HEAD) (little 4 v) t′) where
   pub head-told : (i : ℕ) → SameTold t t′ i
   head-told i =
       record {
-        block = kept-num s 2 (32 * i) (λ g. omega arith);
-        symbol = sym-kept s (32 * i + 2) (λ g. omega arith);
-        place = kept-num s 4 (32 * i + 12) (λ g. omega arith);
-        cells = kept-num s 4 (32 * i + 16) (λ g. omega arith);
-        stamped = kept-num s 4 (32 * i + 20) (λ g. omega arith);
-        chain = kept-num s 4 (32 * i + 24) (λ g. omega arith);
+        block = kept-num s 2 (seenPlace i) (λ g. omega arith);
+        symbol = sym-kept s (seenPlace i + T-SYMBOL) (λ g. omega arith);
+        place = kept-num s 4 (seenPlace i + T-FROM) (λ g. omega arith);
+        cells = kept-num s 4 (seenPlace i + T-CELLS) (λ g. omega arith);
+        stamped = kept-num s 4 (seenPlace i + T-SUM) (λ g. omega arith);
+        chain = kept-num s 4 (seenPlace i + T-LINK) (λ g. omega arith);
       }
 
-  pub head-part : (n i o : ℕ) → o + n ≤ 28 → take n (drop (32 * i + o) t′) ≡ take n (drop (32 * i + o) t)
-  head-part n i o l = kept-part s n (32 * i + o) (λ g. omega arith)
+  pub head-part : (n i o : ℕ) → o + n ≤ 28 → take n (drop (seenPlace i + o) t′) ≡ take n (drop (seenPlace i + o) t)
+  head-part n i o l = kept-part s n (seenPlace i + o) (λ g. omega arith)
 
   pub head-other : (k : ℕ) → (k ≡ h → ⊥) → topAt t′ k ≡ topAt t k
-  head-other k d = kept-num s 4 (32 * k + 28) (λ g. omega arith)
+  head-other k d = kept-num s 4 (seenPlace k + T-HEAD) (λ g. omega arith)
 
 pub shelf-same : (buckets : ℕ) {t t′ : List ℕ} {i : ℕ} → SameTold t t′ i → shelfAt buckets t′ i ≡ shelfAt buckets t i
 unfolding shelfAt
@@ -109,17 +115,17 @@ shelf-same buckets s = ap (λ (v : ℕ). v % buckets) (s .stamped)
 
 -- ---- on its shelf
 
-module _ {buckets : ℕ} {t : List ℕ} {m : ℕ} {x : Seen} {sum : ℕ} (p : Pushes buckets t m x sum) {h y : ℕ} (e : h ≡ sum % buckets) (b : h < buckets) (g : Holds 4 t (32 * h + 28) y) where
-  module _ {t₁ t₂ : List ℕ} (r : RowPut t m x sum y t₁) (s : Stored 4 t₁ (32 * h + 28) (little 4 (m + 1)) t₂) where
+module _ {buckets : ℕ} {t : List ℕ} {m : ℕ} {x : Seen} {sum : ℕ} (p : Pushes buckets t m x sum) {h y : ℕ} (e : h ≡ sum % buckets) (b : h < buckets) (g : Holds 4 t (seenPlace h + T-HEAD) y) where
+  module _ {t₁ t₂ : List ℕ} (r : RowPut t m x sum y t₁) (s : Stored 4 t₁ (seenPlace h + T-HEAD) (little 4 (m + 1)) t₂) where
     row-before : (i : ℕ) → i < m → SameTold t t₁ i
     row-before i l =
         record {
-          block = num-prefix t₁ t (32 * m) (r .front) 2 (32 * i) (omega arith);
-          symbol = sym-prefix t₁ t (32 * m) (32 * i + 2) (r .front) (omega arith);
-          place = num-prefix t₁ t (32 * m) (r .front) 4 (32 * i + 12) (omega arith);
-          cells = num-prefix t₁ t (32 * m) (r .front) 4 (32 * i + 16) (omega arith);
-          stamped = num-prefix t₁ t (32 * m) (r .front) 4 (32 * i + 20) (omega arith);
-          chain = num-prefix t₁ t (32 * m) (r .front) 4 (32 * i + 24) (omega arith);
+          block = num-prefix t₁ t (seenPlace m) (r .front) 2 (seenPlace i) (omega arith);
+          symbol = sym-prefix t₁ t (seenPlace m) (seenPlace i + T-SYMBOL) (r .front) (omega arith);
+          place = num-prefix t₁ t (seenPlace m) (r .front) 4 (seenPlace i + T-FROM) (omega arith);
+          cells = num-prefix t₁ t (seenPlace m) (r .front) 4 (seenPlace i + T-CELLS) (omega arith);
+          stamped = num-prefix t₁ t (seenPlace m) (r .front) 4 (seenPlace i + T-SUM) (omega arith);
+          chain = num-prefix t₁ t (seenPlace m) (r .front) 4 (seenPlace i + T-LINK) (omega arith);
         }
 
     rows-told : (i : ℕ) → i < m → SameTold t t₂ i
@@ -141,8 +147,8 @@ module _ {buckets : ℕ} {t : List ℕ} {m : ℕ} {x : Seen} {sum : ℕ} (p : Pu
     top-before k = go (decLt k m)
       where
         go : Dec (k < m) → topAt t₁ k ≡ topAt t k
-        go (yes l) = num-prefix t₁ t (32 * m) (r .front) 4 (32 * k + 28) (omega arith)
-        go (no l) = num-suffix t₁ t (32 * m + 28) (r .back) 4 (32 * k + 28) (omega arith)
+        go (yes l) = num-prefix t₁ t (seenPlace m) (r .front) 4 (seenPlace k + T-HEAD) (omega arith)
+        go (no l) = num-suffix t₁ t (seenPlace m + T-HEAD) (r .back) 4 (seenPlace k + T-HEAD) (omega arith)
 
     shelf : shelfAt buckets t₂ m ≡ h
     unfolding shelfAt
@@ -168,10 +174,10 @@ module _ {buckets : ℕ} {t : List ℕ} {m : ℕ} {x : Seen} {sum : ℕ} (p : Pu
           link = y;
           tells = now-tells;
           rows = rows-told;
-          seen = kept-part s 11 (32 * m) (λ q. omega arith) ∙ r .seen;
-          gap = kept-part s 1 (32 * m + 11) (λ q. omega arith) ∙ r .gap;
-          older = λ i l. kept-part s 28 (32 * i) (λ q. omega arith) ∙ part-prefix t₁ t (32 * m) (r .front) 28 (32 * i) (omega arith);
-          later = λ i l. kept-part s 28 (32 * i) (λ q. omega arith) ∙ part-suffix t₁ t (32 * m + 28) (r .back) 28 (32 * i) (omega arith);
+          seen = kept-part s 11 (seenPlace m) (λ q. omega arith) ∙ r .seen;
+          gap = kept-part s 1 (seenPlace m + T-GAP) (λ q. omega arith) ∙ r .gap;
+          older = λ i l. kept-part s 28 (seenPlace i) (λ q. omega arith) ∙ part-prefix t₁ t (seenPlace m) (r .front) 28 (seenPlace i) (omega arith);
+          later = λ i l. kept-part s 28 (seenPlace i) (λ q. omega arith) ∙ part-suffix t₁ t (seenPlace m + T-HEAD) (r .back) 28 (seenPlace i) (omega arith);
           tops = λ k l. head-other h (m + 1) s k (λ z. omega arith) ∙ top-before k;
           long = s .kept ∙ r .long;
         }

@@ -8,7 +8,7 @@ use native.Mathlib.Omega.{arith}
 use lib.Dec.{eqb}
 use borrow.Author.Tests.{eq-eqb, ne-eqb, eqb-true}
 use Rattle.spec.specs.Stacks.{Sym, before, constant, jumpdest, other, Stack, eqSym, eqSyms, eqStack}
-use Rattle.theorems.proofs.Members.{and-both}
+use Rattle.laws.proofs.Members.{and-both}
 use Rattle.state.specs.Symbols.{symOf}
 use Rattle.state.specs.Cells.{tag, value, symAt, symsAt}
 use Rattle.state.specs.declared.sym.StackSym.{StackSym}

@@ -14,12 +14,13 @@ use Rattle.spec.specs.Search.{Met}
 use Rattle.lent.specs.Bytes.{Holds, Stored}
 use Rattle.lent.proofs.Parts.{part-prefix}
 use Rattle.lent.proofs.Stored.{read-back}
+use Rattle.layout.specs.Seens.{seenPlace, T-SYMBOL, T-SUM, T-HEAD, blockAt, placeAt, cellsAt, topAt}
 use Rattle.state.specs.Cells.{symAt, stackAt, Lies}
 use Rattle.state.proofs.Syms.{syms-within}
 use Rattle.state.proofs.States.{state-lies, lies-within, lies-count}
 use Rattle.tables.specs.Chains.{newest, any}
 use Rattle.tables.specs.Recording.{shortOf}
-use Rattle.tables.specs.Rows.{blockAt, placeAt, cellsAt, topAt, shelfAt, stamp, metAt, metOf, seenMet, sameMet, isMet, usedOf, MetRow, Shelves, Stamped, Finds, Pushes, Pushed}
+use Rattle.tables.specs.Rows.{shelfAt, stamp, metAt, metOf, seenMet, sameMet, isMet, usedOf, MetRow, Shelves, Stamped, Finds, Pushes, Pushed}
 use Rattle.tables.specs.Mets.{Remembers, Packs, Fresh, Memorizes, remembering, Memorized, Heads, Begins, Emptied, Wiped, Forgetting}
 use Rattle.tables.specs.declared.Rooms.{Rooms}
 use Rattle.tables.specs.declared.Counts.{Counts}
@@ -172,7 +173,7 @@ heads-none buckets t =
       long = refl;
     }
 
-heads-then : {buckets : ℕ} {t t₁ t₂ : List ℕ} (h v : ℕ) → h < buckets → Heads buckets t t₁ → Stored 4 t₁ (32 * h + 28) (little 4 v) t₂ → Heads buckets t t₂
+heads-then : {buckets : ℕ} {t t₁ t₂ : List ℕ} (h v : ℕ) → h < buckets → Heads buckets t t₁ → Stored 4 t₁ (seenPlace h + T-HEAD) (little 4 v) t₂ → Heads buckets t t₂
 heads-then h v b o s =
     record {
       told = λ i. told-then (o .told i) (head-told h v s i);
@@ -200,7 +201,7 @@ module _ {buckets : ℕ} {t : List ℕ} where
   wiped-none b = record { most = omega arith; zeros = λ h l. absurd (omega arith); heads = heads-none buckets t }
 
   module _ {h : ℕ} {t₁ : List ℕ} (o : Wiped buckets t h t₁) where
-    pub wiped-more : {t₂ : List ℕ} → h < buckets → Stored 4 t₁ (32 * h + 28) (little 4 0) t₂ → Wiped buckets t (h + 1) t₂
+    pub wiped-more : {t₂ : List ℕ} → h < buckets → Stored 4 t₁ (seenPlace h + T-HEAD) (little 4 0) t₂ → Wiped buckets t (h + 1) t₂
     wiped-more {t₂} l s = record { most = omega arith; zeros = λ k b. go k (below h k (omega arith)); heads = heads-then h 0 l (o .heads) s }
       where
         go : (k : ℕ) → (k < h) ⊎ (k ≡ h) → topAt t₂ k ≡ 0
@@ -221,7 +222,7 @@ module _ {buckets : ℕ} {t : List ℕ} where
     forgets-some l = c .some (λ z. omega arith)
 
     module _ {i : ℕ} {t₁ : List ℕ} (o : Forgetting buckets t m i t₁) where
-      pub forgets-more : {v h : ℕ} {t₂ : List ℕ} → i < m → Holds 4 t₁ (32 * i + 20) v → h ≡ v % buckets → h < buckets → Stored 4 t₁ (32 * h + 28) (little 4 0) t₂
+      pub forgets-more : {v h : ℕ} {t₂ : List ℕ} → i < m → Holds 4 t₁ (seenPlace i + T-SUM) v → h ≡ v % buckets → h < buckets → Stored 4 t₁ (seenPlace h + T-HEAD) (little 4 0) t₂
           → Forgetting buckets t m (i + 1) t₂
       unfolding shelfAt
       forgets-more {v} {h} {t₂} l g e b s =
@@ -283,7 +284,7 @@ module _ {buckets : ℕ} {k : Rooms} {t s : List ℕ} {c : Counts} (r : Remember
           rows = λ i l. record {
             inT = r .rows i l .inT;
             state = lies-same i l .state;
-            stamped = r .rows i l .stamped ∙ ap (stamp (blockAt t i) (symAt t (32 * i + 2))) (syms-within s s′ (9 * placeAt t i) (9 * placeAt t i) (cellsAt t i) (part-same i l));
+            stamped = r .rows i l .stamped ∙ ap (stamp (blockAt t i) (symAt t (seenPlace i + T-SYMBOL))) (syms-within s s′ (9 * placeAt t i) (9 * placeAt t i) (cellsAt t i) (part-same i l));
           };
           inside = r .inside;
           shelves = r .shelves;

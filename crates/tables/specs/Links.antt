@@ -1,12 +1,16 @@
 -- A new record's row and its links: what is stored, and what it leaves as it was. Assumes nothing.
 use mathlib.Core.Path.{_≡_}
 use mathlib.Core.Logic.{_⊎_}
-use Prim.Native.Nat.{ℕ, suc, _+_, _*_, _^_, _≤_, _<_}
+use Prim.Native.Nat.{ℕ, suc, _+_, _^_, _≤_, _<_}
 use mathlib.Core.List.{List, _++_}
-use lib.ListN.{length, take, drop}
+use lib.ListN.{length, drop}
 use Rattle.spec.specs.Lists.{little}
+use Rattle.spec.specs.Entries.{absent}
+use Rattle.layout.specs.Fields.{COUNT, firstFoundAt, lastFoundAt}
+use Rattle.layout.specs.Parts.{listPlace, SameRows, SameStart, SameFields, SameList, PastFields, PastBuckets}
+use Rattle.layout.specs.Records.{RECORD, recordPlace, R-FREE, startAt, toAt, nextAt, linkAt, sumAt, freeAt, endOf, keptOf}
 use Rattle.tables.specs.Chains.{Ordered}
-use Rattle.tables.specs.Records.{none, startAt, toAt, nextAt, linkAt, sumAt, freeAt, endOf, keptOf, firstAt, lastAt, Chains}
+use Rattle.tables.specs.Records.{Chains}
 use Rattle.tables.specs.declared.link.Fields.{Fields}
 
 -- the first 24 bytes of a row, of a record with no next parent; the other 8 are free
@@ -39,20 +43,20 @@ pub record Says (r : List ℕ) (m : ℕ) (f : Fields) : Type 0 where
 
 -- the found parents of each address up to n, in the order of recording
 abbrev pub Parents : ℕ → List ℕ → List ℕ → ℕ → Type 0
-Parents n w r m = Ordered (toAt r) (nextAt r) (firstAt w n) (lastAt w n) n m
+Parents n w r m = Ordered (toAt r) (nextAt r) (firstFoundAt w n) (lastFoundAt w n) n m
 
 -- W is as it was before the rows of the addresses, and in each of them but for its first and its last found parent
 pub record Apart (n : ℕ) (w w′ : List ℕ) : Type 0 where
-  pub front : take (20 * (n + 1)) w′ ≡ take (20 * (n + 1)) w
-  pub marks : (a : ℕ) → a ≤ n → take 4 (drop (20 * (n + 1) + 20 * a) w′) ≡ take 4 (drop (20 * (n + 1) + 20 * a) w)
-  pub rests : (a : ℕ) → a ≤ n → take 8 (drop (20 * (n + 1) + 20 * a + 12) w′) ≡ take 8 (drop (20 * (n + 1) + 20 * a + 12) w)
+  pub front : SameRows n w w′
+  pub marks : SameStart 4 n w w′
+  pub rests : SameFields 8 COUNT n w w′
   pub long : length w′ ≡ length w
 
 -- and after them, but for the buckets
 pub record Beyond (n buckets : ℕ) (w w′ : List ℕ) : Type 0 where
   pub apart : Apart n w w′
-  pub work : take (2 * (n + 1)) (drop (40 * (n + 1)) w′) ≡ take (2 * (n + 1)) (drop (40 * (n + 1)) w)
-  pub back : drop (42 * (n + 1) + 4 * buckets) w′ ≡ drop (42 * (n + 1) + 4 * buckets) w
+  pub work : SameList n w w′
+  pub back : PastBuckets n buckets w w′
 
 -- record m stands in R, on no chain of found parents yet
 pub record Joins (n : ℕ) (w r : List ℕ) (a m : ℕ) : Type 0 where
@@ -60,23 +64,23 @@ pub record Joins (n : ℕ) (w r : List ℕ) (a m : ℕ) : Type 0 where
   pub inside : a ≤ n
   pub to : toAt r m ≡ a
   pub next : nextAt r m ≡ 0
-  pub inW : 40 * (n + 1) ≤ length w
-  pub inR : 32 * m + 32 ≤ length r
+  pub inW : listPlace n ≤ length w
+  pub inR : recordPlace m + RECORD ≤ length r
   pub small : m + 1 < 2 ^ 32
 
 -- now it is on the chain
 pub record Joined (n : ℕ) (w r : List ℕ) (m : ℕ) (w′ r′ : List ℕ) : Type 0 where
   pub parents : Parents n w′ r′ (suc m)
   pub rows : (i : ℕ) → SameRow r r′ i
-  pub tail : drop (32 * m) r′ ≡ drop (32 * m) r
+  pub tail : drop (recordPlace m) r′ ≡ drop (recordPlace m) r
   pub long : length r′ ≡ length r
   pub apart : Apart n w w′
-  pub back : drop (40 * (n + 1)) w′ ≡ drop (40 * (n + 1)) w
+  pub back : PastFields n w w′
 
 -- what is to be said fits its fields
 pub record Sayable (n : ℕ) (f : Fields) : Type 0 where
   pub start : f .start < 2 ^ 16
-  pub to : (f .to ≡ none) ⊎ (f .to ≤ n)
+  pub to : (f .to ≡ absent) ⊎ (f .to ≤ n)
   pub ends : f .ends < 2 ^ 32
   pub kept : f .kept < 2 ^ 32
   pub sum : f .sum < 2 ^ 32
@@ -85,8 +89,8 @@ pub record Links (n buckets : ℕ) (w r : List ℕ) (m : ℕ) (f : Fields) : Typ
   pub chains : Chains n buckets w r m
   pub parents : Parents n w r m
   pub says : Sayable n f
-  pub inR : 32 * m + 32 ≤ length r
-  pub few : n < none
+  pub inR : recordPlace m + RECORD ≤ length r
+  pub few : n < absent
   pub small : m + 1 < 2 ^ 32
 
 -- the row stands in R, and on its chains; the rows before it, and what is after it, are as they were
@@ -95,6 +99,6 @@ pub record Linked (n buckets : ℕ) (w r : List ℕ) (m : ℕ) (f : Fields) (w�
   pub parents : Parents n w′ r′ (suc m)
   pub says : Says r′ m f
   pub rows : (i : ℕ) → i < m → SameRow r r′ i
-  pub tail : drop (32 * m + 24) r′ ≡ drop (32 * m + 24) r
+  pub tail : drop (recordPlace m + R-FREE) r′ ≡ drop (recordPlace m + R-FREE) r
   pub long : length r′ ≡ length r
   pub beyond : Beyond n buckets w w′

@@ -4,10 +4,11 @@ use Prim.Native.Nat.{ℕ, _+_, _*_, _^_, _≤_, _<_}
 use mathlib.Core.List.{List, [], _∷_}
 use lib.ListN.{length, take, drop}
 use Rattle.spec.specs.Search.{T, Need}
+use Rattle.layout.specs.Seens.{seenPlace, placeAt, cellsAt, topAt}
 use Rattle.state.specs.Cells.{State}
 use Rattle.tables.specs.Chains.{newest}
 use Rattle.tables.specs.Recording.{shortOf}
-use Rattle.tables.specs.Rows.{placeAt, cellsAt, topAt, shelfAt, metOf, seenMet, stampOf, usedOf, MetRow, Shelves, Stamped, SameTold, Pushed}
+use Rattle.tables.specs.Rows.{shelfAt, metOf, seenMet, stampOf, usedOf, MetRow, Shelves, Stamped, SameTold, Pushed}
 use Rattle.tables.specs.declared.Rooms.{Rooms}
 use Rattle.tables.specs.declared.Counts.{Counts}
 use Rattle.tables.specs.declared.Answer.{Answer}
@@ -19,7 +20,7 @@ pub record Remembers (buckets : ℕ) (k : Rooms) (t s : List ℕ) (c : Counts) :
   pub inside : (i : ℕ) → i < c .rows → placeAt t i + cellsAt t i ≤ c .used
   pub shelves : Shelves buckets t (c .rows)
   pub fitsT : c .rows ≤ k .t
-  pub lentT : 32 * k .t ≤ length t
+  pub lentT : seenPlace (k .t) ≤ length t
   pub mostT : k .t ≤ 2 ^ 30
   pub fitsS : 9 * c .used ≤ length s
   pub mostS : c .used ≤ 2 ^ 30
@@ -62,12 +63,12 @@ pub record Memorized (buckets : ℕ) (k : Rooms) (t s : List ℕ) (c : Counts) (
 
 pub record Heads (buckets : ℕ) (t t′ : List ℕ) : Type 0 where
   pub told : (i : ℕ) → SameTold t t′ i
-  pub parts : (n i o : ℕ) → o + n ≤ 28 → take n (drop (32 * i + o) t′) ≡ take n (drop (32 * i + o) t)
+  pub parts : (n i o : ℕ) → o + n ≤ 28 → take n (drop (seenPlace i + o) t′) ≡ take n (drop (seenPlace i + o) t)
   pub tops : (h : ℕ) → buckets ≤ h → topAt t′ h ≡ topAt t h
   pub long : length t′ ≡ length t
 
 pub record Begins (buckets : ℕ) (t : List ℕ) : Type 0 where
-  pub inT : 32 * buckets ≤ length t
+  pub inT : seenPlace buckets ≤ length t
 
 -- no row is on a shelf
 pub record Emptied (buckets : ℕ) (t t′ : List ℕ) : Type 0 where

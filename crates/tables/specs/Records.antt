@@ -7,59 +7,16 @@ use lib.Dec.{eqb}
 use lib.ListN.{length}
 use Rattle.spec.specs.Lists.{if, same}
 use Rattle.spec.specs.Search.{Found, nowhere, found, Rec}
-use Rattle.lent.specs.Bytes.{numAt}
+use Rattle.spec.specs.Entries.{absent}
+use Rattle.layout.specs.Fields.{newestAt}
+use Rattle.layout.specs.Parts.{bucketPlace}
+use Rattle.layout.specs.Records.{RECORD, recordPlace, startAt, toAt, linkAt, sumAt, endOf, keptOf}
 use Rattle.state.specs.Cells.{stackAt}
 use Rattle.tables.specs.Addrs.{addrs, pathSum, Path, Summed}
 use Rattle.tables.specs.Chains.{any, Chained}
 
--- ---- the fields of record i in R
-
--- in the place of a destination: there is none
-abbrev pub none : ℕ
-none = 0x8000
-
-abbrev pub startAt : List ℕ → ℕ → ℕ
-startAt r i = numAt 2 r (32 * i)
-
-abbrev pub toAt : List ℕ → ℕ → ℕ
-toAt r i = numAt 2 r (32 * i + 2)
-
--- the next found parent of the same destination, and the next record of the same bucket: one more than its index
-abbrev pub nextAt : List ℕ → ℕ → ℕ
-nextAt r i = numAt 4 r (32 * i + 12)
-
-abbrev pub linkAt : List ℕ → ℕ → ℕ
-linkAt r i = numAt 4 r (32 * i + 16)
-
-abbrev pub sumAt : List ℕ → ℕ → ℕ
-sumAt r i = numAt 4 r (32 * i + 20)
-
--- the bytes that are free for more
-abbrev pub freeAt : List ℕ → ℕ → ℕ
-freeAt r i = numAt 8 r (32 * i + 24)
-
--- the addresses in Q, and the kept cells in S, of the first i records
-unfoldable pub endOf : List ℕ → ℕ → ℕ
-endOf r zero = 0
-endOf r (suc i) = numAt 4 r (32 * i + 4)
-
-unfoldable pub keptOf : List ℕ → ℕ → ℕ
-keptOf r zero = 0
-keptOf r (suc i) = numAt 4 r (32 * i + 8)
-
 unfoldable pub bucketAt : ℕ → List ℕ → ℕ → ℕ
 bucketAt buckets r i = sumAt r i % buckets
-
--- ---- the fields of W: the first and the last found parent of the address a, and the newest record of bucket h
-
-abbrev pub firstAt : List ℕ → ℕ → ℕ → ℕ
-firstAt w n a = numAt 4 w (20 * (n + 1) + 20 * a + 4)
-
-abbrev pub lastAt : List ℕ → ℕ → ℕ → ℕ
-lastAt w n a = numAt 4 w (20 * (n + 1) + 20 * a + 8)
-
-abbrev pub headAt : List ℕ → ℕ → ℕ → ℕ
-headAt w n h = numAt 4 w (42 * (n + 1) + 4 * h)
 
 -- ---- the records: the path lies in Q, the state among the kept cells of S, which are counted from the end of the room
 
@@ -68,7 +25,7 @@ pathAt r q i = addrs q (endOf r i) (endOf r (suc i) - endOf r i)
 
 unfoldable pub foundAt : List ℕ → List ℕ → ℕ → ℕ → Found
 foundAt r s room i =
-    if (eqb (toAt r i) none) nowhere (found (toAt r i) (stackAt s (9 * (room - keptOf r (suc i))) (keptOf r (suc i) - keptOf r i)))
+    if (eqb (toAt r i) absent) nowhere (found (toAt r i) (stackAt s (9 * (room - keptOf r (suc i))) (keptOf r (suc i) - keptOf r i)))
 
 unfoldable pub recAt : List ℕ → List ℕ → List ℕ → ℕ → ℕ → Rec
 recAt r q s room i = record { start = startAt r i; to = foundAt r s room i; path = pathAt r q i }
@@ -89,7 +46,7 @@ hasRec r q to path m = any (isRec r q to path) m
 
 -- record i stands in R, its path lies in Q, and its sum is its path's
 pub record Row (r q : List ℕ) (i : ℕ) : Type 0 where
-  pub inR : 32 * i + 32 ≤ length r
+  pub inR : recordPlace i + RECORD ≤ length r
   pub rises : endOf r i ≤ endOf r (suc i)
   pub inQ : 2 * endOf r (suc i) ≤ length q
   pub sum : sumAt r i ≡ pathSum (pathAt r q i)
@@ -97,9 +54,9 @@ pub record Row (r q : List ℕ) (i : ℕ) : Type 0 where
 -- every record of a bucket links to the one before it, and W to the newest
 pub record Chains (n buckets : ℕ) (w r : List ℕ) (m : ℕ) : Type 0 where
   pub some : 1 ≤ buckets
-  pub inW : 42 * (n + 1) + 4 * buckets ≤ length w
-  pub inR : 32 * m ≤ length r
-  pub chained : Chained (bucketAt buckets r) (linkAt r) (headAt w n) buckets m
+  pub inW : bucketPlace n buckets ≤ length w
+  pub inR : recordPlace m ≤ length r
+  pub chained : Chained (bucketAt buckets r) (linkAt r) (newestAt w n) buckets m
 
 -- what looking up the path of np addresses, with its sum, asks
 pub record Seek (p : List ℕ) (np : ℕ) (w r q : List ℕ) (n buckets m sum : ℕ) : Type 0 where

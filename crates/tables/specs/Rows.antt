@@ -8,33 +8,13 @@ use lib.ListN.{length, take, drop}
 use Rattle.spec.specs.Lists.{little}
 use Rattle.spec.specs.Stacks.{Sym, eqSym, eqStack}
 use Rattle.spec.specs.Search.{Met}
-use Rattle.lent.specs.Bytes.{numAt, Stored}
+use Rattle.lent.specs.Bytes.{Stored}
+use Rattle.layout.specs.Seens.{SEEN, seenPlace, T-SYMBOL, T-GAP, T-HEAD, blockAt, placeAt, cellsAt, stampAt, chainAt, topAt}
 use Rattle.state.specs.Symbols.{symOf}
 use Rattle.state.specs.Cells.{tag, value, cell, symAt, symsAt, stackAt, State}
 use Rattle.tables.specs.Addrs.{mixed}
 use Rattle.tables.specs.Chains.{Chained}
 use Rattle.tables.specs.declared.row.Seen.{Seen}
-
--- ---- the fields of row i in T
-
-abbrev pub blockAt : List ℕ → ℕ → ℕ
-blockAt t i = numAt 2 t (32 * i)
-
-abbrev pub placeAt : List ℕ → ℕ → ℕ
-placeAt t i = numAt 4 t (32 * i + 12)
-
-abbrev pub cellsAt : List ℕ → ℕ → ℕ
-cellsAt t i = numAt 4 t (32 * i + 16)
-
-abbrev pub stampAt : List ℕ → ℕ → ℕ
-stampAt t i = numAt 4 t (32 * i + 20)
-
--- the next row of the same bucket: one more than its index; and the newest row of bucket h, which stands in row h whether or not that is in use
-abbrev pub chainAt : List ℕ → ℕ → ℕ
-chainAt t i = numAt 4 t (32 * i + 24)
-
-abbrev pub topAt : List ℕ → ℕ → ℕ
-topAt t h = numAt 4 t (32 * h + 28)
 
 unfoldable pub shelfAt : ℕ → List ℕ → ℕ → ℕ
 shelfAt buckets t i = stampAt t i % buckets
@@ -54,7 +34,7 @@ stamp last x xs = symSums (mixed (mixed 0 last) (weight x)) xs
 -- ---- the rows: the state lies at the bottom of S
 
 unfoldable pub metAt : List ℕ → List ℕ → ℕ → Met
-metAt t s i = record { last = blockAt t i; stack = stackAt s (9 * placeAt t i) (cellsAt t i); symbol = symAt t (32 * i + 2) }
+metAt t s i = record { last = blockAt t i; stack = stackAt s (9 * placeAt t i) (cellsAt t i); symbol = symAt t (seenPlace i + T-SYMBOL) }
 
 -- the first m, newest first
 unfoldable pub metOf : List ℕ → List ℕ → ℕ → List Met
@@ -83,15 +63,15 @@ usedOf t first (suc i) = usedOf t first i + cellsAt t i
 
 -- row i stands in T, its state in S, and its sum is its own
 pub record MetRow (t s : List ℕ) (i : ℕ) : Type 0 where
-  pub inT : 32 * i + 32 ≤ length t
+  pub inT : seenPlace i + SEEN ≤ length t
   pub state : State s (9 * placeAt t i) (cellsAt t i)
-  pub stamped : stampAt t i ≡ stamp (blockAt t i) (symAt t (32 * i + 2)) (symsAt s (9 * placeAt t i) (cellsAt t i))
+  pub stamped : stampAt t i ≡ stamp (blockAt t i) (symAt t (seenPlace i + T-SYMBOL)) (symsAt s (9 * placeAt t i) (cellsAt t i))
 
 -- where T has no room at all there is no shelf, and no row
 pub record Shelves (buckets : ℕ) (t : List ℕ) (m : ℕ) : Type 0 where
   pub some : (m ≡ 0 → ⊥) → 1 ≤ buckets
-  pub inT : 32 * buckets ≤ length t
-  pub mostT : 32 * m ≤ length t
+  pub inT : seenPlace buckets ≤ length t
+  pub mostT : seenPlace m ≤ length t
   pub chained : Chained (shelfAt buckets t) (chainAt t) (topAt t) buckets m
 
 -- what is looked up stands in S, and has the sum
@@ -121,7 +101,7 @@ pub record SymSummed (sum : ℕ) (xs : List Sym) (r : ℕ) : Type 0 where
 -- row i says what is seen, with its sum and its link
 pub record Tells (t : List ℕ) (i : ℕ) (x : Seen) (sum link : ℕ) : Type 0 where
   pub block : blockAt t i ≡ x .last
-  pub symbol : symAt t (32 * i + 2) ≡ symOf (x .symbol)
+  pub symbol : symAt t (seenPlace i + T-SYMBOL) ≡ symOf (x .symbol)
   pub place : placeAt t i ≡ x .from
   pub cells : cellsAt t i ≡ x .cells
   pub stamped : stampAt t i ≡ sum
@@ -130,7 +110,7 @@ pub record Tells (t : List ℕ) (i : ℕ) (x : Seen) (sum link : ℕ) : Type 0 w
 -- every field of row i is as it was; the head that stands there may differ
 pub record SameTold (t t′ : List ℕ) (i : ℕ) : Type 0 where
   pub block : blockAt t′ i ≡ blockAt t i
-  pub symbol : symAt t′ (32 * i + 2) ≡ symAt t (32 * i + 2)
+  pub symbol : symAt t′ (seenPlace i + T-SYMBOL) ≡ symAt t (seenPlace i + T-SYMBOL)
   pub place : placeAt t′ i ≡ placeAt t i
   pub cells : cellsAt t′ i ≡ cellsAt t i
   pub stamped : stampAt t′ i ≡ stampAt t i
@@ -155,17 +135,17 @@ pub record Tellable (x : Seen) (sum link : ℕ) : Type 0 where
 
 pub record RowPut (t : List ℕ) (i : ℕ) (x : Seen) (sum link : ℕ) (t′ : List ℕ) : Type 0 where
   pub tells : Tells t′ i x sum link
-  pub seen : take 11 (drop (32 * i) t′) ≡ little 2 (x .last) ++ cell (symOf (x .symbol))
-  pub front : take (32 * i) t′ ≡ take (32 * i) t
-  pub gap : take 1 (drop (32 * i + 11) t′) ≡ take 1 (drop (32 * i + 11) t)
-  pub back : drop (32 * i + 28) t′ ≡ drop (32 * i + 28) t
+  pub seen : take 11 (drop (seenPlace i) t′) ≡ little 2 (x .last) ++ cell (symOf (x .symbol))
+  pub front : take (seenPlace i) t′ ≡ take (seenPlace i) t
+  pub gap : take 1 (drop (seenPlace i + T-GAP) t′) ≡ take 1 (drop (seenPlace i + T-GAP) t)
+  pub back : drop (seenPlace i + T-HEAD) t′ ≡ drop (seenPlace i + T-HEAD) t
   pub long : length t′ ≡ length t
 
 -- a row is put on its shelf: there is room for it
 pub record Pushes (buckets : ℕ) (t : List ℕ) (m : ℕ) (x : Seen) (sum : ℕ) : Type 0 where
   pub some : 1 ≤ buckets
   pub shelves : Shelves buckets t m
-  pub inT : 32 * m + 32 ≤ length t
+  pub inT : seenPlace m + SEEN ≤ length t
   pub small : m + 1 < 2 ^ 32
   pub last : x .last < 2 ^ 16
   pub from : x .from < 2 ^ 32
@@ -177,10 +157,10 @@ pub record Pushed (buckets : ℕ) (t : List ℕ) (m : ℕ) (x : Seen) (sum : ℕ
   pub shelves : Shelves buckets t′ (suc m)
   pub link : ℕ
   pub tells : Tells t′ m x sum link
-  pub seen : take 11 (drop (32 * m) t′) ≡ little 2 (x .last) ++ cell (symOf (x .symbol))
-  pub gap : take 1 (drop (32 * m + 11) t′) ≡ take 1 (drop (32 * m + 11) t)
+  pub seen : take 11 (drop (seenPlace m) t′) ≡ little 2 (x .last) ++ cell (symOf (x .symbol))
+  pub gap : take 1 (drop (seenPlace m + T-GAP) t′) ≡ take 1 (drop (seenPlace m + T-GAP) t)
   pub rows : (i : ℕ) → i < m → SameTold t t′ i
-  pub older : (i : ℕ) → i < m → take 28 (drop (32 * i) t′) ≡ take 28 (drop (32 * i) t)
-  pub later : (i : ℕ) → m < i → take 28 (drop (32 * i) t′) ≡ take 28 (drop (32 * i) t)
+  pub older : (i : ℕ) → i < m → take 28 (drop (seenPlace i) t′) ≡ take 28 (drop (seenPlace i) t)
+  pub later : (i : ℕ) → m < i → take 28 (drop (seenPlace i) t′) ≡ take 28 (drop (seenPlace i) t)
   pub tops : (h : ℕ) → buckets ≤ h → topAt t′ h ≡ topAt t h
   pub long : length t′ ≡ length t

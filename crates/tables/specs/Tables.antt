@@ -6,9 +6,13 @@ use lib.Dec.{eqb}
 use lib.ListN.{length, take, drop}
 use Rattle.spec.specs.Lists.{if}
 use Rattle.spec.specs.Search.{Found, nowhere, found, Rec}
+use Rattle.spec.specs.Entries.{absent}
+use Rattle.layout.specs.Fields.{firstFoundAt, lastFoundAt, newestAt}
+use Rattle.layout.specs.Parts.{bucketPlace}
+use Rattle.layout.specs.Records.{recordPlace, R-FREE, toAt, endOf, keptOf}
 use Rattle.state.specs.Cells.{stackAt, State}
 use Rattle.tables.specs.Addrs.{addrs, Path, Summed}
-use Rattle.tables.specs.Records.{none, toAt, endOf, keptOf, firstAt, lastAt, headAt, recsOf, Row, Chains}
+use Rattle.tables.specs.Records.{recsOf, Row, Chains}
 use Rattle.tables.specs.Links.{SameRow, Parents, Beyond}
 use Rattle.tables.specs.declared.Rooms.{Rooms}
 use Rattle.tables.specs.declared.Counts.{Counts}
@@ -31,7 +35,7 @@ recs k m c = recsOf (m .r) (m .q) (m .s) (k .s) (c .records)
 
 -- record i leads nowhere and keeps nothing, or to an address up to n, with a state among the kept cells
 pub data Goes (n room : ℕ) (r s : List ℕ) (i : ℕ) : Type 0 where
-  leads-nowhere : toAt r i ≡ none → keptOf r (suc i) ≡ keptOf r i → Goes n room r s i
+  leads-nowhere : toAt r i ≡ absent → keptOf r (suc i) ≡ keptOf r i → Goes n room r s i
   leads : toAt r i ≤ n → State s (9 * (room - keptOf r (suc i))) (keptOf r (suc i) - keptOf r i) → Goes n room r s i
 
 -- the counts are within the rooms, and the rooms within the buffers
@@ -39,7 +43,7 @@ pub record Within (k : Rooms) (m : Mem) (c : Counts) : Type 0 where
   pub fitsR : c .records ≤ k .r
   pub fitsQ : c .addresses ≤ k .q
   pub fitsS : c .kept + c .used ≤ k .s
-  pub lentR : 32 * k .r ≤ length (m .r)
+  pub lentR : recordPlace (k .r) ≤ length (m .r)
   pub lentQ : 2 * k .q ≤ length (m .q)
   pub lentS : 9 * k .s ≤ length (m .s)
   pub mostR : k .r ≤ 2 ^ 30
@@ -48,7 +52,7 @@ pub record Within (k : Rooms) (m : Mem) (c : Counts) : Type 0 where
 
 -- all that holds of the records
 pub record Tables (n buckets : ℕ) (k : Rooms) (m : Mem) (c : Counts) : Type 0 where
-  pub few : n < none
+  pub few : n < absent
   pub within : Within k m c
   pub rows : (i : ℕ) → i < c .records → Row (m .r) (m .q) i
   pub goes : (i : ℕ) → i < c .records → Goes n (k .s) (m .r) (m .s) i
@@ -65,30 +69,30 @@ in-turn c used rows = record { records = c .records; addresses = c .addresses; k
 
 -- the fields of W that are the records' are the same
 pub record SameLinks (n buckets : ℕ) (w w′ : List ℕ) : Type 0 where
-  pub firsts : (a : ℕ) → a ≤ n → firstAt w′ n a ≡ firstAt w n a
-  pub lasts : (a : ℕ) → a ≤ n → lastAt w′ n a ≡ lastAt w n a
-  pub heads : (h : ℕ) → h < buckets → headAt w′ n h ≡ headAt w n h
+  pub firsts : (a : ℕ) → a ≤ n → firstFoundAt w′ n a ≡ firstFoundAt w n a
+  pub lasts : (a : ℕ) → a ≤ n → lastFoundAt w′ n a ≡ lastFoundAt w n a
+  pub heads : (h : ℕ) → h < buckets → newestAt w′ n h ≡ newestAt w n h
   pub long : length w′ ≡ length w
 
 -- and they are 0 before the first record
 pub record NoLinks (n buckets : ℕ) (w : List ℕ) : Type 0 where
   pub some : 1 ≤ buckets
-  pub inW : 42 * (n + 1) + 4 * buckets ≤ length w
-  pub firsts : (a : ℕ) → a ≤ n → firstAt w n a ≡ 0
-  pub lasts : (a : ℕ) → a ≤ n → lastAt w n a ≡ 0
-  pub heads : (h : ℕ) → h < buckets → headAt w n h ≡ 0
+  pub inW : bucketPlace n buckets ≤ length w
+  pub firsts : (a : ℕ) → a ≤ n → firstFoundAt w n a ≡ 0
+  pub lasts : (a : ℕ) → a ≤ n → lastFoundAt w n a ≡ 0
+  pub heads : (h : ℕ) → h < buckets → newestAt w n h ≡ 0
 
 -- ---- a record more
 
 abbrev pub newFound : List ℕ → Entry → Found
-newFound s e = if (eqb (e .to) none) nowhere (found (e .to) (stackAt s (9 * e .from) (e .cells)))
+newFound s e = if (eqb (e .to) absent) nowhere (found (e .to) (stackAt s (9 * e .from) (e .cells)))
 
 abbrev pub newRec : List ℕ → Entry → List ℕ → Rec
 newRec s e path = record { start = e .start; to = newFound s e; path = path }
 
 -- there is no destination and nothing to keep, or a state stands in S
 pub data Enters (n : ℕ) (s : List ℕ) (e : Entry) : Type 0 where
-  enters-nowhere : e .to ≡ none → e .cells ≡ 0 → Enters n s e
+  enters-nowhere : e .to ≡ absent → e .cells ≡ 0 → Enters n s e
   enters : e .to ≤ n → State s (9 * e .from) (e .cells) → Enters n s e
 
 -- what can be recorded: a path, and an entry
@@ -100,21 +104,9 @@ pub record Ready (p : List ℕ) (np n buckets : ℕ) (k : Rooms) (m : Mem) (c : 
   pub entry : Enters n (m .s) e
   pub inside : e .from + e .cells ≤ c .used
 
--- the two ways
-pub record Nowhere (p : List ℕ) (np n buckets : ℕ) (k : Rooms) (m : Mem) (c : Counts) (start : ℕ) : Type 0 where
-  pub tables : Tables n buckets k m c
-  pub path : Path p 0 np
-  pub most : np ≤ 2 ^ 30
-  pub small : start < 2 ^ 16
-
-pub record Somewhere (p : List ℕ) (np n buckets : ℕ) (k : Rooms) (m : Mem) (c : Counts) (e : Entry) : Type 0 where
-  pub tables : Tables n buckets k m c
-  pub path : Path p 0 np
-  pub most : np ≤ 2 ^ 30
-  pub small : e .start < 2 ^ 16
-  pub to : e .to ≤ n
-  pub state : State (m .s) (9 * e .from) (e .cells)
-  pub inside : e .from + e .cells ≤ c .used
+-- the entry of a path that leads nowhere
+abbrev pub noEntry : ℕ → Entry
+noEntry start = record { start = start; to = absent; from = 0; cells = 0 }
 
 -- and there is room for it
 pub record Adds (p : List ℕ) (np n buckets : ℕ) (k : Rooms) (m : Mem) (c : Counts) (e : Entry) (sum : ℕ) : Type 0 where
@@ -147,7 +139,7 @@ pub record Keeps (s : List ℕ) (room kept from cells : ℕ) : Type 0 where
 -- what stays of R, Q and S, where the counts c became d: the older records but for a link to the next parent, and every byte that is not the new record's
 pub record Stays (k : Rooms) (c d : Counts) (r q s r′ q′ s′ : List ℕ) : Type 0 where
   pub rows : (i : ℕ) → i < c .records → SameRow r r′ i
-  pub tail : drop (32 * c .records + 24) r′ ≡ drop (32 * c .records + 24) r
+  pub tail : drop (recordPlace (c .records) + R-FREE) r′ ≡ drop (recordPlace (c .records) + R-FREE) r
   pub longR : length r′ ≡ length r
   pub frontQ : take (2 * c .addresses) q′ ≡ take (2 * c .addresses) q
   pub backQ : drop (2 * d .addresses) q′ ≡ drop (2 * d .addresses) q

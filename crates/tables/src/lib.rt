@@ -8,10 +8,8 @@ mod recording;
 pub mod row;
 mod shelf;
 
-pub use link::NONE;
 pub use record::end_before;
-pub use recording::record_found;
-pub use recording::record_nowhere;
+pub use recording::record_entry;
 
 // How many units of each buffer count as lent.
 pub struct Rooms {
@@ -31,7 +29,7 @@ pub struct Counts {
     pub rows: usize,
 }
 
-// What is to be recorded: the turn's start, the destination or `NONE`, and the place and the length in S, in cells, of the state to keep.
+// What is to be recorded: the turn's start, the destination or `MISSING`, and the place and the length in S, in cells, of the state to keep.
 pub struct Entry {
     pub start: usize,
     pub to: usize,

@@ -1,18 +1,29 @@
 // A new record's row in R, and the links that lead to it: from its bucket, and from the found parents of its destination.
 // "rows in order of insertion, searched"
 use crate::record::bucket_of;
+use layout::MISSING;
+use layout::field::FIRST_FOUND;
+use layout::field::LAST_FOUND;
+use layout::part::BUCKET;
+use layout::part::BUCKETS;
+use layout::record::ENDS;
+use layout::record::KEPT;
+use layout::record::LINK;
+use layout::record::NEXT;
+use layout::record::RECORD;
+use layout::record::SUM;
+use layout::record::TO;
+use layout::row::ROW;
 use lent::get32;
 use lent::put16;
 use lent::put32;
 ghost use Prim.Native.Nat.{_+_, _*_, _≤_};
 ghost use lib.ListN.{length};
 ghost use Rattle.lent.specs.Bytes.{Stored};
+ghost use Rattle.layout.specs.Records.{RECORD, recordPlace, R-NEXT};
 ghost use Rattle.tables.specs.Links.{saysBytes, linkBytes, rowBytes, Joins, Joined, Links, Linked};
 
-// In the place of a destination: there is none.
-pub const NONE: usize = 0x8000;
-
-// What a record's row says: its turn's start, its destination or `NONE`, the ends of its path in Q and of its kept cells in S, and its path's sum.
+// What a record's row says: its turn's start, its destination or `MISSING`, the ends of its path in Q and of its kept cells in S, and its path's sum.
 pub struct Fields {
     pub start: usize,
     pub to: usize,
@@ -27,28 +38,28 @@ fn put_says(r: &mut [u8], at: usize, f: Fields)
     ensures { λ _. ⌜ Stored 12 (now (r .entry)) at (saysBytes f) (now (r .exit)) ⌝ }
 {
     put16(r, at, f.start);
-    put16(r, at + 2, f.to);
-    put32(r, at + 4, f.ends);
-    put32(r, at + 8, f.kept);
+    put16(r, at + TO, f.to);
+    put32(r, at + ENDS, f.ends);
+    put32(r, at + KEPT, f.kept);
 }
 
-// Stores a record's links and its sum; it has no next parent yet.
+// Stores the links and the sum of the record whose row begins at `at`; it has no next parent yet.
 fn put_links(r: &mut [u8], at: usize, link: usize, sum: usize)
-    requires { ⌜ at + 12 ≤ length (now r) ⌝ }
-    ensures { λ _. ⌜ Stored 12 (now (r .entry)) at (linkBytes link sum) (now (r .exit)) ⌝ }
+    requires { ⌜ at + RECORD ≤ length (now r) ⌝ }
+    ensures { λ _. ⌜ Stored 12 (now (r .entry)) (at + R-NEXT) (linkBytes link sum) (now (r .exit)) ⌝ }
 {
-    put32(r, at, 0);
-    put32(r, at + 4, link);
-    put32(r, at + 8, sum);
+    put32(r, at + NEXT, 0);
+    put32(r, at + LINK, link);
+    put32(r, at + SUM, sum);
 }
 
 // Stores the row of record m, with the given link.
 fn put_row(r: &mut [u8], m: usize, f: Fields, link: usize)
-    requires { ⌜ 32 * m + 32 ≤ length (now r) ⌝ }
-    ensures { λ _. ⌜ Stored 24 (now (r .entry)) (32 * m) (rowBytes f link) (now (r .exit)) ⌝ }
+    requires { ⌜ recordPlace m + RECORD ≤ length (now r) ⌝ }
+    ensures { λ _. ⌜ Stored 24 (now (r .entry)) (recordPlace m) (rowBytes f link) (now (r .exit)) ⌝ }
 {
-    put_says(r, 32 * m, f);
-    put_links(r, 32 * m + 12, link, f.sum);
+    put_says(r, RECORD * m, f);
+    put_links(r, RECORD * m, link, f.sum);
 }
 
 // Puts record m behind the found parents of its destination a.
@@ -56,13 +67,13 @@ fn link_parent(w: &mut [u8], r: &mut [u8], n: usize, a: usize, m: usize)
     requires { ⌜ Joins n (now w) (now r) a m ⌝ }
     ensures { λ _. ⌜ Joined n (now (w .entry)) (now (r .entry)) m (now (w .exit)) (now (r .exit)) ⌝ }
 {
-    let at = 20 * (n + 1) + 20 * a;
-    let last = get32(w, at + 8);
-    put32(w, at + 8, m + 1);
+    let at = ROW * (n + 1 + a);
+    let last = get32(w, at + LAST_FOUND);
+    put32(w, at + LAST_FOUND, m + 1);
     if last == 0 {
-        return put32(w, at + 4, m + 1);
+        return put32(w, at + FIRST_FOUND, m + 1);
     }
-    put32(r, 32 * (last - 1) + 12, m + 1)
+    put32(r, RECORD * (last - 1) + NEXT, m + 1)
 }
 
 // Stores the row of record m and puts it on its chains.
@@ -70,11 +81,11 @@ pub fn link_record(w: &mut [u8], r: &mut [u8], n: usize, buckets: usize, m: usiz
     requires { ⌜ Links n buckets (now w) (now r) m f ⌝ }
     ensures { λ _. ⌜ Linked n buckets (now (w .entry)) (now (r .entry)) m f (now (w .exit)) (now (r .exit)) ⌝ }
 {
-    let at = 42 * (n + 1) + 4 * bucket_of(f.sum, buckets);
+    let at = BUCKETS * (n + 1) + BUCKET * bucket_of(f.sum, buckets);
     let head = get32(w, at);
     put_row(r, m, f, head);
     put32(w, at, m + 1);
-    if f.to == NONE {
+    if f.to == MISSING {
         return;
     }
     link_parent(w, r, n, f.to, m)

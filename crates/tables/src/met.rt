@@ -6,6 +6,9 @@ use crate::Rooms;
 use crate::record::bucket_of;
 use crate::row::Seen;
 use crate::shelf::push_row;
+use layout::seen::HEAD;
+use layout::seen::SEEN;
+use layout::seen::SUM;
 use lent::get32;
 use lent::put32;
 ghost use mathlib.Core.Path.{_≡_};
@@ -55,7 +58,7 @@ pub fn begin_rows(t: &mut [u8], buckets: usize)
 {
     let mut h = 0;
     while h < buckets {
-        put32(t, 32 * h + 28, 0);
+        put32(t, SEEN * h + HEAD, 0);
         h += 1;
     }
 }
@@ -67,8 +70,8 @@ pub fn forget(t: &mut [u8], buckets: usize, m: usize)
 {
     let mut i = 0;
     while i < m {
-        let h = bucket_of(get32(t, 32 * i + 20), buckets);
-        put32(t, 32 * h + 28, 0);
+        let h = bucket_of(get32(t, SEEN * i + SUM), buckets);
+        put32(t, SEEN * h + HEAD, 0);
         i += 1;
     }
 }

@@ -5,14 +5,10 @@ use crate::Counts;
 use crate::Entry;
 use crate::Rooms;
 use crate::add::add_record;
-use crate::link::NONE;
 use crate::path::path_sum;
 use crate::record::recorded;
 ghost use mathlib.Core.Path.{_≡_};
-ghost use Prim.Native.Nat.{_*_};
-ghost use Rattle.spec.specs.Search.{nowhere, found};
-ghost use Rattle.state.specs.Cells.{stackAt};
-ghost use Rattle.tables.specs.Tables.{mem, newFound, Ready, Nowhere, Somewhere};
+ghost use Rattle.tables.specs.Tables.{mem, newFound, Ready};
 ghost use Rattle.tables.specs.Recording.{shortOf, entryNeeds, Testing, Recorded};
 
 // The first room, of R, Q and S, that a record more would pass; 0 if none.
@@ -32,8 +28,8 @@ fn shortage(k: Rooms, c: Counts, np: usize, cells: usize) -> usize
     0
 }
 
-// Records an entry for the path in hand.
-fn record_entry(
+// Records the path in hand with the entry's destination and its state, which is kept, or with no destination, unless it is so recorded.
+pub fn record_entry(
     p: &[u8],
     np: usize,
     w: &mut [u8],
@@ -60,52 +56,4 @@ fn record_entry(
     }
     let counts = add_record(p, np, w, r, q, s, k, c, n, buckets, e, sum);
     Answer { code: 0, counts }
-}
-
-// Records the path in hand with no destination, unless it is so recorded.
-pub fn record_nowhere(
-    p: &[u8],
-    np: usize,
-    w: &mut [u8],
-    r: &mut [u8],
-    q: &mut [u8],
-    s: &mut [u8],
-    k: Rooms,
-    c: Counts,
-    n: usize,
-    buckets: usize,
-    start: usize,
-) -> Answer
-    requires { ⌜ Nowhere (now p) np n buckets k (mem (now w) (now r) (now q) (now s)) c start ⌝ }
-    ensures { λ a. ⌜ Recorded (now (p .entry)) np n buckets k (mem (now (w .entry)) (now (r .entry)) (now (q .entry)) (now (s .entry))) c start nowhere
-        (mem (now (w .exit)) (now (r .exit)) (now (q .exit)) (now (s .exit))) a ⌝ }
-{
-    let e = Entry {
-        start,
-        to: NONE,
-        from: 0,
-        cells: 0,
-    };
-    record_entry(p, np, w, r, q, s, k, c, n, buckets, e)
-}
-
-// Records the path in hand with its destination and its state, which is kept, unless that destination has that path already.
-pub fn record_found(
-    p: &[u8],
-    np: usize,
-    w: &mut [u8],
-    r: &mut [u8],
-    q: &mut [u8],
-    s: &mut [u8],
-    k: Rooms,
-    c: Counts,
-    n: usize,
-    buckets: usize,
-    e: Entry,
-) -> Answer
-    requires { ⌜ Somewhere (now p) np n buckets k (mem (now w) (now r) (now q) (now s)) c e ⌝ }
-    ensures { λ a. ⌜ Recorded (now (p .entry)) np n buckets k (mem (now (w .entry)) (now (r .entry)) (now (q .entry)) (now (s .entry))) c (e .start)
-        (found (e .to) (stackAt (now (s .entry)) (9 * e .from) (e .cells))) (mem (now (w .exit)) (now (r .exit)) (now (q .exit)) (now (s .exit))) a ⌝ }
-{
-    record_entry(p, np, w, r, q, s, k, c, n, buckets, e)
 }

@@ -2,8 +2,19 @@
 // "If last block, state and symbol were met in this turn"
 use crate::path::mix;
 use crate::record::bucket_of;
+use layout::seen::CELLS;
+use layout::seen::FROM;
+use layout::seen::HEAD;
+use layout::seen::LINK;
+use layout::seen::SEEN;
+use layout::seen::SUM;
+use layout::seen::SYMBOL;
 use lent::get16;
 use lent::get32;
+use state::cell::BEFORE;
+use state::cell::CONSTANT;
+use state::cell::JUMPDEST;
+use state::cell::OTHER;
 use state::cell::get_cell;
 use state::same::same_state;
 use state::sym::StackSym;
@@ -29,10 +40,10 @@ fn tag_of(x: StackSym) -> usize
     ensures { λ r. ⌜ (r ≡ tag (symOf x)) × (r < 4) ⌝ }
 {
     match x {
-        StackSym::Before(_) => 0,
-        StackSym::Constant(_) => 1,
-        StackSym::Jumpdest(_) => 2,
-        StackSym::Other(_) => 3,
+        StackSym::Before(_) => BEFORE,
+        StackSym::Constant(_) => CONSTANT,
+        StackSym::Jumpdest(_) => JUMPDEST,
+        StackSym::Other(_) => OTHER,
     }
 }
 
@@ -95,19 +106,19 @@ fn is_row(t: &[u8], s: &[u8], i: usize, x: Seen, sum: usize) -> bool
     ensures { λ r. ⌜ r ≡ isMet (now (t .entry)) (now (s .entry)) (seenMet (now (s .entry)) x) i ⌝ }
 {
     let symbol = x.symbol;
-    if get32(t, 32 * i + 20) != sum {
+    if get32(t, SEEN * i + SUM) != sum {
         return false;
     }
-    if get16(t, 32 * i) != x.last {
+    if get16(t, SEEN * i) != x.last {
         return false;
     }
-    if !same_symbol(symbol, get_cell(t, 32 * i + 2)) {
+    if !same_symbol(symbol, get_cell(t, SEEN * i + SYMBOL)) {
         return false;
     }
-    if get32(t, 32 * i + 16) != x.cells {
+    if get32(t, SEEN * i + CELLS) != x.cells {
         return false;
     }
-    same_state(s, 9 * x.from, 9 * get32(t, 32 * i + 12), x.cells)
+    same_state(s, 9 * x.from, 9 * get32(t, SEEN * i + FROM), x.cells)
 }
 
 // Whether one of the m rows remembers x, whose sum is given.
@@ -116,10 +127,10 @@ pub fn find_row(t: &[u8], s: &[u8], buckets: usize, m: usize, x: Seen, sum: usiz
     ensures { λ r. ⌜ r ≡ any (isMet (now (t .entry)) (now (s .entry)) (seenMet (now (s .entry)) x)) m ⌝ }
 {
     let h = bucket_of(sum, buckets);
-    let mut cur = get32(t, 32 * h + 28);
+    let mut cur = get32(t, SEEN * h + HEAD);
     while cur != 0 {
         let i = cur - 1;
-        cur = get32(t, 32 * i + 24);
+        cur = get32(t, SEEN * i + LINK);
         if is_row(t, s, i, x, sum) {
             return true;
         }

@@ -2,6 +2,13 @@
 // "T: 32 bytes a remembered row."
 use crate::record::bucket_of;
 use crate::row::Seen;
+use layout::seen::CELLS;
+use layout::seen::FROM;
+use layout::seen::HEAD;
+use layout::seen::LINK;
+use layout::seen::SEEN;
+use layout::seen::SUM;
+use layout::seen::SYMBOL;
 use lent::get32;
 use lent::put16;
 use lent::put32;
@@ -10,6 +17,7 @@ use state::sym::StackSym;
 ghost use Prim.Native.Nat.{_+_, _*_, _≤_, _<_, _^_};
 ghost use lib.ListN.{length};
 ghost use Rattle.lent.specs.Bytes.{Stored};
+ghost use Rattle.layout.specs.Seens.{SEEN, seenPlace, T-FROM};
 ghost use Rattle.state.specs.Symbols.{symOf};
 ghost use Rattle.tables.specs.Rows.{placeBytes, SeenPut, Tellable, RowPut, Pushes, Pushed};
 
@@ -19,28 +27,28 @@ fn put_seen(t: &mut [u8], at: usize, last: usize, symbol: StackSym)
     ensures { λ _. ⌜ SeenPut (now (t .entry)) at last (symOf symbol) (now (t .exit)) ⌝ }
 {
     put16(t, at, last);
-    put_cell(t, at + 2, symbol);
+    put_cell(t, at + SYMBOL, symbol);
 }
 
-// Stores a state's place and length, a sum and a link.
+// Stores the state's place and length, the sum and the link of the row that begins at `at`.
 fn put_place(t: &mut [u8], at: usize, from: usize, cells: usize, sum: usize, link: usize)
-    requires { ⌜ at + 16 ≤ length (now t) ⌝ }
-    ensures { λ _. ⌜ Stored 16 (now (t .entry)) at (placeBytes from cells sum link) (now (t .exit)) ⌝ }
+    requires { ⌜ at + SEEN ≤ length (now t) ⌝ }
+    ensures { λ _. ⌜ Stored 16 (now (t .entry)) (at + T-FROM) (placeBytes from cells sum link) (now (t .exit)) ⌝ }
 {
-    put32(t, at, from);
-    put32(t, at + 4, cells);
-    put32(t, at + 8, sum);
-    put32(t, at + 12, link);
+    put32(t, at + FROM, from);
+    put32(t, at + CELLS, cells);
+    put32(t, at + SUM, sum);
+    put32(t, at + LINK, link);
 }
 
 // Stores row i.
 fn put_met(t: &mut [u8], i: usize, x: Seen, sum: usize, link: usize)
-    requires { ⌜ (32 * i + 32 ≤ length (now t)) × (Tellable x sum link) ⌝ }
+    requires { ⌜ (seenPlace i + SEEN ≤ length (now t)) × (Tellable x sum link) ⌝ }
     ensures { λ _. ⌜ RowPut (now (t .entry)) i x sum link (now (t .exit)) ⌝ }
 {
     let symbol = x.symbol;
-    put_seen(t, 32 * i, x.last, symbol);
-    put_place(t, 32 * i + 12, x.from, x.cells, sum, link);
+    put_seen(t, SEEN * i, x.last, symbol);
+    put_place(t, SEEN * i, x.from, x.cells, sum, link);
 }
 
 // Stores row m and puts it at the head of its bucket.
@@ -48,7 +56,7 @@ pub fn push_row(t: &mut [u8], buckets: usize, m: usize, x: Seen, sum: usize)
     requires { ⌜ Pushes buckets (now t) m x sum ⌝ }
     ensures { λ _. ⌜ Pushed buckets (now (t .entry)) m x sum (now (t .exit)) ⌝ }
 {
-    let at = 32 * bucket_of(sum, buckets) + 28;
+    let at = SEEN * bucket_of(sum, buckets) + HEAD;
     let head = get32(t, at);
     put_met(t, m, x, sum, head);
     put32(t, at, m + 1);

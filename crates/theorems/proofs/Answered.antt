@@ -15,9 +15,9 @@ use Rattle.spec.specs.Ending.{Final, all-are, merged, ended, entries-of, finals
 use Rattle.spec.specs.Rooms.{Lent}
 use Rattle.spec.specs.Entries.{Map, entries, bytes}
 use Rattle.spec.specs.Answer.{answered, prepared, searched, mapped, answer}
-use Rattle.theorems.proofs.Branch.{both}
-use Rattle.theorems.proofs.Lists.{Rising, one-more, rising-from}
-use Rattle.theorems.proofs.Members.{In, in-keep, in-map}
+use Rattle.laws.proofs.Branch.{both}
+use Rattle.laws.proofs.Lists.{Rising, one-more, rising-from}
+use Rattle.laws.proofs.Members.{In, in-keep, in-map}
 use Rattle.theorems.proofs.Cutting.{Made, made, starts-rise}
 use Rattle.theorems.proofs.Energy.{counted-in, energy-is-counted, search-energy}
 use Rattle.theorems.proofs.Records.{History, search-rounds, search-history}

@@ -15,8 +15,8 @@ use Rattle.spec.specs.Walk.{Ins, from, instructions}
 use Rattle.spec.specs.Blocks.{Block, blocks}
 use Rattle.spec.specs.Stacks.{Sym, before, constant, jumpdest, other, Stack, entry, reads, read, joins, settle, trims, trim, Does, pushes-value, pushes-pc, dups, swaps, ands, adds, jumps, jumpis, lands, halts, plain, does, act, Ran, after, runs, trimmed, run}
 use Rattle.spec.specs.Meaning.{last, cut-short, Ended, executes, Throughout, Known, Deep, Masked, Asked, no-jump, jumps-to, Holds, Faithful}
-use Rattle.theorems.proofs.Branch.{both}
-use Rattle.theorems.proofs.Members.{In}
+use Rattle.laws.proofs.Branch.{both}
+use Rattle.laws.proofs.Members.{In}
 use Rattle.theorems.proofs.Cutting.{Whole, Passes, walk-over, ends-before, ends-with, goes-past, is-short, is-whole, block-whole}
 use Rattle.theorems.proofs.Counts.{takes, takes-row, few, jumps?, closes?, lands?, jumping-does, closing-does, landing-does}
 use Rattle.theorems.proofs.Symbols.{leaves, holds-act}

@@ -11,12 +11,12 @@ use Rattle.spec.specs.Lists.{keep, gather, little}
 use Rattle.spec.specs.Blocks.{Kind, terminate, jump, jumpi, dynamic-jump, dynamic-jumpi, Block}
 use Rattle.spec.specs.Search.{Node, Rec, is-nowhere, dest, dests}
 use Rattle.spec.specs.Ending.{Final, final, all-are, merged, ended, entries-of, finals}
-use Rattle.spec.specs.Rooms.{Lent}
+use Rattle.spec.specs.Rooms.{Lent, longest}
 use Rattle.spec.specs.Entries.{Map, record-entry, block-entries, entries, joined, bytes}
 use Rattle.spec.specs.Answer.{answered, prepared, searched, mapped, answer}
-use Rattle.theorems.proofs.Branch.{both}
-use Rattle.theorems.proofs.Lists.{Rising, one-more}
-use Rattle.theorems.proofs.Members.{In, here, there, in-right, in-keep, length-keep, in-gather, gather-append, in-map, map-in}
+use Rattle.laws.proofs.Branch.{both}
+use Rattle.laws.proofs.Lists.{Rising, one-more}
+use Rattle.laws.proofs.Members.{In, here, there, in-right, in-keep, length-keep, in-gather, gather-append, in-map, map-in}
 use Rattle.theorems.proofs.Sides.{Within}
 use Rattle.theorems.proofs.Passing.{inner, Passes, record-passes}
 use Rattle.theorems.proofs.Demand3.{gave}
@@ -53,7 +53,7 @@ pub record BlockBounded (n : ℕ) (f : Final) : Type 0 where
 -- a map of a code of n bytes
 pub record Bounded (n : ℕ) (m : Map) : Type 0 where
   pub size : m .size ≡ n
-  pub size-fits : n ≤ 24576
+  pub size-fits : n ≤ longest
   pub energy : m .energy ≤ 500256
   pub block-count : length (m .blocks) ≤ n
   pub record-count : length (m .recs) ≤ 2 ^ 30

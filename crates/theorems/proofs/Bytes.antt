@@ -9,7 +9,7 @@ use lib.Seq.{getD-drop, drop-drop}
 use Rattle.spec.specs.Lists.{gather, little, number}
 use Rattle.spec.specs.Forms.{field}
 use Rattle.spec.specs.Reader.{addresses}
-use Rattle.theorems.proofs.Members.{In, here, there}
+use Rattle.laws.proofs.Members.{In, here, there}
 
 -- each is a byte
 abbrev pub Bytes : List ℕ → Type 0

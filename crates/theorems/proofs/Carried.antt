@@ -3,7 +3,7 @@ use Prim.Native.Nat.{ℕ, zero, suc}
 use mathlib.Core.List.{List, [], _∷_}
 use Rattle.spec.specs.Stacks.{Sym, before, constant, jumpdest, other, Stack}
 use Rattle.spec.specs.Search.{Node, Taker, Parent, Rec, St, need, spend, remember, forget, add, writes, Room, P, S, T, R, Q, Met, Turn, Level, record-nowhere, record-found, arrive, follow, tries, level, turn, round, rounds}
-use Rattle.theorems.proofs.Branch.{both}
+use Rattle.laws.proofs.Branch.{both}
 
 pub record Carried (Rel : St → St → Type 0) : Type 0 where
   pub keeps : (s : St) → Rel s s

@@ -16,7 +16,7 @@ use Rattle.spec.specs.Opcodes.{unknown, row}
 use Rattle.spec.specs.Walk.{Ins}
 use Rattle.spec.specs.Stacks.{Does, pushes-value, pushes-pc, dups, swaps, ands, adds, jumps, jumpis, lands, halts, plain, does}
 use Rattle.spec.specs.Meaning.{supplied, exchanged, yields, jumping, closing}
-use Rattle.theorems.proofs.Branch.{and-false}
+use Rattle.laws.proofs.Branch.{and-false}
 
 -- ---- a number past 255, which is no byte, is plain and unknown
 

@@ -15,9 +15,9 @@ use Rattle.spec.specs.Opcodes.{argument, row}
 use Rattle.spec.specs.Walk.{Ins, walk, instructions, from}
 use Rattle.spec.specs.Meaning.{closing, last, cut-short}
 use Rattle.spec.specs.Blocks.{Kind, terminate, jump, Block, block, with-kind, Mode, opened, waiting, pushed, Cut, JUMPDEST, JUMPI, JUMP, UNKNOWN, OTHER, ENDS, cut, closes, cuts, checked, starts, check-all, blocks}
-use Rattle.theorems.proofs.Branch.{both}
-use Rattle.theorems.proofs.Lists.{Rising, none-left, one-more, rising-from}
-use Rattle.theorems.proofs.Members.{In, here, there, or-cases}
+use Rattle.laws.proofs.Branch.{both}
+use Rattle.laws.proofs.Lists.{Rising, none-left, one-more, rising-from}
+use Rattle.laws.proofs.Members.{In, here, there, or-cases}
 use Rattle.theorems.proofs.Counts.{and-off, differs, above, everywhere}
 use Rattle.theorems.proofs.Walking.{Stands, Walked, stops, steps, walks-from, walked, walked-once, from-here, from-in, from-behind}
 

@@ -11,7 +11,7 @@ use borrow.Author.Tests.{ltb-true, ltb-false}
 use Rattle.spec.specs.Lists.{mem}
 use Rattle.spec.specs.Stacks.{Sym, before, constant, jumpdest, other, Stack}
 use Rattle.spec.specs.Search.{Node, Taker, Parent, St, begin, Turn, Level, record-nowhere, record-found, arrive, follow, loops, tries, level, turn, round, rounds, search}
-use Rattle.theorems.proofs.Branch.{both, and-right}
+use Rattle.laws.proofs.Branch.{both, and-right}
 use Rattle.theorems.proofs.Records.{Trace, nothing, then, opens, counts, records, asks, remembers, forgets, Rounds, no-more, a-round, search-rounds}
 
 -- ---- the units counted

@@ -18,8 +18,8 @@ use Rattle.spec.specs.Opcodes.{argument, row}
 use Rattle.spec.specs.Walk.{Ins, big, walk, instructions}
 use Rattle.spec.specs.Stacks.{Sym, before, constant, jumpdest, other, Stack, entry, reads, read, pops, span, swap, trade, from-value, known-value, anded, summed, joins, settle, trims, trim, Does, pushes-value, pushes-pc, dups, swaps, ands, adds, jumps, jumpis, lands, halts, plain, does, act, Ran, after, runs, run}
 use Rattle.spec.specs.Blocks.{Block, blocks}
-use Rattle.theorems.proofs.Branch.{both, if-true, if-false}
-use Rattle.theorems.proofs.Members.{In, and-both, and-true}
+use Rattle.laws.proofs.Branch.{both, if-true, if-false}
+use Rattle.laws.proofs.Members.{In, and-both, and-true}
 use Rattle.theorems.proofs.Walking.{Stands, Walked, stops, steps, walks-from}
 use Rattle.theorems.proofs.Cutting.{block-afresh}
 use Rattle.theorems.proofs.Counts.{takes, takes-row}

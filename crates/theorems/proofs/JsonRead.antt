@@ -10,8 +10,8 @@ use lib.ListN.{length, length-append}
 use borrow.Author.Tests.{ltb-true, ltb-false, le-leb}
 use Rattle.spec.specs.Lists.{if, gather}
 use Rattle.spec.specs.Json.{Way, BlockType, Terminate, Jump, Jumpi, DynamicJump, DynamicJumpi, Shown, ascii, digits, decimal, nullable, array, way-json, type-json, block-json, json}
-use Rattle.theorems.proofs.Branch.{both, if-true, if-false}
-use Rattle.theorems.proofs.Members.{and-true}
+use Rattle.laws.proofs.Branch.{both, if-true, if-false}
+use Rattle.laws.proofs.Members.{and-true}
 use Rattle.theorems.proofs.Readers.{Reader, whole}
 use Rattle.theorems.proofs.JsonReader.{digit?, digit-first?, reads-on, number, destination, values, list, way, btype, block, blocks-in}
 

@@ -11,18 +11,46 @@ use Rattle.spec.specs.Blocks.{Kind, terminate, jump, jumpi, dynamic-jump, dynam
 use Rattle.spec.specs.Search.{Found, nowhere, found, Rec}
 use Rattle.spec.specs.Ending.{Final}
 use Rattle.spec.specs.Rooms.{Lent}
-use Rattle.spec.specs.Entries.{Map, item, destination, flag, path-bytes, path-entry, shown, extent, joined, block-bytes}
+use Rattle.spec.specs.Entries.{Map, item, destination, flag, path-bytes, path-entry, shown, extent, joined, block-bytes, absent}
 use Rattle.spec.specs.Answer.{answered, answer}
+use Rattle.spec.specs.Reader.{pieces, items, finals-in, stateless, plain-rec, plain-final}
 use Rattle.spec.specs.Json.{Way, BlockType, Terminate, Jump, Jumpi, DynamicJump, DynamicJumpi, Shown, dest-of, way-of, type-of, shown-of, listed, json, text}
 use Rattle.theorems.proofs.JsonReader.{blocks-in}
 use Rattle.theorems.proofs.JsonRead.{text-reads}
-use Rattle.theorems.proofs.BlockEntries.{final-entries, blocks-listed, entries-read}
-use Rattle.theorems.proofs.Inside.{answered-small}
+use Rattle.theorems.proofs.ReaderRead.{blocks-written}
+use Rattle.theorems.proofs.ReaderAnswered.{answered-fits}
+
+-- ---- what the entries say, by the reader of No. 2
+
+unfoldable pub blocks-listed : List ℕ → List Shown
+blocks-listed b = map shown-of (finals-in (items (pieces b 0 0)))
+
+ways-plain : (es : List Rec) → map way-of (map plain-rec es) ≡ map way-of es
+ways-plain [] = refl
+ways-plain (r ∷ es) = ap₂ {C = List Way} (λ (t : Option ℕ) (l : List Way). record { path = r .path; to = t } ∷ l) (goal (r .to)) (ways-plain es)
+  where
+    goal : (t : Found) → dest-of (stateless t) ≡ dest-of t
+    goal nowhere = refl
+    goal (found t s) = refl
+
+type-plain : (es : List Rec) (k : Kind) → type-of (map plain-rec es) k ≡ type-of es k
+type-plain es (terminate b) = refl
+type-plain es (jump t) = refl
+type-plain es (jumpi t f) = refl
+type-plain es dynamic-jump = rw (ways-plain es)
+type-plain es (dynamic-jumpi f) = rw (ways-plain es)
+
+shown-plain : (fs : List Final) → map shown-of (map plain-final fs) ≡ map shown-of fs
+shown-plain [] = refl
+shown-plain (f ∷ fs) = rw (type-plain (f .entries) (f .block .kind), shown-plain fs)
 
 -- ---- what the entries are of what the text shows
 
+abbrev final-entries : Final → List (List ℕ)
+final-entries f = shown (extent (f .block)) (f .entries) (f .block .kind)
+
 abbrev goal-number : Option ℕ → ℕ
-goal-number none = 0x8000
+goal-number none = absent
 goal-number (some t) = t
 
 abbrev way-bytes : Way → List ℕ
@@ -73,12 +101,13 @@ text-names m = text-reads (listed m)
 -- of a run that is answered; where a call is, its run is: `gave-text`
 module _ (l : Lent) (limit : ℕ) (code : List ℕ) (a : Map) (e : answer l limit code ≡ answered a) where
   -- Reading the block entries of an answer gives exactly its blocks.
-  pub entries-name : blocks-listed (block-bytes a) ≡ some (listed a)
-  entries-name = entries-read a (answered-small l limit code a e)
+  pub entries-name : blocks-listed (block-bytes a) ≡ listed a
+  unfolding blocks-listed
+  entries-name = ap (map shown-of) (blocks-written a (answered-fits l limit code a e)) ∙ shown-plain (a .blocks)
 
   -- The text names the same blocks, paths and destinations as the entries, and no other.
-  pub same-named : blocks-in (text a) ≡ blocks-listed (block-bytes a)
-  same-named = text-names a ∙ sym entries-name
+  pub same-named : blocks-in (text a) ≡ some (blocks-listed (block-bytes a))
+  same-named = text-names a ∙ ap some (sym entries-name)
 
 -- Two answers, of any codes, limits and rooms, give the same text exactly when their block entries agree.
 pub same-text : (l k : Lent) (m n : ℕ) (c d : List ℕ) (a b : Map) → answer l m c ≡ answered a → answer k n d ≡ answered b
@@ -94,6 +123,4 @@ same-text l k m n c d a b e f = (agree, same)
 
     same : block-bytes a ≡ block-bytes b → text a ≡ text b
     same q =
-        let both : some (listed a) ≡ some (listed b) = sym (entries-name l m c a e) ∙ ap blocks-listed q ∙ entries-name k n d b f in
-        let shows : listed a ≡ listed b = cc in
-        ap json shows
+        ap json (sym (entries-name l m c a e) ∙ ap blocks-listed q ∙ entries-name k n d b f)

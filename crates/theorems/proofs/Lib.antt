@@ -1,6 +1,3 @@
-pub mod Branch
-pub mod Lists
-pub mod Members
 pub mod Each
 pub mod Walking
 pub mod Cutting
@@ -43,8 +40,6 @@ pub mod Decimal
 pub mod Readers
 pub mod JsonReader
 pub mod JsonRead
-pub mod BlockEntries
-pub mod Inside
 pub mod JsonText
 pub mod JsonCall
 pub mod JsonSessions

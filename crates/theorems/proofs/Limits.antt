@@ -8,7 +8,7 @@ use mathlib.Core.List.{List, [], _∷_, _++_, append-nil}
 use lib.Dec.{eqb, ltb}
 use lib.ListN.{length}
 use borrow.Author.Tests.{ltb-true, ltb-false, lt-ltb, le-ltb}
-use Rattle.theorems.proofs.Branch.{both, if-true, if-false, and-false}
+use Rattle.laws.proofs.Branch.{both, if-true, if-false, and-false}
 use Rattle.spec.specs.Lists.{if, mem}
 use Rattle.spec.specs.Stacks.{Sym, before, constant, jumpdest, other, Stack}
 use Rattle.spec.specs.Search.{Node, Taker, Parent, Rec, St, begin, spend, forget, Turn, turn-of, Level, arrive, follow, loops, tries, level, turn, round, rounds, search}

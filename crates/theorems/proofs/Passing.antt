@@ -11,7 +11,7 @@ use Rattle.spec.specs.Blocks.{Kind, terminate, jump, jumpi, dynamic-jump, dynam
 use Rattle.spec.specs.Stacks.{Sym, before, constant, jumpdest, other, Stack, read, run, compose}
 use Rattle.spec.specs.Search.{Node, node, Taker, taker, takes, sides, Parent, parent, direct, Found, nowhere, found, Rec, dest, leads, found-parents, Level, search}
 use Rattle.spec.specs.Answer.{prepared}
-use Rattle.theorems.proofs.Members.{In, here, in-only, in-cases, in-map, in-gather}
+use Rattle.laws.proofs.Members.{In, here, in-only, in-cases, in-map, in-gather}
 use Rattle.theorems.proofs.Each.{Each, each-map, each-in}
 use Rattle.theorems.proofs.Cutting.{made}
 use Rattle.theorems.proofs.Records.{Stored, Opens, first-level, deeper-level, Recorded, arrives, is-lost, too-heavy, search-history}

@@ -6,18 +6,18 @@ use mathlib.Core.List.{List}
 use Rattle.spec.specs.Blocks.{Kind, terminate, jump, jumpi, dynamic-jump, dynamic-jumpi}
 use Rattle.spec.specs.Search.{Found, nowhere, found, Rec, dest}
 use Rattle.spec.specs.Ending.{Final}
-use Rattle.spec.specs.Rooms.{Lent}
+use Rattle.spec.specs.Rooms.{Lent, longest}
 use Rattle.spec.specs.Entries.{Map, bytes}
 use Rattle.spec.specs.Answer.{answered, answer}
 use Rattle.spec.specs.Reader.{holds, read, plain}
-use Rattle.theorems.proofs.Members.{In, here}
+use Rattle.laws.proofs.Members.{In, here}
 use Rattle.theorems.proofs.Sides.{Within}
 use Rattle.theorems.proofs.Bounds.{RecBounded, BlockBounded, Bounded, answered-bounded}
 use Rattle.theorems.proofs.ReaderRead.{FoundFits, KindFits, RecFits, FinalFits, MapFits, read-written}
 
 -- ---- what is bounded fits
 
-module _ (n : ℕ) (small : n ≤ 24576) where
+module _ (n : ℕ) (small : n ≤ longest) where
   sides-fit : (k : Kind) → Within n k → KindFits k
   sides-fit (terminate success) w = tt
   sides-fit (jump t) w = omega arith

@@ -13,8 +13,8 @@ use Rattle.spec.specs.Ending.{Final}
 use Rattle.spec.specs.Entries.{Map, bytes}
 use Rattle.spec.specs.Forms.{field, announced, Entry, entry, behind, Ends, TERMINATE, JUMP, JUMPI, DYNAMIC-JUMP, DYNAMIC-JUMPI, Sort, HEAD, WAY, RECORD, UNKNOWN, BLOCK, sort, long, dynamic, owes, start-in}
 use Rattle.spec.specs.Reader.{Reading, holds, bad, Piece, whole, pieces, fair, formed, Place, first, blocks, records, next, goes-on, sevens, met, first-bad, Item, a-block, a-record, item-of, items, ways, finals-in, recs-in, held, verdict, read}
-use Rattle.theorems.proofs.Branch.{both}
-use Rattle.theorems.proofs.Members.{In, here, there, and-both}
+use Rattle.laws.proofs.Branch.{both}
+use Rattle.laws.proofs.Members.{In, here, there, and-both}
 use Rattle.theorems.proofs.Bounds.{Bare}
 use Rattle.theorems.proofs.ReaderSplit.{Split, done, cut-off, more, split}
 use Rattle.theorems.proofs.ReaderPlaces.{never, Passed, begun, past-first, Step, passes, refuses, step}

@@ -15,8 +15,8 @@ use Rattle.spec.specs.Entries.{Map}
 use Rattle.spec.specs.Forms.{field, announced, Entry, entry, behind, TERMINATE, JUMP, JUMPI, DYNAMIC-JUMP, DYNAMIC-JUMPI, Sort, HEAD, WAY, RECORD, UNKNOWN, BLOCK, sort, owes, start-in}
 use Rattle.spec.specs.Reader.{Reading, holds, bad, Piece, whole, cut, pieces, formed, Place, first, blocks, records, next, met, taken, first-bad, Item, item-of, items, finals-in, recs-in, counted, held, verdict, read, reads-as}
 use Rattle.spec.specs.BadEntries.{Whole, Begins, none-yet, one-more, offset, Bad, no-byte, cut-entry, bad-entry, NothingBad, block-in, record-in, how-many, HeadRight, Refused, at-first-bad, by-its-head}
-use Rattle.theorems.proofs.Branch.{both, if-true}
-use Rattle.theorems.proofs.Members.{and-both, and-true}
+use Rattle.laws.proofs.Branch.{both, if-true}
+use Rattle.laws.proofs.Members.{and-both, and-true}
 use Rattle.theorems.proofs.ReaderSplit.{body-long, Split, done, cut-off, more, moved, split, split-whole, split-cut, split-none}
 use Rattle.theorems.proofs.ReaderPlaces.{never, Passed, begun, none-passed, Step, passes, refuses, step, refused}
 

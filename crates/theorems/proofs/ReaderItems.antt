@@ -12,12 +12,12 @@ use Rattle.spec.specs.Lists.{gather, little}
 use Rattle.spec.specs.Blocks.{Kind, terminate, jump, jumpi, dynamic-jump, dynamic-jumpi, Block}
 use Rattle.spec.specs.Search.{Found, Rec}
 use Rattle.spec.specs.Ending.{Final}
-use Rattle.spec.specs.Entries.{Map, item, absent, destination, flag, path-bytes, path-entry, shown, extent, record-entry, joined, entries, bytes}
+use Rattle.spec.specs.Entries.{Map, item, absent, destination, flag, path-bytes, path-entry, shown, extent, record-entry, joined, entries, bytes, block-bytes}
 use Rattle.spec.specs.Forms.{field, announced, entry, behind, TERMINATE, JUMP, JUMPI, DYNAMIC-JUMP, DYNAMIC-JUMPI, Sort, HEAD, WAY, RECORD, UNKNOWN, BLOCK, sort, long}
 use Rattle.spec.specs.Reader.{fair, Item, a-head, a-block, a-way, a-record, no-item, destined, addresses, item-of}
 use Rattle.spec.specs.BadEntries.{Whole}
-use Rattle.theorems.proofs.Branch.{both}
-use Rattle.theorems.proofs.Members.{In, here, there, gather-append}
+use Rattle.laws.proofs.Branch.{both}
+use Rattle.laws.proofs.Members.{In, here, there, gather-append}
 use Rattle.theorems.proofs.Bounds.{Bare}
 use Rattle.theorems.proofs.ReaderSplit.{body-long}
 use Rattle.theorems.proofs.Bytes.{Bytes, bytes-drop, part, spelled}
@@ -146,3 +146,7 @@ map-bytes m h =
     (gather-append (λ (e : List ℕ). e) (gather shows (m .blocks)) (map record-entry (m .recs))
     ∙ ap₂ (λ (x y : List ℕ). x ++ y) (blocks-bytes (m .blocks) h) (records-bytes (m .recs))
     ∙ sym (gather-append written (gather block-items (m .blocks)) (map a-record (m .recs))))
+
+pub blocks-as-items : (m : Map) → ((f : Final) → In f (m .blocks) → Bare (f .entries) (f .block .kind)) → block-bytes m ≡ gather written (gather block-items (m .blocks))
+unfolding block-bytes
+blocks-as-items m h = blocks-bytes (m .blocks) h

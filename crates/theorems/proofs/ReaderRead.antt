@@ -3,7 +3,7 @@ use Prim.Native.Nat.{ℕ, suc, _+_, _*_, _^_, _≤_, _<_}
 use native.Mathlib.Omega.{arith}
 use mathlib.Core.Path.{_≡_, refl, sym, ap, ap₂, subst, _∙_}
 use mathlib.Core.Bool.{Bool, true, false, _&&_}
-use mathlib.Core.List.{List, [], _∷_, _++_, map, append-assoc}
+use mathlib.Core.List.{List, [], _∷_, _++_, map, append-assoc, append-nil}
 use mathlib.Core.Option.{Option, none, some}
 use lib.Dec.{eqb, leb}
 use lib.ListN.{length, take, drop, length-append, length-map}
@@ -13,18 +13,18 @@ use Rattle.spec.specs.Lists.{if, gather, little, number}
 use Rattle.spec.specs.Blocks.{Kind, terminate, jump, jumpi, dynamic-jump, dynamic-jumpi, block}
 use Rattle.spec.specs.Search.{Found, nowhere, found, Rec}
 use Rattle.spec.specs.Ending.{Final}
-use Rattle.spec.specs.Entries.{Map, item, absent, destination, flag, path-bytes, bytes}
+use Rattle.spec.specs.Entries.{Map, item, absent, destination, flag, path-bytes, bytes, block-bytes}
 use Rattle.spec.specs.Forms.{announced, Entry, behind, Ends, TERMINATE, JUMP, JUMPI, DYNAMIC-JUMP, DYNAMIC-JUMPI, Sort, HEAD, WAY, RECORD, BLOCK, sort, long, dynamic, owes, start-in}
 use Rattle.spec.specs.Reader.{holds, Piece, whole, pieces, formed, Place, first, blocks, records, next, goes-on, sevens, met, taken, first-bad, Item, a-head, a-block, a-way, a-record, no-item, destined, item-of, items, ways, finals-in, recs-in, counted, held, verdict, read, stateless, plain-rec, plain-final, plain}
-use Rattle.theorems.proofs.Branch.{if-true, if-false}
-use Rattle.theorems.proofs.Lists.{Rising, one-more}
-use Rattle.theorems.proofs.Members.{In, here, there, and-true}
+use Rattle.laws.proofs.Branch.{if-true, if-false}
+use Rattle.laws.proofs.Lists.{Rising, one-more}
+use Rattle.laws.proofs.Members.{In, here, there, and-true}
 use Rattle.theorems.proofs.Answered.{finals-at}
 use Rattle.theorems.proofs.Bounds.{Bare}
 use Rattle.theorems.proofs.ReaderSplit.{Split, done, more, moved, split, split-once}
 use Rattle.theorems.proofs.Bytes.{number-little, addressed}
 use Rattle.theorems.proofs.ReaderBack.{read-items}
-use Rattle.theorems.proofs.ReaderItems.{written, way-of, block-items, items-of, map-bytes}
+use Rattle.theorems.proofs.ReaderItems.{written, way-of, block-items, items-of, map-bytes, blocks-as-items}
 
 -- ---- what has room: every address, count and length fits its bytes, and a destination is not the number of a missing one
 
@@ -488,3 +488,16 @@ module _ (m : Map) (h : MapFits m) where
   plain-bytes =
       let back = read-items (bytes m) (plain m) read-written in
       map-bytes (plain m) (back .bare) ∙ ap (gather written) (sym (back .same) ∙ ap items the-pieces ∙ got .same) ∙ gather-plain (items-of m) ∙ sym same-bytes
+
+  -- The block entries are read by themselves too.
+  got-shown : Got (blocks 0 false) (behind-items [] (m .blocks)) 0
+  got-shown = got-blocks [] (λ r i. elim i [ ]) (m .blocks) (h .finals) (h .rising) false 0
+
+  shown-pieces : pieces (block-bytes m) 0 0 ≡ got-shown .ps
+  shown-pieces =
+      ap (λ (b : List ℕ). pieces b 0 0) (blocks-as-items m (λ f i. h .finals f i .bare) ∙ ap (gather written) (sym (append-nil (gather block-items (m .blocks)))))
+      ∙ split-once (got-shown .splits) (split (gather written (behind-items [] (m .blocks))))
+
+  -- Reading the block entries gives the blocks back.
+  pub blocks-written : finals-in (items (pieces (block-bytes m) 0 0)) ≡ map plain-final (m .blocks)
+  blocks-written = ap (λ (ps : List Piece). finals-in (items ps)) shown-pieces ∙ ap finals-in (got-shown .same) ∙ finals-plain [] (m .blocks) (h .finals)

@@ -10,7 +10,7 @@ use borrow.Author.Tests.{leb-true, leb-false}
 use Rattle.spec.specs.Forms.{announced, entry, behind}
 use Rattle.spec.specs.Reader.{Piece, whole, cut, has, pieces}
 use Rattle.spec.specs.BadEntries.{Whole}
-use Rattle.theorems.proofs.Branch.{both}
+use Rattle.laws.proofs.Branch.{both}
 
 has-leb : (b : List ℕ) (n : ℕ) → has b n ≡ leb n (length b)
 has-leb [] zero = refl

@@ -13,8 +13,8 @@ use borrow.Author.Tests.{eqb-true}
 use Rattle.spec.specs.Lists.{if, mem, lastOf}
 use Rattle.spec.specs.Stacks.{Sym, before, constant, jumpdest, other, Stack, read, compose}
 use Rattle.spec.specs.Search.{Node, Taker, takers, Parent, direct, nowhere, found, Rec, dest, dests, leads, found-parents, Room, P, S, Met, St, begin, need, spend, remember, forget, add, Turn, turn-of, Level, parents, writes, record-nowhere, record-found, arrive, follow, loops, tries, level, turn, round, reached-by, rounds, search}
-use Rattle.theorems.proofs.Branch.{both}
-use Rattle.theorems.proofs.Members.{In, here, there, and-both, or-cases, mem-left, in-left, in-right, in-cases, in-keep, gather-append}
+use Rattle.laws.proofs.Branch.{both}
+use Rattle.laws.proofs.Members.{In, here, there, and-both, or-cases, mem-left, in-left, in-right, in-cases, in-keep, gather-append}
 use Rattle.theorems.proofs.Each.{Each, all-done, each-snoc}
 use Rattle.theorems.proofs.Growth.{Grows, grows-refl, grows-trans}
 

@@ -1,5 +1,5 @@
 -- Demand 1: each number is given exactly when document 01's table says. Assumes nothing.
-use Prim.Native.Nat.{ℕ, zero, suc, _+_, _*_, _^_, _≤_, _<_}
+use Prim.Native.Nat.{ℕ, zero, suc, _^_, _≤_, _<_}
 use native.Mathlib.Omega.{arith}
 use mathlib.Core.Path.{_≡_, refl, ap, _∙_}
 use mathlib.Core.List.{List}
@@ -7,10 +7,10 @@ use lib.Dec.{leb, ltb}
 use lib.ListN.{length}
 use borrow.Author.Tests.{ltb-true, ltb-false, lt-ltb, le-ltb, leb-true, leb-false, le-leb, lt-leb}
 use Rattle.spec.specs.Search.{Room, P, S, T, R, Q, Need}
-use Rattle.spec.specs.Rooms.{Lent, units, room, shortage}
+use Rattle.spec.specs.Rooms.{Lent, units, room, shortage, longest, work-need}
 use Rattle.spec.specs.Entries.{Map, bytes}
 use Rattle.spec.specs.Answer.{Answer, refused, answered, searched, mapped, within-out, within-rooms, answer}
-use Rattle.theorems.proofs.Branch.{both, if-true, if-false}
+use Rattle.laws.proofs.Branch.{both, if-true, if-false}
 use Rattle.theorems.proofs.Shortage.{Fits, FirstShort, none-short, fits-none, first-short, short-first}
 
 -- "of any room at most 2^30 units count as lent"
@@ -31,15 +31,15 @@ module _ (l : Lent) (limit : ℕ) (code : List ℕ) where
 
   -- 1, 2 and 3 do not apply
   pub record Taken : Type 0 where
-    pub code-fits : length code ≤ 24576
+    pub code-fits : length code ≤ longest
     pub limit-fits : limit ≤ 500000
-    pub work-fits : 64 * length code + 256 ≤ l .w
+    pub work-fits : work-need (length code) ≤ l .w
 
   -- The document's table: each number, given when.
   pub data Verdict : Answer → Type 0 where
-    code-over : 24576 < length code → Verdict (refused 1)
-    limit-over : length code ≤ 24576 → 500000 < limit → Verdict (refused 2)
-    work-short : length code ≤ 24576 → limit ≤ 500000 → l .w < 64 * length code + 256 → Verdict (refused 3)
+    code-over : longest < length code → Verdict (refused 1)
+    limit-over : length code ≤ longest → 500000 < limit → Verdict (refused 2)
+    work-short : length code ≤ longest → limit ≤ 500000 → l .w < work-need (length code) → Verdict (refused 3)
     room-short : {k : ℕ} → Taken → FirstShort l asked k → Verdict (refused (suc k))
     output-short : Taken → Fits l asked → units (l .out) 1 < length (bytes made) → Verdict (refused 9)
     all-fits : Taken → Fits l asked → length (bytes made) ≤ units (l .out) 1 → Verdict (answered made)
@@ -54,24 +54,24 @@ module _ (l : Lent) (limit : ℕ) (code : List ℕ) where
   pub verdict : Verdict (answer l limit code)
   unfolding answer
   verdict =
-      both Verdict (ltb 24576 (length code)) (λ on. code-over (ltb-true _ _ on))
+      both Verdict (ltb longest (length code)) (λ on. code-over (ltb-true _ _ on))
       (λ c. both Verdict (ltb 500000 limit) (λ on. limit-over (ltb-false _ _ c) (ltb-true _ _ on))
-      (λ m. both Verdict (ltb (l .w) (64 * length code + 256)) (λ on. work-short (ltb-false _ _ c) (ltb-false _ _ m) (ltb-true _ _ on))
+      (λ m. both Verdict (ltb (l .w) (work-need (length code))) (λ on. work-short (ltb-false _ _ c) (ltb-false _ _ m) (ltb-true _ _ on))
       (λ w. verdict-rooms (record { code-fits = ltb-false _ _ c; limit-fits = ltb-false _ _ m; work-fits = ltb-false _ _ w }) (shortage l asked) refl)))
 
   taken-run : Taken → answer l limit code ≡ within-rooms (within-out l made) (shortage l asked)
   unfolding answer
   taken-run t =
-      if-false _ _ _ (le-ltb 24576 (length code) (t .code-fits)) ∙ if-false _ _ _ (le-ltb 500000 limit (t .limit-fits))
-      ∙ if-false _ _ _ (le-ltb (l .w) (64 * length code + 256) (t .work-fits))
+      if-false _ _ _ (le-ltb longest (length code) (t .code-fits)) ∙ if-false _ _ _ (le-ltb 500000 limit (t .limit-fits))
+      ∙ if-false _ _ _ (le-ltb (l .w) (work-need (length code)) (t .work-fits))
 
   -- and the table has no other: what it gives is the answer.
   pub verdict-only : {a : Answer} → Verdict a → answer l limit code ≡ a
   unfolding answer
-  verdict-only (code-over h) = if-true _ _ _ (lt-ltb 24576 (length code) h)
-  verdict-only (limit-over c h) = if-false _ _ _ (le-ltb 24576 (length code) c) ∙ if-true _ _ _ (lt-ltb 500000 limit h)
+  verdict-only (code-over h) = if-true _ _ _ (lt-ltb longest (length code) h)
+  verdict-only (limit-over c h) = if-false _ _ _ (le-ltb longest (length code) c) ∙ if-true _ _ _ (lt-ltb 500000 limit h)
   verdict-only (work-short c m h) =
-      if-false _ _ _ (le-ltb 24576 (length code) c) ∙ if-false _ _ _ (le-ltb 500000 limit m) ∙ if-true _ _ _ (lt-ltb (l .w) (64 * length code + 256) h)
+      if-false _ _ _ (le-ltb longest (length code) c) ∙ if-false _ _ _ (le-ltb 500000 limit m) ∙ if-true _ _ _ (lt-ltb (l .w) (work-need (length code)) h)
   verdict-only (room-short {k} t f) = taken-run t ∙ ap (within-rooms (within-out l made)) (short-first l asked k f)
   verdict-only (output-short t f h) =
       taken-run t ∙ ap (within-rooms (within-out l made)) (fits-none l asked f) ∙ if-false _ _ _ (lt-leb (length (bytes made)) (units (l .out) 1) h)

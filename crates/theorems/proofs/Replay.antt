@@ -12,10 +12,10 @@ use Rattle.spec.specs.Walk.{Ins, from}
 use Rattle.spec.specs.Blocks.{Kind, terminate, jump, jumpi, dynamic-jump, dynamic-jumpi, Block}
 use Rattle.spec.specs.Stacks.{Sym, before, constant, jumpdest, other, Stack, cells, Ran, runs, trimmed, run, compose}
 use Rattle.spec.specs.Search.{Node, node, nodes, Taker, taker, takes, takers, sides, Parent, parent, direct, Found, nowhere, found, Rec, leads, found-parents, Level, search}
-use Rattle.theorems.proofs.Branch.{both}
+use Rattle.laws.proofs.Branch.{both}
 use Rattle.theorems.proofs.Composing.{compose-assoc}
 use Rattle.theorems.proofs.Trimming.{identity, run-any-depth}
-use Rattle.theorems.proofs.Members.{In, here, there, in-only, in-cases, in-gather, in-map}
+use Rattle.laws.proofs.Members.{In, here, there, in-only, in-cases, in-gather, in-map}
 use Rattle.theorems.proofs.Each.{Each, each-map, each-in}
 use Rattle.theorems.proofs.Records.{Stored, Opens, first-level, deeper-level, Recorded, arrives, is-lost, too-heavy, Came, search-history}
 

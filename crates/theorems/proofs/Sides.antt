@@ -14,26 +14,20 @@ use Rattle.spec.specs.Walk.{Ins, instructions}
 use Rattle.spec.specs.Blocks.{Kind, terminate, jump, jumpi, dynamic-jump, dynamic-jumpi, Block, with-kind, Mode, opened, waiting, pushed, branching, jumping, Cut, JUMPDEST, JUMPI, JUMP, UNKNOWN, OTHER, ENDS, cut, closes, cuts, lands, checked, starts, blocks}
 use Rattle.spec.specs.Stacks.{Sym, before, constant, jumpdest, other, run}
 use Rattle.spec.specs.Search.{settled, sides}
-use Rattle.theorems.proofs.Branch.{both}
-use Rattle.theorems.proofs.Members.{In, here, there, in-only, in-cases, mem-in, in-map, and-both}
+use Rattle.laws.proofs.Branch.{both}
+use Rattle.laws.proofs.Members.{In, here, there, in-only, in-cases, mem-in, in-map, and-both}
 use Rattle.theorems.proofs.Walking.{Walked, stops, steps, walked}
 use Rattle.theorems.proofs.Cutting.{made, starts-checked}
 use Rattle.theorems.proofs.Landing.{Goes, run-ends}
 
--- the sides of a kind: a destination lies below n, and a false side, the address behind a JUMPI, is at most n
+-- the sides of a kind: a destination lies below n, and a false side, the address behind a JUMPI, is at most n; that of a DynamicJumpi is not 0, so that a
+-- row whose true side stands as 0 leads to 0 by that side alone
 abbrev pub Within : ℕ → Kind → Type 0
 Within n (terminate success) = Unit {0}
 Within n (jump t) = t < n
 Within n (jumpi t f) = (t < n) × (f ≤ n)
 Within n dynamic-jump = Unit {0}
-Within n (dynamic-jumpi f) = f ≤ n
-
-pub within-more : (n m : ℕ) → n ≤ m → (k : Kind) → Within n k → Within m k
-within-more n m h (terminate success) w = tt
-within-more n m h (jump t) w = omega arith
-within-more n m h (jumpi t f) w = (omega arith, omega arith)
-within-more n m h dynamic-jump w = tt
-within-more n m h (dynamic-jumpi f) w = omega arith
+Within n (dynamic-jumpi f) = (1 ≤ f) × (f ≤ n)
 
 -- ---- the cutting: of the kinds that are not checked
 
@@ -42,7 +36,7 @@ Falls n (terminate success) = Unit {0}
 Falls n (jump t) = Unit {0}
 Falls n (jumpi t f) = Unit {0}
 Falls n dynamic-jump = Unit {0}
-Falls n (dynamic-jumpi f) = f ≤ n
+Falls n (dynamic-jumpi f) = (1 ≤ f) × (f ≤ n)
 
 module _ (n : ℕ) where
   data All : List Block → Type 0 where
@@ -53,9 +47,9 @@ module _ (n : ℕ) where
   all-in (and-more f a) here = f
   all-in (and-more f a) (there i) = all-in a i
 
-  branching-falls : (push : Option ℕ) (f : ℕ) → f ≤ n → Falls n (branching push f)
-  branching-falls none f h = h
-  branching-falls (some v) f h = tt
+  branching-falls : (push : Option ℕ) (f : ℕ) → 1 ≤ f → f ≤ n → Falls n (branching push f)
+  branching-falls none f o h = (o, h)
+  branching-falls (some v) f o h = tt
 
   jumping-falls : (push : Option ℕ) → Falls n (jumping push)
   jumping-falls none = tt
@@ -64,7 +58,7 @@ module _ (n : ℕ) where
   closes-falls : (id start prev : ℕ) (push : Option ℕ) (pc : ℕ) (on : Mode → List Block) → pc < n → ((m : Mode) → All (on m)) → (c : Cut)
       → All (closes id start prev push pc on c)
   closes-falls id start prev push pc on h more JUMPDEST = both All (eqb start pc) (λ _. more (opened id start)) (λ _. and-more tt (more (opened pc pc)))
-  closes-falls id start prev push pc on h more JUMPI = and-more (branching-falls push (pc + 1) (omega arith)) (more (opened (pc + 1) (pc + 1)))
+  closes-falls id start prev push pc on h more JUMPI = and-more (branching-falls push (pc + 1) (omega arith) (omega arith)) (more (opened (pc + 1) (pc + 1)))
   closes-falls id start prev push pc on h more JUMP = and-more (jumping-falls push) (more waiting)
   closes-falls id start prev push pc on h more UNKNOWN =
       both All (eqb start 0) (λ _. and-more tt no-more) (λ _. both All (eqb start pc) (λ _. more waiting) (λ _. and-more tt (more waiting)))
@@ -121,7 +115,7 @@ settled-within n (some (jumpdest t)) (terminate success) h w = tt
 settled-within n (some (jumpdest t)) (jump u) h w = w
 settled-within n (some (jumpdest t)) (jumpi u f) h w = w
 settled-within n (some (jumpdest t)) dynamic-jump h w = h
-settled-within n (some (jumpdest t)) (dynamic-jumpi f) h w = (h, w)
+settled-within n (some (jumpdest t)) (dynamic-jumpi f) h w = (h, w .1)
 
 pub node-within : (code : List ℕ) {b : Block} → In b (blocks code (instructions code))
     → Within (length code) (settled (run code (instructions code) (b .start) .goes) (b .kind))
@@ -139,4 +133,4 @@ sides-within n (jumpi u f) h {t} i =
     one (inl j) = omega (arith, in-only j, h .0)
     one (inr j) = omega (arith, in-only j, h .1)
 sides-within n dynamic-jump h i = elim i [ ]
-sides-within n (dynamic-jumpi f) h i = omega (arith, in-only i)
+sides-within n (dynamic-jumpi f) h i = omega (arith, in-only i, h .1)

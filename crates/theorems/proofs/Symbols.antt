@@ -17,7 +17,7 @@ use Rattle.spec.specs.Opcodes.{row}
 use Rattle.spec.specs.Walk.{Ins}
 use Rattle.spec.specs.Stacks.{Sym, before, constant, jumpdest, other, Stack, read, pops, push, pushes, span, from-value, known-value, mask, is, anded, summed, swap, trade, Does, pushes-value, pushes-pc, dups, swaps, ands, adds, jumps, jumpis, lands, halts, plain, does, act}
 use Rattle.spec.specs.Meaning.{supplied, exchanged, yields, Means, Tells, Holds, Deep, Small, Masked}
-use Rattle.theorems.proofs.Branch.{both}
+use Rattle.laws.proofs.Branch.{both}
 use Rattle.theorems.proofs.Counts.{takes, gives, takes-row, gives-row, does-to, told, yields-does, ands?, anding-does}
 use Rattle.theorems.proofs.Composing.{reads-drop}
 

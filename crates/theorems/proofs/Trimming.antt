@@ -9,7 +9,7 @@ use mathlib.Core.List.{List, [], _∷_, _++_}
 use lib.Dec.{eqb}
 use lib.ListN.{replicate}
 use borrow.Author.Tests.{eq-eqb}
-use Rattle.theorems.proofs.Branch.{if-true}
+use Rattle.laws.proofs.Branch.{if-true}
 use Rattle.spec.specs.Lists.{if}
 use Rattle.spec.specs.Walk.{Ins}
 use Rattle.spec.specs.Opcodes.{row}

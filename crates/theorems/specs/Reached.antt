@@ -5,7 +5,7 @@ use mathlib.Core.Bool.{true}
 use mathlib.Core.List.{List}
 use Rattle.spec.specs.Lists.{mem}
 use Rattle.spec.specs.Reach.{Edge}
-use Rattle.theorems.specs.Lists.{In}
+use Rattle.laws.specs.Lists.{In}
 
 pub data Reached (es : List Edge) (seeds : List ℕ) : ℕ → Type 0 where
   seed : {a : ℕ} → mem a seeds ≡ true → Reached es seeds a

@@ -29,25 +29,26 @@ returns-2 c =
     let at-entry = at-skipped .before .before .before .before .before .before .before .before .before in
     entered-short (at-entry .pre) (at-skipped .skipped .ensures) (at-if1 .if1 .left) (at-grow .grow .ensures) (at-if2 .if2 .taken) (c .before .refused .ensures) (c .shut2 .ensures)
 
-end-nowhere-requires : tie.Need-end-nowhere-requires
-end-nowhere-requires c κs =
-    let at-if2 = c .before .before .before .before .before .before .before in
+land-requires : tie.Need-land-requires
+land-requires c κs =
+    let at-if2 = c .before .before .before .before .before .before .before .before .before in
     let at-grow = at-if2 .before .before .before in
     let at-if1 = at-grow .before .before .before .before .before in
     let at-skipped = at-if1 .before in
     let at-entry = at-skipped .before .before .before .before .before .before .before .before .before in
-    enter-strays (at-entry .pre) (at-skipped .skipped .ensures) (at-if1 .if1 .left) (at-grow .grow .ensures) (at-if2 .if2 .left)
+    enter-strays (at-entry .pre) (at-skipped .skipped .ensures) (at-if1 .if1 .left) (at-grow .grow .ensures) (at-if2 .if2 .left) (c .no-entry .ensures)
 
 returns-3 : tie.Need-returns-3
 returns-3 c =
-    let at-end-nowhere = c .before .before .before .before .before .before .before .before in
-    let at-if3 = at-end-nowhere .before .before .before .before .before .before in
+    let at-land = c .before .before .before .before .before .before .before .before .before in
+    let at-no-entry = at-land .before in
+    let at-if3 = at-no-entry .before .before .before .before .before .before .before in
     let at-if2 = at-if3 .before .before in
     let at-grow = at-if2 .before .before .before in
     let at-if1 = at-grow .before .before .before .before .before in
     let at-skipped = at-if1 .before in
     let at-entry = at-skipped .before .before .before .before .before .before .before .before .before in
-    entered-stops (at-entry .pre) (at-skipped .skipped .ensures) (at-if1 .if1 .left) (at-grow .grow .ensures) (at-if2 .if2 .left) (at-if3 .if3 .taken) (at-end-nowhere .end-nowhere .ensures)
+    entered-stops (at-entry .pre) (at-skipped .skipped .ensures) (at-if1 .if1 .left) (at-grow .grow .ensures) (at-if2 .if2 .left) (at-if3 .if3 .taken) (at-no-entry .no-entry .ensures) (at-land .land .ensures) (c .ended .ensures)
 
 follow-requires : tie.Need-follow-requires
 follow-requires c κs =
@@ -86,9 +87,11 @@ enter-spec =
     (λ c. search needs)
     (λ c. search needs)
     returns-2
-    end-nowhere-requires
+    (λ c κs. search needs)
+    land-requires
+    (λ c κs. search needs)
     (λ c. search needs)
-    (λ c. search needs)
+    (λ c. c .before .before .before .before .before .before .before .before .before .before .before .before .before .before .before .before .before .before .before .before .before .before .grow .kept .0)
     (λ c. search needs)
     (λ c. search needs)
     (λ c. search needs)

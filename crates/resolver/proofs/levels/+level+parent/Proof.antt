@@ -2,7 +2,6 @@
 use mathlib.Core.Path.{_∙_}
 use native.Mathlib.Omega.{arith}
 use borrow.Author.Needs.{needs}
-use Rattle.steps.specs.Runs.{buffers}
 use Rattle.steps.proofs.Cursors.{fuel}
 use Rattle.resolver.proofs.LevelLoop.{Going, level-at-block, level-starts, going-block, going-cursor, going-asks, going-address, going-falls, going-spend, going-tries, level-skips, level-passes, level-refused, level-tried, level-ends}
 use Rattle.resolver.proofs.ParentDeeper.{parent-shut, opens-lighter, parent-counts, parent-opens, parent-refused, parent-uncounts, parent-done}
@@ -16,6 +15,7 @@ use Rattle.resolver.proofs.levels.parent.Reads as parent
 use Rattle.resolver.proofs.levels.parent.Kinds as parent-kinds
 use Rattle.resolver.proofs.levels.+level+parent.Lts-parent as parent-lts
 use Rattle.lent.proofs.get16.Reads as get16-reads
+use Rattle.layout.specs.Buffers.{buffers}
 use Rattle.reachable.proofs.is_marked.Reads as is-marked-reads
 use Rattle.steps.proofs.cursor.first_cursor.Reads as first-cursor-reads
 use Rattle.steps.proofs.cursor.last_block.Reads as last-block-reads

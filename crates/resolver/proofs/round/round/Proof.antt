@@ -2,10 +2,10 @@
 use mathlib.Core.Path.{refl, _∙_}
 use native.Mathlib.Omega.{arith}
 use borrow.Author.Needs.{needs}
+use Rattle.layout.specs.Buffers.{buffers}
 use Rattle.resolver.proofs.RoundLoop.{Going, linksLeft, round-begins, round-row, round-address, round-turns, round-less, round-skips, round-over, round-refused, round-goes-on, round-done}
 use Rattle.resolver.proofs.round.round.Statement.{statement}
 use Rattle.resolver.proofs.round.round.Tie as tie
-use Rattle.steps.specs.Runs.{buffers}
 
 abbrev Inv-loop : tie.InvT-loop
 Inv-loop code w₀ p₀ s₀ t₀ r₀ q₀ k by link₀ cur₀ w p s t r q link cur =

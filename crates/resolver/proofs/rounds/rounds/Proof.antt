@@ -2,7 +2,7 @@
 use mathlib.Core.Path.{_∙_}
 use native.Mathlib.Omega.{arith}
 use borrow.Author.Needs.{needs}
-use Rattle.steps.specs.Runs.{buffers}
+use Rattle.layout.specs.Buffers.{buffers}
 use Rattle.resolver.proofs.RoundsLoop.{Rolling, roll-start, roll-limit, roll-settles, roll-asks, roll-short, roll-last, roll-next, roll-done}
 use Rattle.resolver.proofs.rounds.rounds.Statement.{statement}
 use Rattle.resolver.proofs.rounds.rounds.Tie as tie

@@ -1,0 +1,3 @@
+pub mod Branch
+pub mod Lists
+pub mod Members

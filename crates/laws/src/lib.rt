@@ -1,0 +1,1 @@
+// Laws of branches and lists that every crate may cite stand in proofs/; there is no code here.

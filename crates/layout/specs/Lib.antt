@@ -1,0 +1,7 @@
+pub mod Buffers
+pub mod Parts
+pub mod Rows
+pub mod Fields
+pub mod Records
+pub mod Edges
+pub mod Seens

@@ -1,0 +1,69 @@
+-- W's parts, for a code of n bytes, one after the other: the rows of the blocks, the rows of the addresses' fields, the worklist, the buckets of records,
+-- and, before the end of what W needs, the part for runs. Where each stands, and what it means that it stays. Assumes nothing.
+use mathlib.Core.Path.{_≡_}
+use mathlib.Core.List.{List}
+use Prim.Native.Nat.{ℕ, _+_, _*_, _/_, _≤_}
+use lib.ListN.{take, drop}
+
+-- ---- where they stand
+
+-- the bytes of a row
+abbrev pub ROW : ℕ
+ROW = 20
+
+-- the row of the block at a; all of them, from 0 to n
+abbrev pub rowPlace : ℕ → ℕ
+rowPlace a = ROW * a
+
+abbrev pub rowsEnd : ℕ → ℕ
+rowsEnd n = rowPlace (n + 1)
+
+-- the fields of the address a: its row, n + 1 rows further
+abbrev pub fieldsPlace : ℕ → ℕ → ℕ
+fieldsPlace n a = rowPlace (n + 1 + a)
+
+-- the worklist, and entry i
+abbrev pub listPlace : ℕ → ℕ
+listPlace n = 40 * (n + 1)
+
+abbrev pub entryPlace : ℕ → ℕ → ℕ
+entryPlace n i = listPlace n + 2 * i
+
+-- the buckets, and bucket h
+abbrev pub bucketsPlace : ℕ → ℕ
+bucketsPlace n = 42 * (n + 1)
+
+abbrev pub bucketPlace : ℕ → ℕ → ℕ
+bucketPlace n h = bucketsPlace n + 4 * h
+
+-- how many buckets there are: 13 bytes for each address, and of the 256 bytes as many as the part for runs, 9 * (n + 17), leaves
+abbrev pub bucketsOf : ℕ → ℕ
+bucketsOf n = (13 * n + 52) / 4
+
+-- ---- one of them stays, where w becomes w′
+
+abbrev pub SameRows : ℕ → List ℕ → List ℕ → Type 0
+SameRows n w w′ = take (rowsEnd n) w′ ≡ take (rowsEnd n) w
+
+-- of the fields of each address, its first k bytes, and k bytes from the byte o on
+abbrev pub SameStart : ℕ → ℕ → List ℕ → List ℕ → Type 0
+SameStart k n w w′ = (a : ℕ) → a ≤ n → take k (drop (fieldsPlace n a) w′) ≡ take k (drop (fieldsPlace n a) w)
+
+abbrev pub SameFields : ℕ → ℕ → ℕ → List ℕ → List ℕ → Type 0
+SameFields k o n w w′ = (a : ℕ) → a ≤ n → take k (drop (fieldsPlace n a + o) w′) ≡ take k (drop (fieldsPlace n a + o) w)
+
+abbrev pub SameList : ℕ → List ℕ → List ℕ → Type 0
+SameList n w w′ = take (2 * (n + 1)) (drop (listPlace n) w′) ≡ take (2 * (n + 1)) (drop (listPlace n) w)
+
+-- all that is past the rows, past the fields, past the worklist, past so many buckets
+abbrev pub PastRows : ℕ → List ℕ → List ℕ → Type 0
+PastRows n w w′ = drop (rowsEnd n) w′ ≡ drop (rowsEnd n) w
+
+abbrev pub PastFields : ℕ → List ℕ → List ℕ → Type 0
+PastFields n w w′ = drop (listPlace n) w′ ≡ drop (listPlace n) w
+
+abbrev pub PastList : ℕ → List ℕ → List ℕ → Type 0
+PastList n w w′ = drop (bucketsPlace n) w′ ≡ drop (bucketsPlace n) w
+
+abbrev pub PastBuckets : ℕ → ℕ → List ℕ → List ℕ → Type 0
+PastBuckets n buckets w w′ = drop (bucketPlace n buckets) w′ ≡ drop (bucketPlace n buckets) w

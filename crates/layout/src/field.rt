@@ -1,0 +1,16 @@
+// The fields of an address in W, in the row that stands n + 1 rows after its block's. The mark is first: when the address was reached.
+// The first and the last found parent, and how often the address is on the path in hand.
+pub const FIRST_FOUND: usize = 4;
+
+pub const LAST_FOUND: usize = 8;
+
+pub const COUNT: usize = 12;
+
+// Whether its sides have been followed, or wait to be.
+pub const FLAG: usize = 18;
+
+// After the search, in the place of found parents: the one destination of the address's records; then the first row of edges of which it is the place and,
+// `edge::WITNESS` bytes on, of which it is the witness.
+pub const NOTE: usize = 4;
+
+pub const HEADS: usize = 4;
