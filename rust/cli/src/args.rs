@@ -1,218 +1,135 @@
-//! What the words of the command line ask for.
+//! What the words of the command line ask for, by the table.
 
-use std::ffi::OsString;
+use std::ffi::{OsStr, OsString};
+use std::os::unix::ffi::OsStrExt;
 use std::path::PathBuf;
 
-use aznifrem::{HIGHEST_LIMIT, Mapper};
+use crate::commands;
+use crate::given::Given;
+use crate::table::{Command, Opt};
 
-pub const HELP: &str = "\
-aznifrem draws the control-flow map of an EVM contract: its blocks, its jumps, and the paths by
-which its dynamic jumps were resolved.
-
-  aznifrem [map] [OPTIONS] FILE...   map contracts; a folder stands for all files in it, - for
-                                     standard input
-  aznifrem show [OPTIONS] FILE...    stored maps, read back; a folder stands for all maps in it, - for
-                                     standard input
-  aznifrem diff OLD NEW              what moved between two stored maps, or two folders of them
-
-A contract is a file of deployed code (at most 24,576 bytes), as hexadecimal digits, with or without
-0x and line breaks, or as the bytes themselves. Which of the two it is shows by its content; say
---hex or --binary where it does not: other text, and what begins with a byte order mark, is a
-contract with --binary alone. In folders of contracts, files and folders that begin with a dot,
-files that end in .map and links to folders are passed over.
-
-What comes out (the first is the default):
-  --lines           each entry of the map as hexadecimal digits on a line; with two contracts or
-                    more, a line == PATH before each one's
-  --summary         the map for a reader
-  --json            the blocks as JSON, as serde makes it of evmole's, on a line; with --to it is a
-                    file NAME.json beside NAME.map, both of one call, and is not printed
-  --to FOLDER       each map as a file NAME.map in this folder, to be stored; nothing is printed
-                    unless --lines or --summary is there too. A folder that holds a .map file
-                    already is refused: give a fresh one each time, so that no old map stays
-
-Options:
-  --limit N         energy that the search may use, 0 to 500000 (default 500000)
-  --ceiling MIB     memory that may be lent, in MiB (default 1024)
-  --hex, --binary   what the files hold
-  --quiet           no progress bar
-  --                what follows is a file, whatever it begins with
-  --help, --version
-
-show prints stored maps for a reader, or with --lines their entries, with --json their blocks. What is
-no map is told, with the place of its first bad entry and what is wrong there.
-
-diff lists the blocks that came, went or changed, and every jump that moved. Of a folder show and
-diff take every file that ends in .map, also those that begin with a dot and those behind links.
-
-Exit: of map, 0 if every contract is mapped, 1 if one is refused or not stored, or a file or folder
-is unreadable (a line for each on standard error); of show, 0 if every file holds a map, 1 if one
-does not or is unreadable; of diff, 0 if nothing moved, 1 if something did, 2 if a map or a folder is
-unreadable; of all, 2 if the command is not understood or the output cannot be written.
-
-A first map:
-  echo 60056007565b005b56 | aznifrem --summary -
-A night's work:
-  aznifrem --to tonight contracts && aznifrem diff yesterday tonight
-";
-
-/// What the files hold.
-#[derive(Clone, Copy, Debug, PartialEq, Eq)]
-pub enum Form {
-    ToldApart,
-    Hex,
-    Binary,
-}
-
-/// What is printed of a map; JSON is stored where maps are.
-#[derive(Clone, Copy, Debug, PartialEq, Eq)]
-pub enum Print {
-    Lines,
-    Summary,
-    Json,
-}
-
-#[derive(Clone, Debug, PartialEq, Eq)]
-pub struct Options {
-    pub inputs: Vec<PathBuf>,
-    pub form: Form,
-    pub print: Option<Print>,
-    pub to: Option<PathBuf>,
-    pub limit: u64,
-    pub ceiling: usize,
-    pub quiet: bool,
-}
-
-#[derive(Clone, Debug, PartialEq, Eq)]
-pub enum Command {
-    Help,
+pub enum Asked {
+    /// The text of one command, or of the program.
+    Help(Option<&'static Command>),
     Version,
-    Map(Options),
-    Show { inputs: Vec<PathBuf>, print: Print },
-    Diff { old: PathBuf, new: PathBuf },
+    Run(Given),
 }
 
-/// The command, or a sentence that says what is not understood.
-pub fn parse(words: impl Iterator<Item = OsString>) -> Result<Command, String> {
+/// A sentence that says what is not understood, and the command that it is about, if one is named.
+pub struct Misunderstood {
+    pub command: Option<&'static Command>,
+    pub sentence: String,
+}
+
+pub fn parse(words: impl Iterator<Item = OsString>) -> Result<Asked, Misunderstood> {
     let mut words = words.peekable();
-    let first = words.peek().and_then(|word| word.to_str());
-    match first {
-        Some("diff") => diff(words.skip(1).collect()),
-        Some("show") => show(words.skip(1)),
-        Some("map") => map(words.skip(1)),
-        _ => map(words),
-    }
+    let named = words.peek().and_then(|word| word.to_str());
+    let named = named.and_then(commands::named);
+    let command = named.unwrap_or_else(commands::default);
+    let words = words.skip(usize::from(named.is_some()));
+    of_command(command, named, words).map_err(|sentence| Misunderstood {
+        command: named,
+        sentence,
+    })
 }
 
-fn show(mut words: impl Iterator<Item = OsString>) -> Result<Command, String> {
-    let mut inputs = Vec::new();
-    let mut print = Print::Summary;
-    while let Some(word) = words.next() {
-        match word.to_str() {
-            Some("--help" | "-h") => return Ok(Command::Help),
-            Some("--summary") => print = Print::Summary,
-            Some("--lines") => print = Print::Lines,
-            Some("--json") => print = Print::Json,
-            Some("--") => inputs.extend(words.by_ref().map(PathBuf::from)),
-            Some(name) if name.starts_with('-') && name != "-" => {
-                return Err(format!("'{name}' is no option of show"));
-            }
-            _ => inputs.push(word.into()),
-        }
-    }
-    if inputs.is_empty() {
-        return Err("show takes a stored map or a folder of them, or - for standard input".into());
-    }
-    Ok(Command::Show { inputs, print })
-}
-
-fn diff(words: Vec<OsString>) -> Result<Command, String> {
-    if words.iter().any(|word| word == "--help" || word == "-h") {
-        return Ok(Command::Help);
-    }
-    let words: Vec<OsString> = words.into_iter().filter(|word| word != "--").collect();
-    match <[OsString; 2]>::try_from(words) {
-        Ok([old, new]) => Ok(Command::Diff {
-            old: old.into(),
-            new: new.into(),
-        }),
-        Err(words) => Err(format!(
-            "diff takes two maps or two folders of maps, OLD and NEW, and {} words are given",
-            words.len()
-        )),
-    }
-}
-
-fn map(mut words: impl Iterator<Item = OsString>) -> Result<Command, String> {
-    let mut options = Options {
-        inputs: Vec::new(),
-        form: Form::ToldApart,
-        print: None,
-        to: None,
-        limit: HIGHEST_LIMIT,
-        ceiling: Mapper::DEFAULT_CEILING,
-        quiet: false,
+fn of_command(
+    command: &'static Command,
+    named: Option<&'static Command>,
+    mut words: impl Iterator<Item = OsString>,
+) -> Result<Asked, String> {
+    let mut given = Given {
+        command,
+        options: Vec::new(),
+        operands: Vec::new(),
     };
     while let Some(word) = words.next() {
-        match word.to_str() {
-            Some("--help" | "-h") => return Ok(Command::Help),
-            Some("--version" | "-V") => return Ok(Command::Version),
-            Some("--") => options.inputs.extend(words.by_ref().map(PathBuf::from)),
-            Some(name) if name.starts_with('-') && name != "-" => {
-                option(&mut options, name, &mut words)?;
-            }
-            _ => options.inputs.push(word.into()),
+        match word.as_bytes() {
+            b"--help" | b"-h" => return Ok(Asked::Help(named)),
+            b"--version" | b"-V" => return Ok(Asked::Version),
+            b"--" => given.operands.extend(words.by_ref().map(PathBuf::from)),
+            [b'-', _, ..] => given.options.push(option(command, &word, &mut words)?),
+            _ => given.operands.push(word.into()),
         }
     }
-    if options.inputs.is_empty() {
-        return Err("give a file or a folder of contracts, or - for standard input".into());
+    match given.operands.len() {
+        count if command.fits(count) => Ok(Asked::Run(given)),
+        0 => Err(command.takes.into()),
+        1 => Err(format!("{}, and one word is given", command.takes)),
+        count => Err(format!("{}, and {count} words are given", command.takes)),
     }
-    if options.to.is_none() {
-        options.print.get_or_insert(Print::Lines);
-    }
-    Ok(Command::Map(options))
 }
 
-/// One option; its value is the next word, or stands after '='.
+/// One option of the table; its value is the next word, or stands after '='.
 fn option(
-    options: &mut Options,
-    word: &str,
+    command: &'static Command,
+    word: &OsStr,
     words: &mut impl Iterator<Item = OsString>,
-) -> Result<(), String> {
-    let (name, joined) = match word.split_once('=') {
-        Some((name, value)) => (name, Some(OsString::from(value))),
-        None => (word, None),
-    };
-    let takes_value = matches!(name, "--limit" | "--ceiling" | "--to");
-    if joined.is_some() && !takes_value {
-        return Err(format!("'{word}' is no option"));
+) -> Result<(&'static str, Option<OsString>), String> {
+    let mut parts = word.as_bytes().splitn(2, |byte| *byte == b'=');
+    let name = parts.next().map(OsStr::from_bytes).unwrap_or_default();
+    let joined = parts.next().map(|value| OsStr::from_bytes(value).into());
+    let option = name.to_str().and_then(|name| command.option(name));
+    let option = option.ok_or_else(|| unknown(command, name))?;
+    match (&option.value, joined) {
+        (None, None) => Ok((option.name, None)),
+        (None, Some(_)) => Err(format!("{} takes no value", option.name)),
+        (Some(_), Some(value)) => Ok((option.name, Some(value))),
+        (Some(_), None) => match words.next() {
+            Some(value) => Ok((option.name, Some(value))),
+            None => Err(format!("{} needs a value after it", option.name)),
+        },
     }
-    let mut value = || {
-        let next = joined.clone().or_else(|| words.next());
-        next.ok_or_else(|| format!("{name} needs a value after it"))
-    };
-    match name {
-        "--limit" => options.limit = number(name, value()?)?,
-        "--ceiling" => options.ceiling = mebibytes(number(name, value()?)?)?,
-        "--to" => options.to = Some(value()?.into()),
-        "--lines" => options.print = Some(Print::Lines),
-        "--summary" => options.print = Some(Print::Summary),
-        "--json" => options.print = Some(Print::Json),
-        "--hex" => options.form = Form::Hex,
-        "--binary" => options.form = Form::Binary,
-        "--quiet" => options.quiet = true,
-        _ => return Err(format!("'{word}' is no option")),
-    }
-    Ok(())
 }
 
-fn number(name: &str, value: OsString) -> Result<u64, String> {
-    let number = value.to_str().and_then(|text| text.parse().ok());
-    number.ok_or_else(|| format!("{name} takes a whole number, not '{}'", value.display()))
+/// What is no option, and the one that may be meant.
+fn unknown(command: &Command, name: &OsStr) -> String {
+    let name = name.to_string_lossy();
+    let nearest = command
+        .options()
+        .map(|option| (steps(&name, option.name), option));
+    let meant = nearest.min_by_key(|(steps, _)| *steps);
+    let meant = meant.filter(|(steps, _)| *steps <= 2);
+    let meant = meant.map_or(String::new(), |(_, Opt { name, .. })| {
+        format!(": is {name} meant?")
+    });
+    let of = if command.name == crate::table::DEFAULT {
+        String::new()
+    } else {
+        format!(" of {}", command.name)
+    };
+    format!("'{}' is no option{of}{meant}", name.escape_debug())
 }
 
-fn mebibytes(count: u64) -> Result<usize, String> {
-    let bytes = count.checked_mul(1 << 20);
-    let bytes = bytes.and_then(|bytes| usize::try_from(bytes).ok());
-    bytes.ok_or_else(|| format!("--ceiling {count} is more memory than there can be"))
+/// How many letters are to be put in, taken away or changed to make one word of the other.
+fn steps(one: &str, other: &str) -> usize {
+    let other: Vec<char> = other.chars().collect();
+    let mut row: Vec<usize> = (0..=other.len()).collect();
+    for (at, letter) in one.chars().enumerate() {
+        let mut corner = row[0];
+        row[0] = at + 1;
+        for place in 0..other.len() {
+            let changed = corner + usize::from(other[place] != letter);
+            corner = row[place + 1];
+            row[place + 1] = changed.min(corner + 1).min(row[place] + 1);
+        }
+    }
+    row[other.len()]
+}
+
+#[cfg(test)]
+mod tests {
+    use super::steps;
+
+    #[test]
+    fn words_are_as_far_apart_as_their_letters() {
+        let given = [
+            ("--limt", "--limit"),
+            ("", "ab"),
+            ("abc", "abc"),
+            ("abc", "axd"),
+        ];
+        let counts = given.map(|(one, other)| steps(one, other));
+        assert_eq!(counts, [1, 2, 0, 2]);
+    }
 }

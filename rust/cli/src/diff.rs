@@ -9,6 +9,25 @@ use crate::compare::differences;
 use crate::files::{Kind, Named, beneath};
 use crate::outcome::{Outcome, tell};
 use crate::stored;
+use crate::table::{Command, Operand};
+
+pub const COMMAND: Command = Command {
+    name: "diff",
+    says: "What moved between two stored maps, or two folders of them",
+    operands: &[Operand::path("OLD"), Operand::path("NEW")],
+    takes: "diff takes two maps or two folders of maps, OLD and NEW",
+    groups: &[],
+    notes: &[
+        "It lists the blocks that came, went or changed, and every jump that moved. Of a folder every file is taken that ends in .map, also those that begin with a dot and those behind links.",
+    ],
+    exits: &[
+        (0, "nothing moved"),
+        (1, "something did"),
+        (2, "a map or a folder is unreadable"),
+    ],
+    examples: &[("Last night and tonight", "aznifrem diff yesterday tonight")],
+    run: |given, mut out| Ok(run(&given.operands[0], &given.operands[1], &mut out)?),
+};
 
 pub fn run(old: &Path, new: &Path, out: &mut impl Write) -> io::Result<Outcome> {
     let pairs = match pairs(old, new) {

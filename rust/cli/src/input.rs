@@ -6,7 +6,26 @@ use std::path::Path;
 
 use aznifrem::Map;
 
-use crate::args::Form;
+use crate::given::Given;
+
+/// What the files hold.
+#[derive(Clone, Copy, Debug, PartialEq, Eq)]
+pub enum Form {
+    ToldApart,
+    Hex,
+    Binary,
+}
+
+impl Form {
+    /// The one that is asked for: the last counts.
+    pub fn asked(given: &Given) -> Form {
+        match given.last(&["--hex", "--binary"]) {
+            Some("--hex") => Form::Hex,
+            Some(_) => Form::Binary,
+            None => Form::ToldApart,
+        }
+    }
+}
 
 /// The code that a file holds, or a sentence that says why it holds none.
 pub fn code(path: &Path, form: Form) -> Result<Vec<u8>, String> {

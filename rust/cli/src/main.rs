@@ -1,52 +1,76 @@
 //! `aznifrem`: maps of EVM contracts from files and folders, and what moved between two of them.
 
 mod args;
+mod commands;
 mod compare;
+mod completions;
 mod diff;
 mod files;
+mod given;
+mod help;
 mod input;
+mod man;
 mod maps;
 mod outcome;
 mod paths;
+mod print;
 mod progress;
 mod show;
 mod stored;
 mod summary;
+mod table;
 
 use std::io::{self, BufWriter, ErrorKind, Write};
 use std::process::ExitCode;
 
-use args::Command;
+use args::{Asked, Misunderstood};
 use outcome::{Outcome, tell};
+use table::{Command, Stop};
 
 fn main() -> ExitCode {
-    let command = match args::parse(std::env::args_os().skip(1)) {
-        Ok(command) => command,
-        Err(sentence) => {
-            tell(&format!("aznifrem: {sentence}\nTry 'aznifrem --help'."));
-            return ExitCode::from(Outcome::Wrong as u8);
-        }
+    let outcome = match args::parse(std::env::args_os().skip(1)) {
+        Ok(asked) => run(asked),
+        Err(Misunderstood { command, sentence }) => misunderstood(command, &sentence),
     };
-    let mut out = BufWriter::new(io::stdout().lock());
-    let outcome = run(command, &mut out).and_then(|outcome| out.flush().map(|()| outcome));
-    let outcome = outcome.unwrap_or_else(|error| {
-        // If who reads has closed the pipe, there is nobody to tell.
-        if error.kind() != ErrorKind::BrokenPipe {
-            tell(&format!("aznifrem: cannot write the output: {error}"));
-        }
-        Outcome::Wrong
-    });
     ExitCode::from(outcome as u8)
 }
 
-fn run(command: Command, out: &mut impl Write) -> io::Result<Outcome> {
-    match command {
-        Command::Help => out.write_all(args::HELP.as_bytes()).map(|()| Outcome::Fine),
-        Command::Version => {
-            writeln!(out, "aznifrem {}", env!("CARGO_PKG_VERSION")).map(|()| Outcome::Fine)
+fn run(asked: Asked) -> Outcome {
+    let command = match &asked {
+        Asked::Run(given) => Some(given.command),
+        _ => None,
+    };
+    let mut out = BufWriter::new(io::stdout().lock());
+    let outcome = carried_out(asked, &mut out);
+    let outcome = outcome.and_then(|outcome| Ok(out.flush().map(|()| outcome)?));
+    match outcome {
+        Ok(outcome) => outcome,
+        Err(Stop::Asked(sentence)) => misunderstood(command, &sentence),
+        // If who reads has closed the pipe, there is nobody to tell.
+        Err(Stop::Output(error)) if error.kind() == ErrorKind::BrokenPipe => Outcome::Wrong,
+        Err(Stop::Output(error)) => {
+            tell(&format!("aznifrem: cannot write the output: {error}"));
+            Outcome::Wrong
         }
-        Command::Map(options) => maps::run(&options, out),
-        Command::Show { inputs, print } => show::run(&inputs, print, out),
-        Command::Diff { old, new } => diff::run(&old, &new, out),
     }
+}
+
+fn carried_out(asked: Asked, out: &mut dyn Write) -> Result<Outcome, Stop> {
+    match asked {
+        Asked::Help(None) => out.write_all(help::program().as_bytes())?,
+        Asked::Help(Some(command)) => out.write_all(help::command(command).as_bytes())?,
+        Asked::Version => writeln!(out, "aznifrem {}", env!("CARGO_PKG_VERSION"))?,
+        Asked::Run(given) => return (given.command.run)(&given, out),
+    }
+    Ok(Outcome::Fine)
+}
+
+/// Says what is not understood, and where its text is.
+fn misunderstood(command: Option<&Command>, sentence: &str) -> Outcome {
+    let named = command.filter(|command| command.name != table::DEFAULT);
+    let name = named.map_or(String::new(), |command| format!(" {}", command.name));
+    tell(&format!(
+        "aznifrem: {sentence}\nTry 'aznifrem{name} --help'."
+    ));
+    Outcome::Wrong
 }

@@ -5,26 +5,128 @@ use std::fs;
 use std::io::{self, Write};
 use std::path::{Path, PathBuf};
 
-use aznifrem::{Error, Map, Mapper};
+use aznifrem::{Error, HIGHEST_LIMIT, Map, Mapper};
 
-use crate::args::{Options, Print};
 use crate::files::{Found, Kind, Named, beneath};
-use crate::input;
+use crate::given::Given;
+use crate::input::{self, Form};
 use crate::outcome::{Outcome, tell};
+use crate::print::Print;
 use crate::progress::Progress;
 use crate::summary;
+use crate::table::{Command, Group, Operand, Opt, Stop, Value};
+
+pub const COMMAND: Command = Command {
+    name: "map",
+    says: "Map contracts; a folder stands for all files in it, - for standard input",
+    operands: &[Operand::paths("FILE")],
+    takes: "give a file or a folder of contracts, or - for standard input",
+    groups: &[
+        Group {
+            heading: "What comes out (the first is the default)",
+            options: &[
+                Opt::flag(
+                    "--lines",
+                    "each entry of the map as hexadecimal digits on a line; with two contracts or more, a line == PATH before each one's",
+                ),
+                Opt::flag("--summary", "the map for a reader"),
+                Opt::flag(
+                    "--json",
+                    "the blocks as JSON, as serde makes it of evmole's, on a line; with --to it is a file NAME.json beside NAME.map, both of one call, and is not printed",
+                ),
+                Opt::with(
+                    "--to",
+                    Value::folder("FOLDER"),
+                    "each map as a file NAME.map in this folder, to be stored; nothing is printed unless --lines or --summary is there too. A folder that holds a .map file already is refused: give a fresh one each time, so that no old map stays",
+                ),
+            ],
+        },
+        Group {
+            heading: "Options",
+            options: &[
+                Opt::with(
+                    "--limit",
+                    Value::word("N"),
+                    "energy that the search may use, 0 to 500000 (default 500000)",
+                ),
+                Opt::with(
+                    "--ceiling",
+                    Value::word("MIB"),
+                    "memory that may be lent, in MiB (default 1024)",
+                ),
+                Opt::flag("--hex", "the files hold hexadecimal digits"),
+                Opt::flag("--binary", "the files hold the bytes themselves"),
+                Opt::flag("--quiet", "no progress bar"),
+            ],
+        },
+    ],
+    notes: &[
+        "A contract is a file of deployed code (at most 24,576 bytes), as hexadecimal digits, with or without 0x and line breaks, or as the bytes themselves. Which of the two it is shows by its content; say --hex or --binary where it does not: other text, and what begins with a byte order mark, is a contract with --binary alone. In folders of contracts, files and folders that begin with a dot, files that end in .map and links to folders are passed over.",
+    ],
+    exits: &[
+        (0, "every contract is mapped"),
+        (
+            1,
+            "one is refused or not stored, or a file or folder is unreadable (a line for each on standard error)",
+        ),
+    ],
+    examples: &[
+        (
+            "A first map",
+            "echo 60056007565b005b56 | aznifrem --summary -",
+        ),
+        (
+            "A night's work",
+            "aznifrem --to tonight contracts && aznifrem diff yesterday tonight",
+        ),
+    ],
+    run: |given, mut out| Ok(run(&Options::asked(given)?, &mut out)?),
+};
+
+struct Options<'a> {
+    inputs: &'a [PathBuf],
+    form: Form,
+    print: Option<Print>,
+    to: Option<&'a Path>,
+    limit: u64,
+    ceiling: usize,
+    quiet: bool,
+}
+
+impl Options<'_> {
+    fn asked(given: &Given) -> Result<Options<'_>, Stop> {
+        let to = given.path("--to");
+        let ceiling = given.number("--ceiling")?;
+        Ok(Options {
+            inputs: &given.operands,
+            form: Form::asked(given),
+            print: Print::asked(given).or(to.is_none().then_some(Print::Lines)),
+            to,
+            limit: given.number("--limit")?.unwrap_or(HIGHEST_LIMIT),
+            ceiling: ceiling.map_or(Ok(Mapper::DEFAULT_CEILING), mebibytes)?,
+            quiet: given.has("--quiet"),
+        })
+    }
+}
+
+fn mebibytes(count: u64) -> Result<usize, Stop> {
+    let bytes = count.checked_mul(1 << 20);
+    let bytes = bytes.and_then(|bytes| usize::try_from(bytes).ok());
+    let wrong = || format!("--ceiling {count} is more memory than there can be");
+    bytes.ok_or_else(|| Stop::Asked(wrong()))
+}
 
 const HEADER: usize = 6;
 const DIGITS: &[u8; 16] = b"0123456789abcdef";
 
-pub fn run(options: &Options, out: &mut impl Write) -> io::Result<Outcome> {
-    if let Some(sentence) = options.to.as_deref().and_then(unfit) {
+fn run(options: &Options, out: &mut impl Write) -> io::Result<Outcome> {
+    if let Some(sentence) = options.to.and_then(unfit) {
         tell(&sentence);
         return Ok(Outcome::Wrong);
     }
     let mut outcome = Outcome::Fine;
     let mut contracts = Vec::new();
-    for input in &options.inputs {
+    for input in options.inputs {
         let found = expanded(input);
         for sentence in &found.faults {
             tell(sentence);
@@ -105,7 +207,7 @@ fn expanded(input: &Path) -> Found {
 
 /// The work on one contract after another.
 struct Job<'a> {
-    options: &'a Options,
+    options: &'a Options<'a>,
     mapper: Mapper,
     many: bool,
     stored: HashSet<PathBuf>,
@@ -120,7 +222,7 @@ impl Job<'_> {
         }
         let entries = self.mapper.entries(&code, self.options.limit);
         let entries = entries.map_err(refusal)?;
-        if let Some(folder) = &self.options.to {
+        if let Some(folder) = self.options.to {
             store(folder, &contract.name, "map", entries, &mut self.stored)?;
         }
         let title = contract.path.display().to_string();
@@ -139,7 +241,7 @@ impl Job<'_> {
     fn json(&mut self, contract: &Named, code: &[u8]) -> Result<String, String> {
         let both = self.mapper.both(code, self.options.limit);
         let (entries, text) = both.map_err(refusal)?;
-        let Some(folder) = &self.options.to else {
+        let Some(folder) = self.options.to else {
             let title = contract.path.display().to_string();
             return Ok(titled(self.many, &title, &format!("{text}\n")));
         };

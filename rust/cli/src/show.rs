@@ -3,14 +3,43 @@
 use std::io::{self, Write};
 use std::path::{Path, PathBuf};
 
-use crate::args::Print;
 use crate::files::{Kind, beneath};
 use crate::maps::{lines, titled};
 use crate::outcome::{Outcome, tell};
+use crate::print::Print;
 use crate::stored;
 use crate::summary;
+use crate::table::{Command, Group, Operand, Opt};
 
-pub fn run(inputs: &[PathBuf], print: Print, out: &mut impl Write) -> io::Result<Outcome> {
+pub const COMMAND: Command = Command {
+    name: "show",
+    says: "Stored maps, read back; a folder stands for all maps in it, - for standard input",
+    operands: &[Operand::paths("FILE")],
+    takes: "show takes a stored map or a folder of them, or - for standard input",
+    groups: &[Group {
+        heading: "What comes out (the first is the default)",
+        options: &[
+            Opt::flag("--summary", "the map for a reader"),
+            Opt::flag("--lines", "its entries, as hexadecimal digits, a line each"),
+            Opt::flag("--json", "its blocks as JSON, on a line"),
+        ],
+    }],
+    notes: &[
+        "What is no map is told, with the place of its first bad entry and what is wrong there.",
+        "Of a folder every file is taken that ends in .map, also those that begin with a dot and those behind links.",
+    ],
+    exits: &[
+        (0, "every file holds a map"),
+        (1, "one does not, or is unreadable"),
+    ],
+    examples: &[("A stored map", "aznifrem show tonight/token.hex.map")],
+    run: |given, mut out| {
+        let print = Print::asked(given).unwrap_or(Print::Summary);
+        Ok(run(&given.operands, print, &mut out)?)
+    },
+};
+
+fn run(inputs: &[PathBuf], print: Print, out: &mut impl Write) -> io::Result<Outcome> {
     let mut outcome = Outcome::Fine;
     let mut maps = Vec::new();
     for input in inputs {

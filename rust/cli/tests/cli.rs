@@ -341,11 +341,16 @@ fn wrong_words_are_told_and_help_is_given() {
         assert!(said.ends_with("Try 'aznifrem --help'.\n"), "{said}");
     }
     assert_eq!(all(&run(&here, &["diff", "one"])).0, 2);
-    for words in [&["--help"][..], &["map", "-h"], &["diff", "--help"]] {
-        let (exit, out, _) = all(&run(&here, words));
-        assert_eq!(exit, 0);
-        assert!(out.contains("aznifrem diff OLD NEW"));
-        assert!(out.contains("a line == PATH before each"));
+    for (words, says) in [
+        (&["--help"][..], "aznifrem diff OLD NEW"),
+        (&["-h"], "a line == PATH before each"),
+        (&["map", "-h"], "a line == PATH before each"),
+        (&["diff", "--help"], "aznifrem diff OLD NEW"),
+    ] {
+        let (exit, out, said) = all(&run(&here, words));
+        assert_eq!((exit, said.as_str()), (0, ""));
+        assert!(out.contains(says), "{out}");
+        assert!(out.lines().all(|line| line.chars().count() <= 80), "{out}");
     }
     let (exit, out, _) = all(&run(&here, &["--version"]));
     assert_eq!((exit, out.starts_with("aznifrem ")), (0, true));

@@ -1,0 +1,58 @@
+//! The words that a command is given, told apart by its entry of the table.
+
+use std::ffi::{OsStr, OsString};
+use std::path::{Path, PathBuf};
+
+use crate::table::{Command, Stop};
+
+/// Options and operands, each in the order in which they stand.
+pub struct Given {
+    pub command: &'static Command,
+    pub options: Vec<(&'static str, Option<OsString>)>,
+    pub operands: Vec<PathBuf>,
+}
+
+impl Given {
+    pub fn has(&self, name: &str) -> bool {
+        self.last(&[name]).is_some()
+    }
+
+    /// Which of these stands last: it is the one that counts.
+    pub fn last(&self, names: &[&str]) -> Option<&'static str> {
+        let known = |name: &&str| self.command.option(name).is_some();
+        debug_assert!(names.iter().all(known), "the table has each of {names:?}");
+        let mut given = self.options.iter().rev().map(|(name, _)| *name);
+        given.find(|name| names.contains(name))
+    }
+
+    /// Every value of an option.
+    pub fn values(&self, name: &str) -> impl DoubleEndedIterator<Item = &OsStr> {
+        debug_assert!(
+            self.command.option(name).is_some(),
+            "the table has {name} with a value"
+        );
+        let named =
+            move |(given, value): &'_ (&str, Option<OsString>)| *given == name && value.is_some();
+        let named = self.options.iter().filter(move |option| named(option));
+        named.filter_map(|(_, value)| value.as_deref())
+    }
+
+    /// The last value of an option: it is the one that counts.
+    pub fn value(&self, name: &str) -> Option<&OsStr> {
+        self.values(name).next_back()
+    }
+
+    pub fn path(&self, name: &str) -> Option<&Path> {
+        self.value(name).map(Path::new)
+    }
+
+    /// The number after an option.
+    pub fn number(&self, name: &str) -> Result<Option<u64>, Stop> {
+        let Some(value) = self.value(name) else {
+            return Ok(None);
+        };
+        let number = value.to_str().and_then(|text| text.parse().ok());
+        let wrong = || format!("{name} takes a whole number, not '{}'", value.display());
+        number.map(Some).ok_or_else(|| Stop::Asked(wrong()))
+    }
+}
