@@ -36,6 +36,10 @@ pub mod ReaderBack
 pub mod ReaderRead
 pub mod ReaderAnswered
 pub mod ReaderExamples
+pub mod ReaderAccepted
+pub mod EightsBack
+pub mod DistinctOnes
+pub mod MapSample
 pub mod Decimal
 pub mod Readers
 pub mod JsonReader

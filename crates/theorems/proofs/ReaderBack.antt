@@ -196,7 +196,7 @@ held-items (more {rest = b} {ps} w s) e m k =
     rw q (held-head b ps s q (passing 0 (entry b) [] first s begun e) m (rw q at k))
 
 module _ (b : List ℕ) (m : Map) (e : read b ≡ holds m) where
-  none-bad : first-bad (pieces b 0 0) first ≡ none
+  pub none-bad : first-bad (pieces b 0 0) first ≡ none
   unfolding read
   none-bad = by-said (first-bad (pieces b 0 0) first) refl e
     where
