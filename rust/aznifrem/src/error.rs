@@ -93,7 +93,8 @@ impl fmt::Display for Error {
                 ceiling,
             } => write!(
                 f,
-                "room {room} is too small at {lent} bytes and may not grow, as all rooms together may have {ceiling} bytes: allow more, or map with a lower limit"
+                "room {room} is too small at {lent} bytes and may not grow, as all rooms together may have {ceiling} bytes: allow more{}",
+                or_lower(*room)
             ),
             Error::RoomAtMost { room, lent } => write!(
                 f,
@@ -101,7 +102,8 @@ impl fmt::Display for Error {
             ),
             Error::NoMemory { room, bytes } => write!(
                 f,
-                "the system has no memory for {bytes} bytes of room {room}: free memory, or map with a lower limit"
+                "the system has no memory for {bytes} bytes of room {room}: free memory{}",
+                or_lower(*room)
             ),
             Error::NoSuchAnswer { number } => write!(
                 f,
@@ -113,6 +115,14 @@ impl fmt::Display for Error {
             ),
             Error::NotRelayed(not_relayed) => not_relayed.fmt(f),
         }
+    }
+}
+
+/// What W must have depends on the code alone.
+fn or_lower(room: Room) -> &'static str {
+    match room {
+        Room::W => "",
+        _ => ", or map with a lower limit",
     }
 }
 
@@ -266,6 +276,12 @@ mod tests {
         assert_eq!((full.number(), most.number()), (Some(5), Some(5)));
         let none = Error::NoMemory { room, bytes: lent };
         assert!(none.to_string().contains(": free memory, or "));
+        let work = Error::RoomFull {
+            room: Room::W,
+            lent,
+            ceiling,
+        };
+        assert!(work.to_string().ends_with(": allow more"), "{work}");
         let fault = Fault::Entries { count: 3, there: 1 };
         let said = Unreadable { offset: 0, fault }.to_string();
         assert!(said.contains("says 3 paths and is followed by 1;"));

@@ -19,6 +19,9 @@ const TEXT_UNIT: u64 = 1 << 32;
 /// needs is more than the ceiling. A room that one code made larger than 8 MiB is given back at the
 /// next, as every call wipes what it is lent.
 ///
+/// Threads have one each, and none waits for another: `examples/threads.rs` maps a list of codes with
+/// every core.
+///
 /// ```
 /// use aznifrem::{HIGHEST_LIMIT, Mapper};
 ///

@@ -97,7 +97,9 @@ fn held(bytes: &[u8]) -> Map {
             FOUND => {
                 let block = map.blocks.last_entry();
                 let jump = way(body, 0);
-                block.map(|mut block| enter(&mut block.get_mut().btype, jump));
+                if let Some(mut block) = block {
+                    enter(&mut block.get_mut().btype, jump);
+                }
             }
             RECORD => map.records.push(Record {
                 start: body.address(0),

@@ -27,10 +27,39 @@ pub fn parse(words: impl Iterator<Item = OsString>) -> Result<Asked, Misundersto
     let named = named.and_then(commands::named);
     let command = named.unwrap_or_else(commands::default);
     let words = words.skip(usize::from(named.is_some()));
-    of_command(command, named, words).map_err(|sentence| Misunderstood {
+    let asked = of_command(command, named, words);
+    let asked = asked.and_then(|asked| {
+        if named.is_none() {
+            meant(asked)
+        } else {
+            Ok(asked)
+        }
+    });
+    asked.map_err(|sentence| Misunderstood {
         command: named,
         sentence,
     })
+}
+
+/// The first word may be a command's name, mistyped.
+fn meant(asked: Asked) -> Result<Asked, String> {
+    let Asked::Run(Given { operands, .. }) = &asked else {
+        return Ok(asked);
+    };
+    let first = operands
+        .first()
+        .filter(|first| first.symlink_metadata().is_err());
+    let first = first.and_then(|first| first.to_str());
+    let near = |command: &&Command| first.is_some_and(|first| steps(first, command.name) == 1);
+    match (first, commands::ALL.iter().find(near)) {
+        (Some(first), Some(command)) => {
+            let name = command.name;
+            Err(format!(
+                "'{first}' is no file and no command: is {name} meant?"
+            ))
+        }
+        _ => Ok(asked),
+    }
 }
 
 fn of_command(
@@ -51,6 +80,19 @@ fn of_command(
             [b'-', _, ..] => given.options.push(option(command, &word, &mut words)?),
             _ => given.operands.push(word.into()),
         }
+    }
+    let inputs = given.operands.iter().filter(|word| *word == "-").count();
+    if given
+        .operands
+        .iter()
+        .any(|word| word.as_os_str().is_empty())
+    {
+        return Err("the name of a file or folder is empty".into());
+    }
+    if inputs > 1 {
+        return Err(format!(
+            "- is standard input, which can be read once, and stands {inputs} times"
+        ));
     }
     match given.operands.len() {
         count if command.fits(count) => Ok(Asked::Run(given)),

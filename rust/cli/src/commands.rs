@@ -1,7 +1,7 @@
 //! The table: every command, in the order in which help names them. A new one is a line here.
 
 use crate::table::{Command, DEFAULT};
-use crate::{completions, diff, man, maps, show};
+use crate::{completions, diff, help, man, maps, show};
 
 pub const ALL: &[Command] = &[
     maps::COMMAND,
@@ -9,6 +9,7 @@ pub const ALL: &[Command] = &[
     diff::COMMAND,
     completions::COMMAND,
     man::COMMAND,
+    help::COMMAND,
 ];
 
 /// The command of this name.

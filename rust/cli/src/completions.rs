@@ -86,7 +86,7 @@ fn bash() -> String {
     let _ = write!(
         text,
         "    esac\n    if [ \"$COMP_CWORD\" = 1 ]; then\n        \
-         COMPREPLY+=($(compgen -W '{names}' -- \"$cur\"))\n    fi\n}}\n\
+         mapfile -t -O ${{#COMPREPLY[@]}} COMPREPLY < <(compgen -W '{names}' -- \"$cur\")\n    fi\n}}\n\
          complete -o filenames -F _aznifrem aznifrem\n"
     );
     text
@@ -103,7 +103,7 @@ fn bash_command(text: &mut String, pattern: &str, command: &Command) {
     let options: Vec<&str> = command.options().map(|option| option.name).collect();
     let _ = writeln!(
         text,
-        "        esac\n        case $cur in\n        -*) COMPREPLY=($(compgen -W '{}' -- \"$cur\")) ;;\n        \
+        "        esac\n        case $cur in\n        -*) mapfile -t COMPREPLY < <(compgen -W '{}' -- \"$cur\") ;;\n        \
          *) {} ;;\n        esac ;;",
         options.join(" "),
         bash_of(operands(command))
@@ -111,15 +111,14 @@ fn bash_command(text: &mut String, pattern: &str, command: &Command) {
 }
 
 fn bash_of(of: Of) -> String {
-    match of {
-        Of::Word => "COMPREPLY=()".into(),
-        Of::Path => "COMPREPLY=($(compgen -f -- \"$cur\"))".into(),
-        Of::Folder => "COMPREPLY=($(compgen -d -- \"$cur\"))".into(),
-        Of::Among(words) => format!(
-            "COMPREPLY=($(compgen -W '{}' -- \"$cur\"))",
-            words.join(" ")
-        ),
-    }
+    let what = match of {
+        Of::Word => return "COMPREPLY=()".into(),
+        Of::Path => "-f".into(),
+        Of::Folder => "-d".into(),
+        Of::Among(words) => format!("-W '{}'", words.join(" ")),
+    };
+    // A line for each: names may have spaces.
+    format!("mapfile -t COMPREPLY < <(compgen {what} -- \"$cur\")")
 }
 
 fn zsh() -> String {

@@ -5,70 +5,199 @@ use std::fs;
 use std::io::{self, Write};
 use std::path::{Path, PathBuf};
 
-use crate::compare::differences;
+use aznifrem::Map;
+use compare::{Coded, Judged, Totals, judge, judge_coded, judge_matched, judge_matched_coded};
+
 use crate::files::{Kind, Named, beneath};
+use crate::given::Given;
+use crate::input;
+use crate::names::shown;
+use crate::nights::Nights;
 use crate::outcome::{Outcome, tell};
 use crate::stored;
-use crate::table::{Command, Operand};
+use crate::table::{Command, Group, Of, Operand, Opt, Stop, Value};
+use crate::verdicts::{Both, Compared, Form, Report, Titled, Wanted};
+
+const PATH: Of = Of::Path;
 
 pub const COMMAND: Command = Command {
     name: "diff",
     says: "What moved between two stored maps, or two folders of them",
     operands: &[Operand::path("OLD"), Operand::path("NEW")],
     takes: "diff takes two maps or two folders of maps, OLD and NEW",
-    groups: &[],
+    groups: &[
+        Group {
+            heading: "What comes out (rows and verdicts, if nothing is said)",
+            options: &[
+                Opt::flag(
+                    "--json",
+                    "an object a line for each contract, with verdict, figures and rows; the last line has the totals",
+                ),
+                Opt::flag(
+                    "--dot",
+                    "the two maps of each contract that moved, side by side, for Graphviz: red is what went, green what came, yellow a block of both that moved",
+                ),
+                Opt::with(
+                    "--html",
+                    Value {
+                        name: "PAGE",
+                        of: PATH,
+                    },
+                    "also a page for a browser, in one file: the contracts, verdicts and rows, and the drawn maps of those that differ",
+                ),
+            ],
+        },
+        Group {
+            heading: "Options",
+            options: &[
+                Opt::flag(
+                    "--all",
+                    "a verdict line for equal contracts too, and their maps with --dot",
+                ),
+                Opt::flag(
+                    "--matched",
+                    "rows between blocks that are matched by what they are, in the new map's addresses, in place of rows by address",
+                ),
+                Opt::with(
+                    "--old-code",
+                    Value {
+                        name: "PATH",
+                        of: PATH,
+                    },
+                    "the old contract, or the folder of them that OLD was made from; with --new-code, instructions are compared too",
+                ),
+                Opt::with(
+                    "--new-code",
+                    Value {
+                        name: "PATH",
+                        of: PATH,
+                    },
+                    "the new contract, or the folder of them that NEW was made from",
+                ),
+                Opt::flag("--hex", "these contracts hold hexadecimal digits"),
+                Opt::flag("--binary", "these contracts hold the bytes themselves"),
+            ],
+        },
+    ],
     notes: &[
-        "It lists the blocks that came, went or changed, and every jump that moved. Of a folder every file is taken that ends in .map, also those that begin with a dot and those behind links.",
+        "A row is a block that came, went or changed, or a path of the record that came, went or has another destination, by address; docs/DIFF.md has what each row means. With --matched an old address that no new one is matched with is called 'old N', and has 65,536 added in JSON. A contract's last line is its verdict, with the figures old and new: equal, equal up to addresses (the new map is the old one with other addresses), or different. That unresolved jumps rose is said there in capitals.",
+        "Of a folder every file is taken that ends in .map, also those that begin with a dot and those behind links; refused.jsonl, which --to leaves beside them, tells a contract that is refused from one that is gone.",
     ],
     exits: &[
         (0, "nothing moved"),
         (1, "something did"),
-        (2, "a map or a folder is unreadable"),
+        (
+            2,
+            "a map, a code or a folder is unreadable, a night is unfinished, or the page cannot be written",
+        ),
     ],
-    examples: &[("Last night and tonight", "aznifrem diff yesterday tonight")],
-    run: |given, mut out| Ok(run(&given.operands[0], &given.operands[1], &mut out)?),
+    examples: &[
+        ("Last night and tonight", "aznifrem diff yesterday tonight"),
+        (
+            "As a page",
+            "aznifrem diff --html night.html yesterday tonight",
+        ),
+        (
+            "Drawn",
+            "aznifrem diff --dot yesterday/a.hex.map tonight/a.hex.map | dot -Tsvg -o a.svg",
+        ),
+    ],
+    run: |given, out| {
+        let setting = Setting::asked(given)?;
+        let [old, new] = [&given.operands[0], &given.operands[1]];
+        Ok(run(old, new, &setting, wanted(given), out)?)
+    },
 };
 
-pub fn run(old: &Path, new: &Path, out: &mut impl Write) -> io::Result<Outcome> {
-    let pairs = match pairs(old, new) {
-        Ok(pairs) => pairs,
+fn wanted(given: &Given) -> Wanted {
+    let form = match given.last(&["--json", "--dot"]) {
+        Some("--json") => Form::Json,
+        Some(_) => Form::Dot,
+        None => Form::Rows,
+    };
+    Wanted {
+        form,
+        all: given.has("--all"),
+        page: given.path("--html").map(Path::to_path_buf),
+    }
+}
+
+/// How maps are set beside each other.
+struct Setting<'a> {
+    /// The contracts that the maps are of, where they are at hand.
+    codes: Option<[&'a Path; 2]>,
+    form: input::Form,
+    /// Blocks are matched by what they are.
+    matched: bool,
+}
+
+impl Setting<'_> {
+    fn asked(given: &Given) -> Result<Setting<'_>, Stop> {
+        let codes = match (given.path("--old-code"), given.path("--new-code")) {
+            (Some(old), Some(new)) => Some([old, new]),
+            (None, None) => None,
+            _ => {
+                let sentence = "--old-code and --new-code are given together";
+                return Err(Stop::Asked(sentence.into()));
+            }
+        };
+        Ok(Setting {
+            codes,
+            form: input::Form::asked(given),
+            matched: given.has("--matched"),
+        })
+    }
+}
+
+fn run(
+    old: &Path,
+    new: &Path,
+    setting: &Setting,
+    mut wanted: Wanted,
+    out: &mut dyn Write,
+) -> io::Result<Outcome> {
+    let both = pairs(old, new).and_then(|pairs| Ok((pairs, nights(old, new)?)));
+    let (pairs, nights) = match both {
+        Ok(both) => both,
         Err(sentences) => {
             sentences.iter().for_each(|sentence| tell(sentence));
             return Ok(Outcome::Wrong);
         }
     };
-    let mut count = 0;
-    let mut unreadable = 0;
+    // Two maps that are named have been asked for.
+    wanted.all |= !old.is_dir();
+    let title = format!("What moved from {} to {}", shown(old), shown(new));
+    let mut report = Report::new(wanted, &title, out);
     for pair in &pairs {
-        match pair.lines() {
-            Ok(lines) => {
-                for line in &lines {
-                    writeln!(out, "{}{line}", pair.title)?;
-                }
-                count += lines.len();
-            }
-            Err(sentences) => {
-                out.flush()?;
-                sentences.iter().for_each(|sentence| tell(sentence));
-                unreadable += 1;
-            }
-        }
+        let name = shown(&pair.name);
+        let titled = Titled {
+            name: &name,
+            title: &pair.title,
+        };
+        report.add(&titled, &pair.compared(setting, &nights))?;
     }
-    write!(out, "maps: {}, differences: {count}", pairs.len())?;
-    if unreadable > 0 {
-        write!(out, ", not compared: {unreadable}")?;
+    let maps = pairs.into_iter().map(|pair| pair.name).collect();
+    for (name, became) in nights.without_both(&maps) {
+        let title = &format!("{name}: ");
+        let name = &name;
+        report.add(&Titled { name, title }, &Compared::Became(became))?;
     }
-    writeln!(out)?;
-    Ok(match (unreadable, count) {
-        (0, 0) => Outcome::Fine,
-        (0, _) => Outcome::Found,
-        _ => Outcome::Wrong,
-    })
+    report.finish()
+}
+
+/// What was refused when the maps of two folders were made.
+fn nights(old: &Path, new: &Path) -> Result<Nights, Vec<String>> {
+    if old.is_dir() {
+        Nights::of(old, new)
+    } else {
+        Ok(Nights::default())
+    }
 }
 
 /// Two maps of one name; either may be missing.
 #[derive(Default)]
 struct Pair {
+    name: PathBuf,
     title: String,
     old: Option<PathBuf>,
     new: Option<PathBuf>,
@@ -76,16 +205,59 @@ struct Pair {
 
 impl Pair {
     /// What moved, or what is unreadable.
-    fn lines(&self) -> Result<Vec<String>, Vec<String>> {
+    fn compared<'n>(&self, setting: &Setting, nights: &'n Nights) -> Compared<'n> {
         let read = |path: &Path| stored::read(path).map(|stored| stored.map);
         match (self.old.as_deref().map(read), self.new.as_deref().map(read)) {
-            (Some(Ok(old)), Some(Ok(new))) => Ok(differences(&old, &new)),
-            (None, Some(Ok(map))) => Ok(vec![format!("map came: {} blocks", map.blocks.len())]),
-            (Some(Ok(map)), None) => Ok(vec![format!("map went: {} blocks", map.blocks.len())]),
+            (Some(Ok(old)), Some(Ok(new))) => match self.judged(&old, &new, setting) {
+                Ok(judged) => Compared::Both(Box::new(Both { old, new, judged })),
+                Err(sentences) => Compared::Not(sentences),
+            },
+            (None, Some(Ok(map))) => (nights.without_old(&self.name))
+                .map_or_else(|| Compared::Came(Totals::of(&map)), Compared::Became),
+            (Some(Ok(map)), None) => (nights.without_new(&self.name))
+                .map_or_else(|| Compared::Went(Totals::of(&map)), Compared::Became),
             (old, new) => {
                 let faults = [old, new].into_iter().flatten().filter_map(Result::err);
-                Err(faults.collect())
+                Compared::Not(faults.collect())
             }
+        }
+    }
+
+    /// With the codes, where they are at hand: one that is missing or another's is a fault.
+    fn judged(&self, old: &Map, new: &Map, setting: &Setting) -> Result<Judged, Vec<String>> {
+        let Some(sides) = setting.codes else {
+            let judge = if setting.matched {
+                judge_matched
+            } else {
+                judge
+            };
+            return Ok(judge(old, new));
+        };
+        let paths = sides.map(|side| self.code_path(side));
+        let code = |path: &PathBuf| {
+            let code = input::code(path, setting.form);
+            code.map_err(|sentence| vec![format!("{}: {sentence}", shown(path))])
+        };
+        let (before, after) = (code(&paths[0])?, code(&paths[1])?);
+        let coded = |at: usize, map, code| {
+            let coded = Coded::new(map, code);
+            coded.map_err(|sentence| vec![format!("{}: {sentence}", shown(&paths[at]))])
+        };
+        let (old, new) = (coded(0, old, &before)?, coded(1, new, &after)?);
+        let judge = if setting.matched {
+            judge_matched_coded
+        } else {
+            judge_coded
+        };
+        Ok(judge(&old, &new))
+    }
+
+    /// The contract of this name: its map's, without .map.
+    fn code_path(&self, side: &Path) -> PathBuf {
+        if side.is_dir() {
+            side.join(self.name.with_extension(""))
+        } else {
+            side.to_path_buf()
         }
     }
 }
@@ -97,6 +269,7 @@ fn pairs(old: &Path, new: &Path) -> Result<Vec<Pair>, Vec<String>> {
     }
     match (old.is_dir(), new.is_dir()) {
         (false, false) => Ok(vec![Pair {
+            name: new.file_name().map_or(new.to_path_buf(), PathBuf::from),
             title: String::new(),
             old: Some(old.to_path_buf()),
             new: Some(new.to_path_buf()),
@@ -104,8 +277,8 @@ fn pairs(old: &Path, new: &Path) -> Result<Vec<Pair>, Vec<String>> {
         (true, true) => of_folders(old, new),
         _ => Err(vec![format!(
             "{} and {}: one is a folder and the other is not; give two maps or two folders",
-            old.display(),
-            new.display()
+            shown(old),
+            shown(new)
         )]),
     }
 }
@@ -123,12 +296,13 @@ fn of_folders(old: &Path, new: &Path) -> Result<Vec<Pair>, Vec<String>> {
     if pairs.is_empty() {
         return Err(vec![format!(
             "{} and {}: no map is in either; a map's file ends in .map",
-            old.display(),
-            new.display()
+            shown(old),
+            shown(new)
         )]);
     }
     let titled = |(name, pair): (PathBuf, Pair)| Pair {
-        title: format!("{}: ", name.display()),
+        title: format!("{}: ", shown(&name)),
+        name,
         ..pair
     };
     Ok(pairs.into_iter().map(titled).collect())

@@ -4,6 +4,10 @@ use std::fs::{self, DirEntry};
 use std::io;
 use std::path::{Path, PathBuf};
 
+use crate::names::shown;
+use crate::patterns::Patterns;
+use crate::refused::{LIST, UNFINISHED};
+
 /// A file, and the name that it goes by beneath the folder that was named.
 #[derive(Clone, Debug, PartialEq, Eq)]
 pub struct Named {
@@ -14,7 +18,8 @@ pub struct Named {
 /// What is looked for beneath a folder.
 #[derive(Clone, Copy, Debug, PartialEq, Eq)]
 pub enum Kind {
-    /// Every file but maps; what begins with a dot and links to folders are passed over.
+    /// Every file but maps and what stands beside them; what begins with a dot and links to folders
+    /// are passed over.
     Contracts,
     /// Every file that ends in .map, wherever it lies: a map that is passed over is not compared.
     Maps,
@@ -25,12 +30,22 @@ pub enum Kind {
 pub struct Found {
     pub files: Vec<Named>,
     pub faults: Vec<String>,
+    /// Folders that cannot be read, and why.
+    pub unread: Vec<(Named, String)>,
+    /// Files and folders that the patterns leave out.
+    pub left_out: usize,
 }
 
 /// All files of a kind beneath a folder, by name.
 pub fn beneath(folder: &Path, kind: Kind) -> Found {
+    chosen(folder, kind, &Patterns::default())
+}
+
+/// Those that the patterns take.
+pub fn chosen(folder: &Path, kind: Kind, patterns: &Patterns) -> Found {
     let mut search = Search {
         kind,
+        patterns,
         within: Vec::new(),
         found: Found::default(),
     };
@@ -40,19 +55,23 @@ pub fn beneath(folder: &Path, kind: Kind) -> Found {
     found
 }
 
-struct Search {
+struct Search<'a> {
     kind: Kind,
+    patterns: &'a Patterns,
     /// The folders that are being read, without links: a link to one of them leads round.
     within: Vec<PathBuf>,
     found: Found,
 }
 
-impl Search {
+impl Search<'_> {
     /// One folder that cannot be read does not hide the others.
     fn folder(&mut self, folder: &Path, name: &Path) {
         if let Err(error) = self.entries(folder, name) {
-            let sentence = format!("{}: cannot read the folder: {error}", folder.display());
+            let reason = format!("cannot read the folder: {error}");
+            let sentence = format!("{}: {reason}", shown(folder));
             self.found.faults.push(sentence);
+            let (path, name) = (folder.into(), name.into());
+            self.found.unread.push((Named { path, name }, reason));
         }
     }
 
@@ -76,7 +95,11 @@ impl Search {
         }
         let (path, name) = (entry.path(), name.join(entry.file_name()));
         if entry.file_type()?.is_dir() {
-            self.folder(&path, &name);
+            if self.patterns.folder(&name) {
+                self.folder(&path, &name);
+            } else {
+                self.found.left_out += 1;
+            }
             return Ok(());
         }
         let wanted = self.wanted(&name);
@@ -84,6 +107,7 @@ impl Search {
             Ok(of) if !of.is_file() && self.kind == Kind::Contracts => {}
             Ok(of) if of.is_dir() => self.folder(&path, &name),
             Ok(of) if !of.is_file() && wanted => self.fault(&path, "is no file"),
+            _ if wanted && !self.patterns.file(&name) => self.found.left_out += 1,
             // A link that leads nowhere is kept, so that reading it is told.
             _ if wanted => self.found.files.push(Named { path, name }),
             Err(_) if self.kind == Kind::Maps => self.fault(&path, "is a link that leads nowhere"),
@@ -93,13 +117,19 @@ impl Search {
     }
 
     fn fault(&mut self, path: &Path, what: &str) {
-        let sentence = format!("{}: {what}: take it away", path.display());
+        let sentence = format!("{}: {what}: take it away", shown(path));
         self.found.faults.push(sentence);
     }
 
     fn wanted(&self, name: &Path) -> bool {
         let is_map = name.as_os_str().as_encoded_bytes().ends_with(b".map");
-        is_map == (self.kind == Kind::Maps)
+        let own = name
+            .file_name()
+            .is_some_and(|name| name == LIST || name == UNFINISHED);
+        match self.kind {
+            Kind::Maps => is_map,
+            Kind::Contracts => !is_map && !own,
+        }
     }
 }
 

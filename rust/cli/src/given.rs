@@ -1,8 +1,10 @@
 //! The words that a command is given, told apart by its entry of the table.
 
 use std::ffi::{OsStr, OsString};
+use std::ops::RangeInclusive;
 use std::path::{Path, PathBuf};
 
+use crate::names::shown;
 use crate::table::{Command, Stop};
 
 /// Options and operands, each in the order in which they stand.
@@ -46,13 +48,22 @@ impl Given {
         self.value(name).map(Path::new)
     }
 
-    /// The number after an option.
-    pub fn number(&self, name: &str) -> Result<Option<u64>, Stop> {
+    /// The number after an option, of these.
+    pub fn number_within(
+        &self,
+        name: &str,
+        range: RangeInclusive<u64>,
+    ) -> Result<Option<u64>, Stop> {
         let Some(value) = self.value(name) else {
             return Ok(None);
         };
         let number = value.to_str().and_then(|text| text.parse().ok());
-        let wrong = || format!("{name} takes a whole number, not '{}'", value.display());
+        let number = number.filter(|number| range.contains(number));
+        let wrong = || {
+            let (low, high) = (range.start(), range.end());
+            let value = shown(Path::new(value));
+            format!("{name} takes a whole number from {low} to {high}, not '{value}'")
+        };
         number.map(Some).ok_or_else(|| Stop::Asked(wrong()))
     }
 }

@@ -3,7 +3,36 @@
 use std::fmt::Write;
 
 use crate::commands;
-use crate::table::{Command, EVERYWHERE, Opt};
+use crate::names::shown;
+use crate::outcome::Outcome;
+use crate::table::{Command, EVERYWHERE, Of, Operand, Opt, Stop, Times};
+
+pub const COMMAND: Command = Command {
+    name: "help",
+    says: "The text of --help, of the program or of a command",
+    operands: &[Operand {
+        name: "COMMAND",
+        of: Of::Word,
+        times: Times::AtMostOnce,
+    }],
+    takes: "help takes a command",
+    groups: &[],
+    notes: &[],
+    exits: &[(0, "it is printed")],
+    examples: &[],
+    run: |given, out| {
+        let text = match given.operands.first() {
+            None => program(),
+            Some(name) => {
+                let named = name.to_str().and_then(commands::named);
+                let unknown = || format!("there is no command '{}'", shown(name));
+                command(named.ok_or_else(|| Stop::Asked(unknown()))?)
+            }
+        };
+        out.write_all(text.as_bytes())?;
+        Ok(Outcome::Fine)
+    },
+};
 
 const WIDTH: usize = 80;
 pub const INTRODUCTION: &str = "aznifrem draws the control-flow map of an EVM contract: its blocks, its \

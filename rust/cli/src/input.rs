@@ -1,6 +1,6 @@
 //! Reading a contract: hexadecimal digits or the bytes themselves.
 
-use std::fs;
+use std::fs::File;
 use std::io::{self, Read};
 use std::path::Path;
 
@@ -27,16 +27,59 @@ impl Form {
     }
 }
 
-/// The code that a file holds, or a sentence that says why it holds none.
+/// No contract has a file as large as this, in digits and with white space between them.
+const LARGEST: u64 = 1 << 20;
+
+/// The code that a file holds.
+#[derive(Clone, Debug, PartialEq, Eq)]
+pub struct Code {
+    pub bytes: Vec<u8>,
+    /// The file holds nothing, and nobody said that this is meant.
+    pub blank: bool,
+}
+
+/// The bytes of the code that a file holds, or a sentence that says why it holds none.
 pub fn code(path: &Path, form: Form) -> Result<Vec<u8>, String> {
-    let bytes = if path == Path::new("-") {
-        let mut bytes = Vec::new();
-        io::stdin().read_to_end(&mut bytes).map(|_| bytes)
+    read(path, form).map(|code| code.bytes)
+}
+
+/// The code that a file holds, or a sentence that says why it holds none.
+pub fn read(path: &Path, form: Form) -> Result<Code, String> {
+    let held = if path == Path::new("-") {
+        limited(io::stdin().lock())
     } else {
-        fs::read(path)
+        of_file(path)
     };
-    let bytes = bytes.map_err(|error| format!("cannot be read: {error}"))?;
-    decoded(bytes, form)
+    let held = held.map_err(|error| format!("cannot be read: {error}"))?;
+    let held = held.map_err(|length| {
+        let length = length.map_or(format!("more than {LARGEST}"), |length| length.to_string());
+        format!(
+            "has {length} bytes, and the file of a contract at most {LARGEST}: it is not read whole"
+        )
+    })?;
+    let blank = form == Form::ToldApart && held.iter().all(u8::is_ascii_whitespace);
+    let bytes = decoded(held, form)?;
+    Ok(Code { bytes, blank })
+}
+
+/// What a file holds, or how much that is, if it is known, where no contract holds so much.
+fn of_file(path: &Path) -> io::Result<Result<Vec<u8>, Option<u64>>> {
+    let file = File::open(path)?;
+    let length = file.metadata()?.len();
+    if length > LARGEST {
+        return Ok(Err(Some(length)));
+    }
+    limited(file)
+}
+
+/// What comes may be more than a file says, and a pipe says nothing.
+fn limited(from: impl Read) -> io::Result<Result<Vec<u8>, Option<u64>>> {
+    let mut bytes = Vec::new();
+    from.take(LARGEST + 1).read_to_end(&mut bytes)?;
+    if bytes.len() as u64 > LARGEST {
+        return Ok(Err(None));
+    }
+    Ok(Ok(bytes))
 }
 
 /// The code that these bytes stand for.
@@ -85,23 +128,47 @@ fn begins_with_mark(bytes: &[u8]) -> bool {
 }
 
 /// A contract has bytes that are no text almost at once; where it does not, a flag is for that.
-fn is_text(bytes: &[u8]) -> bool {
+pub fn is_text(bytes: &[u8]) -> bool {
     let text = |letter: char| !letter.is_control() || letter.is_whitespace();
     str::from_utf8(bytes).is_ok_and(|letters| letters.chars().all(text))
 }
 
 fn hex(bytes: &[u8]) -> Result<Vec<u8>, String> {
     let digits = digits(bytes);
+    if let Some(bad) = digits.iter().position(|digit| !digit.is_ascii_hexdigit()) {
+        return Err(no_digit(bytes, digits.len() - bad));
+    }
     if !digits.len().is_multiple_of(2) {
         return Err(format!(
             "has {} hexadecimal digits, and a code has two for each byte",
             digits.len()
         ));
     }
-    let value = |digit: u8| char::from(digit).to_digit(16).map(|value| value as u8);
-    let byte = |pair: &[u8]| Some(value(pair[0])? * 16 + value(pair[1])?);
-    let code: Option<Vec<u8>> = digits.chunks(2).map(byte).collect();
-    code.ok_or_else(|| "has characters that are no hexadecimal digits".into())
+    let value = |digit: u8| char::from(digit).to_digit(16).unwrap_or(0) as u8;
+    let byte = |pair: &[u8]| value(pair[0]) * 16 + value(pair[1]);
+    Ok(digits.chunks(2).map(byte).collect())
+}
+
+/// What stands where a digit should, and where: so many from the end, white space not counted.
+fn no_digit(bytes: &[u8], from_end: usize) -> String {
+    let solid = bytes.iter().enumerate().rev();
+    let mut solid = solid.filter(|(_, byte)| !byte.is_ascii_whitespace());
+    let at = solid.nth(from_end - 1).map_or(0, |(at, _)| at);
+    let line = 1 + bytes[..at].iter().filter(|byte| **byte == b'\n').count();
+    let column = 1 + bytes[..at]
+        .iter()
+        .rev()
+        .take_while(|byte| **byte != b'\n')
+        .count();
+    let letter = bytes[at..].utf8_chunks().next();
+    let letter = letter.and_then(|chunk| chunk.valid().chars().next());
+    let what = match letter {
+        Some(letter) => format!("'{}'", letter.escape_debug()),
+        None => format!("the byte 0x{:02x}", bytes[at]),
+    };
+    format!(
+        "has {what} at line {line}, column {column}, and that is no hexadecimal digit: link its libraries if it names some, or leave --hex out if these are the code's bytes"
+    )
 }
 
 #[cfg(test)]

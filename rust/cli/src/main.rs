@@ -2,23 +2,33 @@
 
 mod args;
 mod commands;
-mod compare;
 mod completions;
+mod contracts;
 mod diff;
 mod files;
 mod given;
 mod help;
 mod input;
+mod jobs;
+mod json;
 mod man;
+mod mappers;
 mod maps;
+mod names;
+mod nights;
 mod outcome;
-mod paths;
+mod patterns;
 mod print;
 mod progress;
+mod refused;
 mod show;
+mod store;
 mod stored;
 mod summary;
+mod system;
 mod table;
+mod verdicts;
+mod work;
 
 use std::io::{self, BufWriter, ErrorKind, Write};
 use std::process::ExitCode;

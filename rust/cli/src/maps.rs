@@ -1,20 +1,34 @@
 //! `aznifrem map`: each contract's map, printed or stored.
 
-use std::collections::HashSet;
-use std::fs;
-use std::io::{self, Write};
-use std::path::{Path, PathBuf};
+use std::io::{self, IsTerminal, Write};
+use std::mem;
+use std::num::NonZero;
+use std::path::PathBuf;
+use std::sync::Arc;
+use std::thread::available_parallelism;
+use std::time::Duration;
 
-use aznifrem::{Error, HIGHEST_LIMIT, Map, Mapper};
+use aznifrem::{HIGHEST_LIMIT, Mapper};
 
-use crate::files::{Found, Kind, Named, beneath};
+use crate::contracts::Contracts;
 use crate::given::Given;
-use crate::input::{self, Form};
+use crate::input::Form;
+use crate::jobs::{Jobs, Next};
+use crate::names::shown;
 use crate::outcome::{Outcome, tell};
+use crate::patterns::Patterns;
 use crate::print::Print;
 use crate::progress::Progress;
-use crate::summary;
+use crate::refused::Refusal;
+use crate::store::{self, Store};
+use crate::system;
 use crate::table::{Command, Group, Operand, Opt, Stop, Value};
+use crate::work::{Made, Work};
+
+/// How soon Ctrl-C is heard.
+const SOON: Duration = Duration::from_millis(50);
+const MOST_JOBS: u64 = 1024;
+const MOST_MEBIBYTES: u64 = (usize::MAX >> 20) as u64;
 
 pub const COMMAND: Command = Command {
     name: "map",
@@ -23,7 +37,7 @@ pub const COMMAND: Command = Command {
     takes: "give a file or a folder of contracts, or - for standard input",
     groups: &[
         Group {
-            heading: "What comes out (the first is the default)",
+            heading: "What comes out (by default --summary on a terminal, else --lines)",
             options: &[
                 Opt::flag(
                     "--lines",
@@ -32,18 +46,37 @@ pub const COMMAND: Command = Command {
                 Opt::flag("--summary", "the map for a reader"),
                 Opt::flag(
                     "--json",
-                    "the blocks as JSON, as serde makes it of evmole's, on a line; with --to it is a file NAME.json beside NAME.map, both of one call, and is not printed",
+                    "the blocks as JSON, as serde makes it of evmole's, on a line; with two contracts or more, a line is an object with path and blocks; with --to it is a file NAME.json beside NAME.map, both of one call, and is not printed",
+                ),
+                Opt::flag(
+                    "--dot",
+                    "the map for Graphviz, to be drawn: static edges, dynamic ones dashed with their number of paths, unresolved ones red",
                 ),
                 Opt::with(
                     "--to",
                     Value::folder("FOLDER"),
-                    "each map as a file NAME.map in this folder, to be stored; nothing is printed unless --lines or --summary is there too. A folder that holds a .map file already is refused: give a fresh one each time, so that no old map stays",
+                    "each map as a file NAME.map in this folder, to be stored, and the contracts that have none as lines of refused.jsonl; nothing is printed unless --lines, --summary or --dot is there too, and totals are said in the end. A folder that holds a .map file already is refused: give a fresh one each time, so that no old map stays",
                 ),
             ],
         },
         Group {
             heading: "Options",
             options: &[
+                Opt::with(
+                    "--include",
+                    Value::word("PATTERN"),
+                    "of folders, the files of this name alone, such as '*.hex'; may stand more than once",
+                ),
+                Opt::with(
+                    "--exclude",
+                    Value::word("PATTERN"),
+                    "of folders, not the files and folders of this name; may stand more than once",
+                ),
+                Opt::with(
+                    "--jobs",
+                    Value::word("N"),
+                    "contracts that are mapped at a time (default: as many as there are cores); what comes out, and its order, is the same",
+                ),
                 Opt::with(
                     "--limit",
                     Value::word("N"),
@@ -52,23 +85,26 @@ pub const COMMAND: Command = Command {
                 Opt::with(
                     "--ceiling",
                     Value::word("MIB"),
-                    "memory that may be lent, in MiB (default 1024)",
+                    "memory that may be lent, in MiB, to all jobs together (default 1024)",
                 ),
                 Opt::flag("--hex", "the files hold hexadecimal digits"),
                 Opt::flag("--binary", "the files hold the bytes themselves"),
-                Opt::flag("--quiet", "no progress bar"),
+                Opt::flag("--quiet", "no progress and no totals"),
             ],
         },
     ],
     notes: &[
-        "A contract is a file of deployed code (at most 24,576 bytes), as hexadecimal digits, with or without 0x and line breaks, or as the bytes themselves. Which of the two it is shows by its content; say --hex or --binary where it does not: other text, and what begins with a byte order mark, is a contract with --binary alone. In folders of contracts, files and folders that begin with a dot, files that end in .map and links to folders are passed over.",
+        "A contract is a file of deployed code (at most 24,576 bytes), as hexadecimal digits, with or without 0x and line breaks, or as the bytes themselves. Which of the two it is shows by its content; say --hex or --binary where it does not: other text, and what begins with a byte order mark, is a contract with --binary alone. In folders of contracts, files and folders that begin with a dot, files that end in .map, refused.jsonl, unfinished.txt and links to folders are passed over.",
+        "In a PATTERN ? is any letter, * any letters, and ** also goes across the / of folders. One that has a / is held to the whole path beneath the folder, another to the file's own name.",
+        "Progress is a bar on a terminal, elsewhere a line every half minute. A run that is cut short, as by Ctrl-C, leaves no half file; unfinished.txt stays in the folder then, so that diff does not take it for a night.",
     ],
     exits: &[
         (0, "every contract is mapped"),
         (
             1,
-            "one is refused or not stored, or a file or folder is unreadable (a line for each on standard error)",
+            "one is refused or not stored, or a file or folder is unreadable (a line for each on standard error); the others are mapped",
         ),
+        (2, "maps cannot be stored in the folder of --to"),
     ],
     examples: &[
         (
@@ -76,248 +112,204 @@ pub const COMMAND: Command = Command {
             "echo 60056007565b005b56 | aznifrem --summary -",
         ),
         (
-            "A night's work",
-            "aznifrem --to tonight contracts && aznifrem diff yesterday tonight",
+            "A night's work, also where a contract is refused",
+            "aznifrem --to new contracts || [ $? = 1 ] && aznifrem diff old new",
         ),
     ],
-    run: |given, mut out| Ok(run(&Options::asked(given)?, &mut out)?),
+    run: |given, mut out| run(&Options::asked(given)?, &mut out),
 };
 
-struct Options<'a> {
-    inputs: &'a [PathBuf],
-    form: Form,
-    print: Option<Print>,
-    to: Option<&'a Path>,
-    limit: u64,
-    ceiling: usize,
+pub struct Options {
+    inputs: Vec<PathBuf>,
+    to: Option<PathBuf>,
+    patterns: Patterns,
+    jobs: usize,
     quiet: bool,
+    pub form: Form,
+    pub print: Option<Print>,
+    pub limit: u64,
+    pub ceiling: usize,
 }
 
-impl Options<'_> {
-    fn asked(given: &Given) -> Result<Options<'_>, Stop> {
+impl Options {
+    fn asked(given: &Given) -> Result<Options, Stop> {
         let to = given.path("--to");
-        let ceiling = given.number("--ceiling")?;
+        if to.is_some_and(|to| to.as_os_str().is_empty()) {
+            let wrong = "--to takes a folder, and its name is empty";
+            return Err(Stop::Asked(wrong.into()));
+        }
+        let cores = available_parallelism().map_or(1, NonZero::get);
+        let jobs = given.number_within("--jobs", 1..=MOST_JOBS)?;
+        let limit = given.number_within("--limit", 0..=HIGHEST_LIMIT)?;
+        let ceiling = given.number_within("--ceiling", 0..=MOST_MEBIBYTES)?;
         Ok(Options {
-            inputs: &given.operands,
-            form: Form::asked(given),
-            print: Print::asked(given).or(to.is_none().then_some(Print::Lines)),
-            to,
-            limit: given.number("--limit")?.unwrap_or(HIGHEST_LIMIT),
-            ceiling: ceiling.map_or(Ok(Mapper::DEFAULT_CEILING), mebibytes)?,
+            inputs: given.operands.clone(),
+            to: to.map(PathBuf::from),
+            patterns: Patterns {
+                include: patterns(given, "--include")?,
+                exclude: patterns(given, "--exclude")?,
+            },
+            jobs: jobs.map_or(cores, |jobs| jobs as usize),
             quiet: given.has("--quiet"),
+            form: Form::asked(given),
+            print: Print::asked(given).or_else(|| to.is_none().then(by_default)),
+            limit: limit.unwrap_or(HIGHEST_LIMIT),
+            ceiling: ceiling.map_or(Mapper::DEFAULT_CEILING, |count| (count as usize) << 20),
         })
     }
 }
 
-fn mebibytes(count: u64) -> Result<usize, Stop> {
-    let bytes = count.checked_mul(1 << 20);
-    let bytes = bytes.and_then(|bytes| usize::try_from(bytes).ok());
-    let wrong = || format!("--ceiling {count} is more memory than there can be");
-    bytes.ok_or_else(|| Stop::Asked(wrong()))
-}
-
-const HEADER: usize = 6;
-const DIGITS: &[u8; 16] = b"0123456789abcdef";
-
-fn run(options: &Options, out: &mut impl Write) -> io::Result<Outcome> {
-    if let Some(sentence) = options.to.and_then(unfit) {
-        tell(&sentence);
-        return Ok(Outcome::Wrong);
-    }
-    let mut outcome = Outcome::Fine;
-    let mut contracts = Vec::new();
-    for input in options.inputs {
-        let found = expanded(input);
-        for sentence in &found.faults {
-            tell(sentence);
-            outcome = Outcome::Found;
-        }
-        contracts.extend(found.files);
-    }
-    let mut job = Job {
-        options,
-        mapper: Mapper::with_ceiling(options.ceiling),
-        many: contracts.len() > 1,
-        stored: HashSet::new(),
-    };
-    let mut progress = Progress::new(contracts.len(), options.quiet);
-    for contract in &contracts {
-        progress.begin(&contract.path);
-        match job.one(contract) {
-            Ok(text) if text.is_empty() => {}
-            Ok(text) => {
-                progress.clear();
-                out.write_all(text.as_bytes())?;
-            }
-            Err(sentence) => {
-                progress.clear();
-                out.flush()?;
-                tell(&format!("{}: {sentence}", contract.path.display()));
-                outcome = Outcome::Found;
-            }
-        }
-    }
-    progress.clear();
-    Ok(outcome)
-}
-
-/// Why maps cannot be stored here. A map of an earlier run would stay where this run stores none,
-/// and diff would take it for this run's.
-fn unfit(folder: &Path) -> Option<String> {
-    if folder.is_file() {
-        return Some(format!(
-            "{}: is a file, and --to takes a folder",
-            folder.display()
-        ));
-    }
-    if !folder.is_dir() {
-        return None;
-    }
-    let found = beneath(folder, Kind::Maps);
-    let held = found.files.first().map(|map| {
-        format!(
-            "{}: holds maps already, as {}: give --to a fresh folder, or empty this one",
-            folder.display(),
-            map.name.display()
-        )
-    });
-    held.or_else(|| found.faults.into_iter().next())
-}
-
-/// The contracts that a word of the command line stands for.
-fn expanded(input: &Path) -> Found {
-    if input.is_dir() {
-        let mut found = beneath(input, Kind::Contracts);
-        if found == Found::default() {
-            let sentence = format!("{}: no contract is in it", input.display());
-            found.faults.push(sentence);
-        }
-        return found;
-    }
-    let name = match input.file_name() {
-        Some(name) if input != Path::new("-") => PathBuf::from(name),
-        _ => PathBuf::from("stdin"),
-    };
-    let path = input.to_path_buf();
-    Found {
-        files: vec![Named { path, name }],
-        faults: Vec::new(),
-    }
-}
-
-/// The work on one contract after another.
-struct Job<'a> {
-    options: &'a Options<'a>,
-    mapper: Mapper,
-    many: bool,
-    stored: HashSet<PathBuf>,
-}
-
-impl Job<'_> {
-    /// Maps and stores one contract, and gives what is to be printed of it.
-    fn one(&mut self, contract: &Named) -> Result<String, String> {
-        let code = input::code(&contract.path, self.options.form)?;
-        if self.options.print == Some(Print::Json) {
-            return self.json(contract, &code);
-        }
-        let entries = self.mapper.entries(&code, self.options.limit);
-        let entries = entries.map_err(refusal)?;
-        if let Some(folder) = self.options.to {
-            store(folder, &contract.name, "map", entries, &mut self.stored)?;
-        }
-        let title = contract.path.display().to_string();
-        match self.options.print {
-            None | Some(Print::Json) => Ok(String::new()),
-            Some(Print::Lines) => Ok(titled(self.many, &title, &lines(entries))),
-            Some(Print::Summary) => Map::try_from_bytes(entries)
-                .map_err(Error::from)
-                .and_then(|read| read.map_err(Error::Unreadable))
-                .map(|map| summary::text(&title, &map))
-                .map_err(refusal),
-        }
-    }
-
-    /// The text and the map of one call: stored beside each other, or the text to be printed.
-    fn json(&mut self, contract: &Named, code: &[u8]) -> Result<String, String> {
-        let both = self.mapper.both(code, self.options.limit);
-        let (entries, text) = both.map_err(refusal)?;
-        let Some(folder) = self.options.to else {
-            let title = contract.path.display().to_string();
-            return Ok(titled(self.many, &title, &format!("{text}\n")));
-        };
-        store(folder, &contract.name, "map", entries, &mut self.stored)?;
-        store(
-            folder,
-            &contract.name,
-            "json",
-            text.as_bytes(),
-            &mut self.stored,
-        )?;
-        Ok(String::new())
-    }
-}
-
-/// With a line of the path before it, where there are more.
-pub fn titled(many: bool, title: &str, text: &str) -> String {
-    if many {
-        format!("== {title}\n{text}")
+/// A reader has a terminal, a machine has none.
+fn by_default() -> Print {
+    if io::stdout().is_terminal() {
+        Print::Summary
     } else {
-        text.into()
+        Print::Lines
     }
 }
 
-/// `refused N` as document 01's program says it, and what to do.
-fn refusal(error: Error) -> String {
-    let advice = match error {
-        Error::RoomFull { .. } => " (--ceiling, --limit)",
-        Error::LimitTooHigh { .. } | Error::RoomAtMost { .. } => " (--limit)",
-        _ => "",
-    };
-    match error.number() {
-        Some(number) => format!("refused {number}: {error}{advice}"),
-        None => error.to_string(),
+fn patterns(given: &Given, name: &str) -> Result<Vec<Vec<u8>>, Stop> {
+    let values = given.values(name).map(|value| value.as_encoded_bytes());
+    let values: Vec<Vec<u8>> = values.map(<[u8]>::to_vec).collect();
+    if values.contains(&Vec::new()) {
+        let wrong = format!("{name} takes a pattern, and it is empty");
+        return Err(Stop::Asked(wrong));
     }
+    Ok(values)
 }
 
-/// Each entry as lower-case hexadecimal digits on a line.
-pub fn lines(mut entries: &[u8]) -> String {
-    let mut text = String::new();
-    while let Some(length) = entries.first_chunk().map(|four| u32::from_le_bytes(*four)) {
-        let end = (HEADER + length as usize).min(entries.len());
-        let (entry, rest) = entries.split_at(end);
-        for byte in entry {
-            text.push(char::from(DIGITS[usize::from(byte >> 4)]));
-            text.push(char::from(DIGITS[usize::from(byte & 15)]));
+fn run(options: &Options, out: &mut impl Write) -> Result<Outcome, Stop> {
+    system::catch_endings();
+    let store = match options.to.as_deref().map(Store::open).transpose() {
+        Ok(store) => store.map(Arc::new),
+        Err(sentence) => {
+            tell(&sentence);
+            return Ok(Outcome::Wrong);
         }
-        text.push('\n');
-        entries = rest;
-    }
-    text
+    };
+    let contracts = Contracts::of(&options.inputs, &options.patterns);
+    contracts.faults.iter().for_each(|sentence| tell(sentence));
+    let mut run = Run {
+        progress: Progress::new(contracts.files.len(), options.quiet),
+        total: contracts.files.len(),
+        mapped: 0,
+        refusals: contracts.unread,
+    };
+    let faults = contracts.faults.len();
+    let threads = options.jobs.min(run.total);
+    let work = Work::new(options, contracts.files, threads, store.clone());
+    run.over(Arc::new(work), threads, out)?;
+    run.progress.clear();
+    let stored = store.map_or(Ok(()), |store| {
+        let closed = store.close(&run.refusals);
+        if closed.is_ok() && !options.quiet {
+            tell(&run.totals(contracts.left_out, &store));
+        }
+        closed
+    });
+    Ok(match stored {
+        Ok(()) if faults == 0 && run.refusals.is_empty() => Outcome::Fine,
+        Ok(()) => Outcome::Found,
+        Err(sentence) => {
+            tell(&sentence);
+            Outcome::Wrong
+        }
+    })
 }
 
-/// Writes a map or a text to the archive, beside its place first, so that no half of one is ever
-/// there.
-fn store(
-    folder: &Path,
-    name: &Path,
-    ending: &str,
-    bytes: &[u8],
-    stored: &mut HashSet<PathBuf>,
-) -> Result<(), String> {
-    let mut file = folder.join(name).into_os_string();
-    file.push(format!(".{ending}"));
-    let file = PathBuf::from(file);
-    if !stored.insert(file.clone()) {
-        return Err(format!(
-            "is not stored: another contract of this run is in {}; map the folders one by one",
-            file.display()
+/// What a run has come to so far.
+struct Run {
+    progress: Progress,
+    total: usize,
+    mapped: usize,
+    refusals: Vec<Refusal>,
+}
+
+impl Run {
+    /// Tells each contract's outcome, in their order.
+    fn over(&mut self, work: Arc<Work>, threads: usize, out: &mut impl Write) -> io::Result<()> {
+        let working = work.clone();
+        let begun = Jobs::begin(self.total, threads, move |thread, item| {
+            working.one(thread, item)
+        });
+        let mut jobs = begun?;
+        loop {
+            let next = jobs.next(SOON);
+            if system::ending() {
+                self.cut_short(&work);
+            }
+            let told = match next {
+                Next::Done(result) => self.told(result, out),
+                Next::Waiting => Ok(()),
+                Next::Over => return Ok(()),
+            };
+            // The program ends then: no file may be half written.
+            told.inspect_err(|_| mem::forget(store::at_rest()))?;
+            if let Some(contract) = work.contracts.get(jobs.waited_for()) {
+                self.progress.show(&contract.named.path);
+            }
+        }
+    }
+
+    fn told(&mut self, result: Result<Made, Refusal>, out: &mut impl Write) -> io::Result<()> {
+        self.progress.done(result.is_err());
+        let (text, said) = match result {
+            Ok(Made { text, note }) => {
+                self.mapped += 1;
+                (text, note)
+            }
+            Err(refusal) => {
+                let said = refusal.said();
+                self.refusals.push(refusal);
+                (String::new(), Some(said))
+            }
+        };
+        if !text.is_empty() || said.is_some() {
+            self.progress.clear();
+        }
+        out.write_all(text.as_bytes())?;
+        if let Some(said) = said {
+            out.flush()?;
+            tell(&said);
+        }
+        Ok(())
+    }
+
+    /// Ends the program as the signal asks, once no file is half written.
+    fn cut_short(&mut self, work: &Work) -> ! {
+        let _resting = store::at_rest();
+        self.progress.clear();
+        let done = self.mapped + self.refusals.len();
+        let advice = work.store.as_ref().map_or(String::new(), |store| {
+            format!(
+                "; {} is unfinished: remove it and map again",
+                shown(&store.folder)
+            )
+        });
+        let total = self.total;
+        tell(&format!(
+            "aznifrem: cut short after {done} of {total} contracts{advice}"
         ));
+        system::end()
     }
-    let unwritable = |error| format!("cannot write {}: {error}", file.display());
-    if let Some(parent) = file.parent() {
-        fs::create_dir_all(parent).map_err(unwritable)?;
+
+    fn totals(&self, left_out: usize, store: &Store) -> String {
+        let (total, mapped) = (self.total, self.mapped);
+        let mut line = format!("contracts: {total}, mapped: {mapped}");
+        let unread = self.mapped + self.refusals.len() - total;
+        let refused = self.refusals.len() - unread;
+        for (what, count) in [
+            ("refused", refused),
+            ("folders not read", unread),
+            ("left out", left_out),
+        ] {
+            if count > 0 {
+                line += &format!(", {what}: {count}");
+            }
+        }
+        if !self.refusals.is_empty() {
+            line += &format!("; listed in {}", shown(&store.list()));
+        }
+        line
     }
-    let beside = file.with_extension(format!("{ending}.part"));
-    fs::write(&beside, bytes).map_err(unwritable)?;
-    fs::rename(&beside, &file).map_err(unwritable)
 }

@@ -4,9 +4,9 @@ use std::io::{self, Write};
 use std::path::{Path, PathBuf};
 
 use crate::files::{Kind, beneath};
-use crate::maps::{lines, titled};
+use crate::names::shown;
 use crate::outcome::{Outcome, tell};
-use crate::print::Print;
+use crate::print::{Print, json, lines, titled};
 use crate::stored;
 use crate::summary;
 use crate::table::{Command, Group, Operand, Opt};
@@ -21,7 +21,11 @@ pub const COMMAND: Command = Command {
         options: &[
             Opt::flag("--summary", "the map for a reader"),
             Opt::flag("--lines", "its entries, as hexadecimal digits, a line each"),
-            Opt::flag("--json", "its blocks as JSON, on a line"),
+            Opt::flag(
+                "--json",
+                "its blocks as JSON, on a line; with two maps or more, a line is an object with path and blocks",
+            ),
+            Opt::flag("--dot", "its blocks and jumps for Graphviz, to be drawn"),
         ],
     }],
     notes: &[
@@ -51,14 +55,15 @@ fn run(inputs: &[PathBuf], print: Print, out: &mut impl Write) -> io::Result<Out
         maps.extend(files);
     }
     for path in &maps {
-        let title = path.display().to_string();
+        let title = shown(path);
         match stored::read(path) {
             Ok(stored) => {
                 let many = maps.len() > 1;
                 let text = match print {
                     Print::Summary => summary::text(&title, &stored.map),
+                    Print::Dot => draw::dot(&title, &stored.map),
                     Print::Lines => titled(many, &title, &lines(&stored.bytes)),
-                    Print::Json => titled(many, &title, &format!("{}\n", stored.map.to_json())),
+                    Print::Json => json(many, &title, &stored.map.to_json()),
                 };
                 out.write_all(text.as_bytes())?;
             }
@@ -81,7 +86,7 @@ fn expanded(input: &Path) -> (Vec<PathBuf>, Vec<String>) {
     if found.files.is_empty() && found.faults.is_empty() {
         let sentence = format!(
             "{}: no map is in it; a map's file ends in .map",
-            input.display()
+            shown(input)
         );
         found.faults.push(sentence);
     }

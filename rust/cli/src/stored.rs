@@ -6,6 +6,9 @@ use std::path::Path;
 
 use aznifrem::Map;
 
+use crate::input::is_text;
+use crate::names::shown;
+
 /// A map, and the bytes that hold it.
 pub struct Stored {
     pub bytes: Vec<u8>,
@@ -23,11 +26,32 @@ pub fn read(path: &Path) -> Result<Stored, String> {
     let bytes = bytes.map_err(|error| unreadable(path, &error))?;
     match Map::try_from_bytes(&bytes) {
         Ok(Ok(map)) => Ok(Stored { bytes, map }),
-        Ok(Err(bad)) => Err(format!("{}: is no stored map: {bad}", path.display())),
-        Err(not_relayed) => Err(format!("{}: {not_relayed}", path.display())),
+        Ok(Err(_)) if !bytes.is_empty() && is_text(&bytes) => Err(format!(
+            "{}: is no stored map: {}",
+            shown(path),
+            printed(&bytes)
+        )),
+        Ok(Err(bad)) => Err(format!("{}: is no stored map: {bad}", shown(path))),
+        Err(not_relayed) => Err(format!("{}: {not_relayed}", shown(path))),
+    }
+}
+
+/// What a text is: likely something that was printed and kept.
+fn printed(bytes: &[u8]) -> &'static str {
+    let line = bytes
+        .split(|byte| *byte == b'\n')
+        .next()
+        .unwrap_or_default();
+    let line = line.strip_suffix(b"\r").unwrap_or(line);
+    if line.starts_with(b"[") {
+        "it is text, as --json prints it; --to stores maps, as files .map"
+    } else if line.starts_with(b"== ") || line.iter().all(u8::is_ascii_hexdigit) {
+        "it is text, as --lines prints it; --to stores maps, as files .map"
+    } else {
+        "it is text; --to stores maps, as files .map"
     }
 }
 
 pub fn unreadable(path: &Path, error: &io::Error) -> String {
-    format!("{}: cannot be read: {error}", path.display())
+    format!("{}: cannot be read: {error}", shown(path))
 }

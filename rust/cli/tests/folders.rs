@@ -23,7 +23,8 @@ fn link(to: &str, at: &Path) {
 fn store(here: &Path, to: &str, name: &str, code: &str) {
     put(here, name, code);
     let stored = all(&run(here, &["--to", to, name]));
-    assert_eq!(stored, (0, String::new(), String::new()));
+    let totals = "contracts: 1, mapped: 1\n";
+    assert_eq!(stored, (0, String::new(), totals.into()));
 }
 
 #[test]
@@ -113,8 +114,14 @@ fn a_folder_that_cannot_be_read_does_not_hide_the_rest() {
     let compared = all(&run(&here, &["diff", "code", "maps"]));
     fs::remove_dir_all(deep).expect("the folders can be taken away");
     let (exit, _, said) = mapped;
-    assert_eq!((exit, said.lines().count()), (1, 1), "{said}");
-    assert!(said.contains(": cannot read the folder: "), "{said}");
+    let said: Vec<&str> = said.lines().collect();
+    let [fault, totals] = said[..] else {
+        panic!("two lines: {said:?}");
+    };
+    assert_eq!(exit, 1);
+    assert!(fault.contains(": cannot read the folder: "), "{fault}");
+    let listed = "contracts: 2, mapped: 2, folders not read: 1; listed in maps/refused.jsonl";
+    assert_eq!(totals, listed);
     assert!(here.join("maps/a.hex.map").is_file() && here.join("maps/z.hex.map").is_file());
     // Maps of the rest would seem to have come: none is compared.
     assert_eq!((compared.0, compared.1.as_str()), (2, ""));

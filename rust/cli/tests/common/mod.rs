@@ -1,8 +1,9 @@
 //! Running the program in a folder of a test's own.
+#![allow(dead_code)] // Each file of tests takes what it needs.
 
 use std::fs;
 use std::path::{Path, PathBuf};
-use std::process::{Command, Output};
+use std::process::{Child, Command, Output};
 
 /// A fresh folder for one test.
 pub fn folder(name: &str) -> PathBuf {
@@ -31,4 +32,32 @@ pub fn all(output: &Output) -> (i32, String, String) {
     let text = |bytes: &[u8]| String::from_utf8(bytes.to_vec()).expect("it is text");
     let exit = output.status.code().expect("it is not killed");
     (exit, text(&output.stdout), text(&output.stderr))
+}
+
+/// Writes to a pipe by name when somebody reads it, as a program of its own, so that no test waits
+/// for a reader that has ended; it is stopped with the test.
+pub struct Late(Child);
+
+impl Late {
+    pub fn write(pipe: &Path, text: &str) -> Late {
+        let mut shell = Command::new("sh");
+        shell.args(["-c", "echo \"$0\" > \"$1\"", text]).arg(pipe);
+        Late(shell.spawn().expect("a shell is there"))
+    }
+}
+
+impl Drop for Late {
+    fn drop(&mut self) {
+        // One that has written is over.
+        let _ = self.0.kill();
+        let _ = self.0.wait();
+    }
+}
+
+/// A pipe by name: what is to be read from it does not come until it is written.
+pub fn pipe(here: &Path, name: &str) -> PathBuf {
+    let path = here.join(name);
+    let made = Command::new("mkfifo").arg(&path).status();
+    assert!(made.expect("mkfifo is there").success());
+    path
 }
