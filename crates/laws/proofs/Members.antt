@@ -3,12 +3,12 @@ use Prim.Native.Nat.{ℕ, _≤_}
 use native.Mathlib.Omega.{arith}
 use mathlib.Core.Path.{_≡_, refl, sym, ap, subst}
 use mathlib.Core.Logic.{_⊎_, inl, inr}
-use mathlib.Core.Bool.{Bool, true, false, _&&_, _||_}
+use mathlib.Core.Bool.{Bool, true, false, _&&_, _||_, true≢false}
 use mathlib.Core.List.{List, [], _∷_, _++_, map, append-assoc}
 use lib.Dec.{eqb}
 use lib.ListN.{length}
 use borrow.Author.Tests.{eqb-true, eq-eqb}
-use Rattle.spec.specs.Lists.{mem, keep, gather}
+use Rattle.spec.specs.Lists.{mem, some?, keep, gather}
 pub use Rattle.laws.specs.Lists.{In, here, there}
 use Rattle.laws.proofs.Branch.{both}
 
@@ -42,6 +42,21 @@ mem-in a (x ∷ xs) e = split (or-cases (eqb a x) (mem a xs) e) (mem-in a xs)
 pub in-mem : (a : ℕ) {xs : List ℕ} → In a xs → mem a xs ≡ true
 in-mem a (here {xs}) = ap (λ (b : Bool). b || mem a xs) (eq-eqb a a refl)
 in-mem a (there {y} {xs} i) = or-right (eqb a y) _ (in-mem a i)
+
+-- ---- of what a test is true of
+
+module _ {A : Type 0} (f : A → Bool) where
+  pub some-in : {x : A} {xs : List A} → f x ≡ true → In x xs → some? f xs ≡ true
+  some-in e here = rw e
+  some-in e (there {y} i) = or-right (f y) _ (some-in e i)
+
+  pub in-some : (xs : List A) → some? f xs ≡ true → (a : A) × In a xs × (f a ≡ true)
+  in-some [] e = absurd (true≢false (sym e))
+  in-some (x ∷ xs) e = split (or-cases (f x) _ e) (in-some xs)
+    where
+      split : (f x ≡ true) ⊎ (some? f xs ≡ true) → (some? f xs ≡ true → (a : A) × In a xs × (f a ≡ true)) → (a : A) × In a (x ∷ xs) × (f a ≡ true)
+      split (inl q) ih = (x, here, q)
+      split (inr q) ih = let g = ih q in (g .0, there (g .1), g .2)
 
 -- ---- of joined lists
 

@@ -1,10 +1,10 @@
 -- Document 01, "Stacks": "Meaning to prove", of a whole block: its run on symbols beside its run on words by YP. Assumes nothing.
-use Prim.Native.Nat.{ℕ, zero, suc, _+_, _-_, _*_, _≤_}
+use Prim.Native.Nat.{ℕ, zero, suc, _+_, _-_, _*_, _<_, _≤_}
 use native.Mathlib.Omega.{arith}
 use native.Mathlib.Nat.{zero-add}
 use mathlib.Core.Path.{_≡_, refl, sym, ap, _∙_}
 use mathlib.Core.Bool.{Bool, true, false, _&&_, _||_, not, true≢false}
-use mathlib.Core.Option.{none, some}
+use mathlib.Core.Option.{Option, none, some}
 use mathlib.Core.List.{List, [], _∷_}
 use lib.Dec.{eqb}
 use lib.ListN.{length, getD}
@@ -14,7 +14,7 @@ use Rattle.spec.specs.Opcodes.{row}
 use Rattle.spec.specs.Walk.{Ins, from, instructions}
 use Rattle.spec.specs.Blocks.{Block, blocks}
 use Rattle.spec.specs.Stacks.{Sym, before, constant, jumpdest, other, Stack, entry, reads, read, joins, settle, trims, trim, Does, pushes-value, pushes-pc, dups, swaps, ands, adds, jumps, jumpis, lands, halts, plain, does, act, Ran, after, runs, trimmed, run}
-use Rattle.spec.specs.Meaning.{last, cut-short, Ended, executes, Throughout, Known, Deep, Masked, Asked, no-jump, jumps-to, Holds, Faithful}
+use Rattle.spec.specs.Meaning.{yields, last, cut-short, Ended, executes, Throughout, Known, Deep, Masked, Asked, Jump, no-jump, jumps-to, Holds, Faithful}
 use Rattle.laws.proofs.Branch.{both}
 use Rattle.laws.proofs.Members.{In}
 use Rattle.theorems.proofs.Cutting.{Whole, Passes, walk-over, ends-before, ends-with, goes-past, is-short, is-whole, block-whole}
@@ -30,39 +30,58 @@ last? start i d = closes? d || (lands? d && not (eqb (i .pc) start))
 last-does : (start : ℕ) (i : Ins) → last start i ≡ last? start i (does (i .op))
 last-does start i = rw (closing-does (i .op), landing-does (i .op))
 
-faithful-unless : {ws : List ℕ} (b : Bool) {r q : Ran} {e f : Ended} → (not b ≡ false → Faithful ws r e) → Faithful ws q f
-    → Faithful ws (if b r q) (if (not b) f e)
-unfolding if
-faithful-unless true x y = x refl
-faithful-unless false x y = y
+-- Two runs side by side, for any relation between stacks and any between what a jump takes and what it pops.
+module _ (H : Stack → List ℕ → Type 0) (J : Option Sym → Option ℕ → Type 0) where
+  pub record Ends (r : Ran) (e : Ended) : Type 0 where
+    pub stack : H (r .stack) (e .words)
+    pub jump : J (r .goes) (e .popped)
 
-module _ {ws : List ℕ} (code : List ℕ) (start : ℕ) (i : Ins) {s : Stack} {st st′ : List ℕ} (h : Holds ws s st) where
-  faithful-after : (d : Does) → takes (i .op) d ≤ length st → Holds ws (act code i d s) st′
-      → {on : Ran} {on′ : Ended} → (last? start i d ≡ false → Faithful ws on on′)
-      → Faithful ws (after start i s (act code i d s) on d)
-      (if (last? start i d) (record { words = st′; popped = if (jumps? d) (some (getD st 0 0)) none }) on′)
-  unfolding if act
-  faithful-after pushes-value l k g = g refl
-  faithful-after pushes-pc l k g = g refl
-  faithful-after (dups n) l k g = g refl
-  faithful-after (swaps n) l k g = g refl
-  faithful-after ands l k g = g refl
-  faithful-after adds l k g = g refl
-  faithful-after jumps l k g = record { stack = k; jump = jumps-to (h .truth .at 0 l) }
-  faithful-after jumpis l k g = record { stack = k; jump = jumps-to (h .truth .at 0 (omega arith)) }
-  faithful-after lands l k g = faithful-unless (eqb (i .pc) start) g (record { stack = k; jump = no-jump })
-  faithful-after halts l k g = record { stack = k; jump = no-jump }
-  faithful-after plain l k g = g refl
+  module _ (no-jump-there : J none none) (jump-there : (s : Stack) (st : List ℕ) → H s st → 0 < length st → J (some (read s 0)) (some (getD st 0 0))) where
+    ends-unless : (b : Bool) {r q : Ran} {e f : Ended} → (not b ≡ false → Ends r e) → Ends q f → Ends (if b r q) (if (not b) f e)
+    unfolding if
+    ends-unless true x y = x refl
+    ends-unless false x y = y
 
-module _ (ws code : List ℕ) (supply : ℕ → ℕ → ℕ) (start : ℕ) where
-  faithful-runs : (is : List Ins) (s : Stack) (st : List ℕ) → Holds ws s st → Throughout code supply start Deep is s st
-      → Throughout code supply start Masked is s st → Faithful ws (runs code start is s) (executes supply start is st)
-  faithful-runs [] s st h d m = record { stack = h; jump = no-jump }
-  faithful-runs (i ∷ is) s st h d m =
-      let k = holds-act code supply i h (d .0) (m .0) in
-      let e = last-does start i in
-      rw (e, jumping-does (i .op))
-      (faithful-after code start i h (does (i .op)) (rw (takes-row (i .op)) (d .0)) k (λ q. faithful-runs is _ _ k (d .1 (e ∙ q)) (m .1 (e ∙ q))))
+    module _ (code : List ℕ) (start : ℕ) (i : Ins) {s : Stack} {st st′ : List ℕ} (h : H s st) where
+      ends-after : (d : Does) → takes (i .op) d ≤ length st → H (act code i d s) st′ → {on : Ran} {on′ : Ended} → (last? start i d ≡ false → Ends on on′)
+          → Ends (after start i s (act code i d s) on d)
+          (if (last? start i d) (record { words = st′; popped = if (jumps? d) (some (getD st 0 0)) none }) on′)
+      unfolding if act
+      ends-after pushes-value l k g = g refl
+      ends-after pushes-pc l k g = g refl
+      ends-after (dups n) l k g = g refl
+      ends-after (swaps n) l k g = g refl
+      ends-after ands l k g = g refl
+      ends-after adds l k g = g refl
+      ends-after jumps l k g = record { stack = k; jump = jump-there s st h l }
+      ends-after jumpis l k g = record { stack = k; jump = jump-there s st h (omega arith) }
+      ends-after lands l k g = ends-unless (eqb (i .pc) start) g (record { stack = k; jump = no-jump-there })
+      ends-after halts l k g = record { stack = k; jump = no-jump-there }
+      ends-after plain l k g = g refl
+
+    module _ (code : List ℕ) (supply : ℕ → ℕ → ℕ) (start : ℕ) (P : Ins → Stack → List ℕ → Type 0)
+        (step : (i : Ins) (s : Stack) (st : List ℕ) → H s st → P i s st → Deep i s st × H (act code i (does (i .op)) s) (yields supply i st)) where
+      pub ends-runs : (is : List Ins) (s : Stack) (st : List ℕ) → H s st → Throughout code supply start P is s st
+          → Ends (runs code start is s) (executes supply start is st)
+      ends-runs [] s st h p = record { stack = h; jump = no-jump-there }
+      ends-runs (i ∷ is) s st h p =
+          let k = step i s st h (p .0) in
+          let e = last-does start i in
+          rw (e, jumping-does (i .op))
+          (ends-after code start i h (does (i .op)) (rw (takes-row (i .op)) (k .0)) (k .1) (λ q. ends-runs is _ _ (k .1) (p .1 (e ∙ q))))
+
+module _ (code : List ℕ) (supply : ℕ → ℕ → ℕ) (start : ℕ) (P Q : Ins → Stack → List ℕ → Type 0) where
+  throughout-both : (is : List Ins) (s : Stack) (st : List ℕ) → Throughout code supply start P is s st → Throughout code supply start Q is s st
+      → Throughout code supply start (λ i s st. P i s st × Q i s st) is s st
+  throughout-both [] s st p q = tt
+  throughout-both (i ∷ is) s st p q = ((p .0, q .0), λ off. throughout-both is _ _ (p .1 off) (q .1 off))
+
+faithful-runs : (ws code : List ℕ) (supply : ℕ → ℕ → ℕ) (start : ℕ) (is : List Ins) (s : Stack) (st : List ℕ) → Holds ws s st
+    → Throughout code supply start Deep is s st → Throughout code supply start Masked is s st → Faithful ws (runs code start is s) (executes supply start is st)
+faithful-runs ws code supply start is s st h d m =
+    let e = ends-runs (Holds ws) (Jump ws) no-jump (λ s st h l. jumps-to (h .truth .at 0 l)) code supply start (λ i s st. Deep i s st × Masked i s st)
+    (λ i s st h p. (p .0, holds-act code supply i h (p .0) (p .1))) is s st h (throughout-both code supply start Deep Masked is s st d m) in
+    record { stack = e .stack; jump = e .jump }
 
 -- ---- trimming
 

@@ -57,16 +57,23 @@ pub data Ordered (code : List ℕ) : ℕ → List Block → Type 0 where
 
 -- ---- the cutting
 
--- what an instruction is to the cutting, case by case
-by-cut : (F : Cut → Type 0) (b : ℕ) → (b ≡ 0x5B → F JUMPDEST) → (b ≡ 0x57 → F JUMPI) → F JUMP → ((success : Bool) → F (ENDS success)) → F OTHER → F UNKNOWN
-    → F (cut b)
-by-cut F b dest jumpi jumps ends other unknown =
+or-off : (a b : Bool) → a || b ≡ false → (a ≡ false) × (b ≡ false)
+or-off true b e = (cc, cc)
+or-off false b e = (refl, e)
+
+-- what an instruction is to the cutting, case by case, and what its byte is then
+pub by-cut : (F : Cut → Type 0) (b : ℕ) → (b ≡ 0x5B → F JUMPDEST) → (b ≡ 0x57 → F JUMPI) → (b ≡ 0x56 → F JUMP) → ((success : Bool) → F (ENDS success))
+    → (closing b ≡ false → eqb b 0x5B ≡ false → F OTHER) → F UNKNOWN → F (cut b)
+unfolding closing
+by-cut F b dest branch jumps ends other unknown =
     both F (eqb b 0x5B) (λ e. dest (eqb-true _ _ e))
-    (λ _. both F (eqb b 0x57) (λ e. jumpi (eqb-true _ _ e))
-    (λ _. both F (eqb b 0x56) (λ _. jumps)
-    (λ _. both F (eqb b 0x00 || eqb b 0xF3 || eqb b 0xFF) (λ _. ends true)
-    (λ _. both F (eqb b 0xFD || eqb b 0xFE) (λ _. ends false)
-    (λ _. both F (row b .known) (λ _. other) (λ _. unknown))))))
+    (λ a. both F (eqb b 0x57) (λ e. branch (eqb-true _ _ e))
+    (λ c. both F (eqb b 0x56) (λ e. jumps (eqb-true _ _ e))
+    (λ d. both F (eqb b 0x00 || eqb b 0xF3 || eqb b 0xFF) (λ _. ends true)
+    (λ f. both F (eqb b 0xFD || eqb b 0xFE) (λ _. ends false)
+    (λ g. both F (row b .known)
+    (λ _. let h = or-off (eqb b 0x00 || eqb b 0xF3) _ f in let k = or-off (eqb b 0x00) _ (h .0) in let l = or-off (eqb b 0xFD) _ g in
+    other (rw (c, d, k .0, k .1, h .1, l .0, l .1)) a) (λ _. unknown))))))
 
 jumpi-alone : argument 0x57 ≡ 0
 unfolding if
@@ -298,9 +305,9 @@ module _ (code : List ℕ) where
           (λ at. rest (opened id start) (goes-on o (s .known) (s .closes) (passed-start start i (s .closes) (sym (eqb-true _ _ at)))))
           (λ ne. ends-at-jumpdest e (eqb-false _ _ ne)))
           (λ e s. ends (s .known) (s .closes) (ordered-from (omega arith) (rest (opened (i .pc + 1) (i .pc + 1)) (past e))))
-          (λ s. ends (s .known) (s .closes) (ordered-from ahead (rest waiting tt)))
+          (λ _ s. ends (s .known) (s .closes) (ordered-from ahead (rest waiting tt)))
           (λ success s. ends (s .known) (s .closes) (ordered-from ahead (rest waiting tt)))
-          (λ s. rest (opened id start) (goes-on o (s .known) (s .closes) (rw (s .closes, s .lands))))
+          (λ _ _ s. rest (opened id start) (goes-on o (s .known) (s .closes) (rw (s .closes, s .lands))))
           (λ s. both (Ordered code start) (eqb start 0)
           (λ z. closed o prev _ (omega (arith, eqb-true)) inside (is-short (short-zero (s .known) (eqb-true _ _ z)) refl) no-more)
           (λ _. both (Ordered code start) (eqb start (i .pc)) (λ _. ordered-from (omega (arith, o .low)) (rest waiting tt))
@@ -418,7 +425,7 @@ zero-kept [] id prev push = both (λ (bs : List Block). mem 0 (starts bs) ≡ tr
 zero-kept (i ∷ is) id prev push =
     let on = zero-kept is id (i .pc) (pushed i) in
     by-cut (λ (c : Cut). mem 0 (starts (closes id 0 prev push (i .pc) (λ m. cuts is m (i .pc) (pushed i)) c)) ≡ true) (i .op)
-    (λ _. both (λ (bs : List Block). mem 0 (starts bs) ≡ true) (eqb 0 (i .pc)) (λ _. on) (λ _. refl)) (λ _. refl) refl (λ _. refl) on refl
+    (λ _. both (λ (bs : List Block). mem 0 (starts bs) ≡ true) (eqb 0 (i .pc)) (λ _. on) (λ _. refl)) (λ _. refl) (λ _. refl) (λ _. refl) (λ _ _. on) refl
 
 pub starts-checked : (code : List ℕ) (bs : List Block) → starts (check-all code bs) ≡ starts bs
 starts-checked code all = go all

@@ -1,7 +1,7 @@
 -- Document 01, "What changes shape": "panic! and assert!: shown never to occur". Here `exec` and `real_exec` of state.rs, lines 123 to 259, over a list with
 -- the top first; `opi` is the row. A panic, or an assert, expect or index that fails, is none; sums of places are exact. From the stored form of any stack none
 -- occurs, and what they leave and return is what `runs` and `trim` give. Assumes nothing.
-use Prim.Native.Nat.{ℕ, zero, suc, _+_, _-_, _≤_}
+use Prim.Native.Nat.{ℕ, zero, suc, _+_, _-_, _<_, _≤_}
 use native.Mathlib.Omega.{arith}
 use native.Mathlib.Nat.{add-zero, suc-add, add-suc, le-refl}
 use native.Mathlib.Numerals.{add-one}
@@ -11,7 +11,7 @@ use mathlib.Core.Option.{Option, none, some}
 use mathlib.Core.List.{List, [], _∷_, _++_, append-assoc, reverse, reverse-cons, reverse-append, reverse-reverse}
 use lib.Dec.{eqb, leb, ltb}
 use lib.ListN.{length, take, drop, set, replicate, getElem?, length-append, length-reverse}
-use lib.Seq.{drop-append-le, drop-drop}
+use lib.Seq.{drop-append-le, drop-drop, set-split}
 use borrow.Author.Tests.{eqb-true, eqb-false, eq-eqb, ne-eqb, leb-true, le-leb, ltb-false}
 use Rattle.spec.specs.Lists.{if, within}
 use Rattle.spec.specs.Opcodes.{argument, row}
@@ -23,7 +23,6 @@ use Rattle.laws.proofs.Members.{In, and-both, and-true}
 use Rattle.theorems.proofs.Walking.{Stands, Walked, stops, steps, walks-from}
 use Rattle.theorems.proofs.Cutting.{block-afresh}
 use Rattle.theorems.proofs.Counts.{takes, takes-row}
-use Rattle.theorems.proofs.Symbols.{changed}
 use Rattle.theorems.proofs.Stored.{bottom, stored, stored-cells, stored-bottom, from-depth}
 use Rattle.theorems.proofs.Trimming.{Same, trim-same, same-act, identity, run-any-depth}
 
@@ -220,6 +219,12 @@ popped-twice s k h =
 
 traded-stored : (i : Ins) (s : Stack) → row (i .op) .taken ≤ length (s .above) → traded i (stored s) ≡ stored (trade i s)
 traded-stored i s h = rw (drop-stored s (row (i .op) .taken) h) (sym (append-assoc (replicate (row (i .op) .given) (other (i .pc))) _ _))
+
+-- a list with a at the top and b at the place n + 1: those two, and what lies between and below
+changed : {A : Type 0} (n : ℕ) (xs : List A) (a b : A) → suc n < length xs
+    → set (set xs 0 a) (suc n) b ≡ (a ∷ take n (drop 1 xs) ++ (b ∷ [])) ++ drop (suc (suc n)) xs
+changed n [] a b l = absurd (omega arith)
+changed n (x ∷ xs) a b l = let h : n < length xs = omega arith in rw (set-split xs n b, append-assoc)
 
 swapped-stored : (n : ℕ) (s : Stack) → suc (suc n) ≤ length (s .above) → set (set (stored s) 0 (read s (suc n))) (suc n) (read s 0) ≡ stored (swap n s)
 swapped-stored n s h =

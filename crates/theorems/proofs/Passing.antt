@@ -1,20 +1,21 @@
 -- What a search names lies within the code: the starts and paths of its records, their destinations and states. Assumes nothing.
 use Prim.Native.Nat.{ℕ, _<_}
 use native.Mathlib.Omega.{arith}
-use mathlib.Core.Path.{_≡_, subst}
+use mathlib.Core.Path.{_≡_, sym, subst, _∙_}
 use mathlib.Core.Logic.{_⊎_, inl, inr}
 use mathlib.Core.List.{List, [], _∷_, _++_}
-use mathlib.Core.Option.{Option, none, some}
+use mathlib.Core.Option.{some}
 use lib.ListN.{length, length-append}
 use Rattle.spec.specs.Walk.{instructions}
-use Rattle.spec.specs.Blocks.{Kind, terminate, jump, jumpi, dynamic-jump, dynamic-jumpi, Block, blocks}
-use Rattle.spec.specs.Stacks.{Sym, before, constant, jumpdest, other, Stack, read, run, compose}
-use Rattle.spec.specs.Search.{Node, node, Taker, taker, takes, sides, Parent, parent, direct, Found, nowhere, found, Rec, dest, leads, found-parents, Level, search}
+use Rattle.spec.specs.Blocks.{Block, blocks}
+use Rattle.spec.specs.Stacks.{before, jumpdest, Stack, read, run, compose}
+use Rattle.spec.specs.Search.{Node, node, sides, Parent, parent, direct, Found, nowhere, found, Rec, dest, leads, found-parents, Level, search}
 use Rattle.spec.specs.Answer.{prepared}
 use Rattle.laws.proofs.Members.{In, here, in-only, in-cases, in-map, in-gather}
 use Rattle.theorems.proofs.Each.{Each, each-map, each-in}
 use Rattle.theorems.proofs.Cutting.{made}
 use Rattle.theorems.proofs.Records.{Stored, Opens, first-level, deeper-level, Recorded, arrives, is-lost, too-heavy, search-history}
+use Rattle.theorems.proofs.Replay.{turned}
 use Rattle.theorems.proofs.Landing.{Sound, run-ends, lands-read, compose-sound}
 use Rattle.theorems.proofs.Sides.{Within, node-within}
 
@@ -86,20 +87,6 @@ leads-good path nowhere a k i = elim i [ ]
 leads-good path (found t s) a k i = rw (in-only i) (record { along = a; state = k })
 
 module _ (n : ℕ) (ns : List Node) (inside : (x : Node) → In x ns → Inner n x) where
-  taker-good : (x : Node) → Inner n x → (g : Option Sym) {k : Taker} → In k (taker x g) → Good n (k .start ∷ []) (k .first)
-  taker-good x h none i = elim i [ ]
-  taker-good x h (some (before p)) i = rw (in-only i) (good-one (h .start) (h .stack))
-  taker-good x h (some (constant v)) i = elim i [ ]
-  taker-good x h (some (jumpdest v)) i = elim i [ ]
-  taker-good x h (some (other pc)) i = elim i [ ]
-
-  takes-good : (x : Node) → Inner n x → (c : Kind) {k : Taker} → In k (takes x c) → Good n (k .start ∷ []) (k .first)
-  takes-good x h (terminate success) i = elim i [ ]
-  takes-good x h (jump u) i = elim i [ ]
-  takes-good x h (jumpi u f) i = elim i [ ]
-  takes-good x h dynamic-jump i = taker-good x h (x .own .goes) i
-  takes-good x h (dynamic-jumpi f) i = taker-good x h (x .own .goes) i
-
   direct-good : {p : Parent} → In p (direct ns) → Good n (p .path) (p .stack)
   direct-good i =
       let g = in-gather _ ns i in
@@ -120,8 +107,9 @@ module _ (n : ℕ) (ns : List Node) (inside : (x : Node) → In x ns → Inner n
 
     opens-good : {start w : ℕ} {l : Level} → Opens ns reached recs start w l → (start < n) × Good n (l .path) (l .state)
     opens-good (first-level {k} i e h) =
-        let g = in-gather (λ (x : Node). takes x (x .block .kind)) ns i in
-        let t = subst (λ (b : ℕ). Good n (b ∷ []) (k .first)) e (takes-good (g .0) (inside (g .0) (g .1)) (g .0 .block .kind) (g .2)) in
+        let g = turned i in
+        let h = inside (g .0) (g .1) in
+        let t = good-one (subst (λ (b : ℕ). b < n) (sym (g .2 .start) ∙ e) (h .start)) (subst (Sound n) (sym (g .2 .first)) (h .stack)) in
         (t .along .within _ here, t)
     opens-good (deeper-level o w h e) = let g = opens-good o in (g .0, good-both (g .1) (stored-good (h .stored)))
 

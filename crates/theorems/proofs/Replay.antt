@@ -2,8 +2,10 @@
 -- from any identity depth trims to the same stack, and resolve_with_parent is associative in its stored form." From them: what the Rust replays of a
 -- path is the state that is stored for it. Assumes nothing.
 use Prim.Native.Nat.{ℕ}
+use native.Mathlib.Omega.{arith}
 use mathlib.Core.Path.{_≡_, refl, sym, ap, subst, _∙_}
 use mathlib.Core.Logic.{_⊎_, inl, inr}
+use mathlib.Core.Bool.{false}
 use mathlib.Core.Option.{Option, none, some}
 use mathlib.Core.List.{List, [], _∷_, _++_}
 use lib.Dec.{ltb}
@@ -18,6 +20,34 @@ use Rattle.theorems.proofs.Trimming.{identity, run-any-depth}
 use Rattle.laws.proofs.Members.{In, here, there, in-only, in-cases, in-gather, in-map}
 use Rattle.theorems.proofs.Each.{Each, each-map, each-in}
 use Rattle.theorems.proofs.Records.{Stored, Opens, first-level, deeper-level, Recorded, arrives, is-lost, too-heavy, Came, search-history}
+
+-- ---- the blocks that take turns
+
+-- a taker's block: its own stack, and the symbol that its jump takes; it is no "Terminate false"
+pub record Takes (n : Node) (k : Taker) : Type 0 where
+  pub start : k .start ≡ n .block .start
+  pub first : k .first ≡ n .own .stack
+  pub goes : n .own .goes ≡ some (before (k .position))
+  pub leads-on : ¬ (n .block .kind ≡ terminate false)
+
+taker-is : (n : Node) → ¬ (n .block .kind ≡ terminate false) → (g : Option Sym) → n .own .goes ≡ g → {k : Taker} → In k (taker n g) → Takes n k
+taker-is n l none e i = elim i [ ]
+taker-is n l (some (before p)) e here = record { start = refl; first = refl; goes = e; leads-on = l }
+taker-is n l (some (before p)) e (there i) = elim i [ ]
+taker-is n l (some (constant v)) e i = elim i [ ]
+taker-is n l (some (jumpdest v)) e i = elim i [ ]
+taker-is n l (some (other pc)) e i = elim i [ ]
+
+kind-takes : (n : Node) (x : Kind) → n .block .kind ≡ x → {k : Taker} → In k (takes n x) → Takes n k
+kind-takes n (terminate success) e i = elim i [ ]
+kind-takes n (jump t) e i = elim i [ ]
+kind-takes n (jumpi t f) e i = elim i [ ]
+kind-takes n dynamic-jump e i = taker-is n (λ q. let z : _≡_ {A = ℕ} 0 1 = cc in omega arith) (n .own .goes) refl i
+kind-takes n (dynamic-jumpi f) e i = taker-is n (λ q. let z : _≡_ {A = ℕ} 0 1 = cc in omega arith) (n .own .goes) refl i
+
+-- every taker is a block's
+pub turned : {ns : List Node} {k : Taker} → In k (takers ns) → (n : Node) × In n ns × Takes n k
+turned {ns} i = let g = in-gather (λ (n : Node). takes n (n .block .kind)) ns i in (g .0, g .1, kind-takes (g .0) (g .0 .block .kind) refl (g .2))
 
 module _ (code : List ℕ) (is : List Ins) where
   -- a block's own stack
@@ -102,7 +132,7 @@ module _ (code : List ℕ) (is : List Ins) where
     ns = nodes code is bs
 
     -- a node has its block's own run
-    own-run : {n : Node} → In n ns → n .own ≡ run code is (n .block .start)
+    pub own-run : {n : Node} → In n ns → n .own ≡ run code is (n .block .start)
     own-run i = let g = in-map (λ (b : Block). node b (run code is (b .start))) bs i in rw (g .2)
 
     direct-replays : {p : Parent} → In p (direct ns) → Replays (p .path) (p .stack)
@@ -111,30 +141,10 @@ module _ (code : List ℕ) (is : List Ins) where
         let m = in-map (λ (t : ℕ). parent t (g .0 .block .start ∷ []) (g .0 .own .stack)) (sides (g .0 .block .kind)) (g .2) in
         one-block (g .0 .block .start) (ap (λ (q : Parent). q .path) (m .2)) (ap (λ (q : Parent). q .stack) (m .2) ∙ ap (λ (r : Ran). r .stack) (own-run (g .1)))
 
-    record Takes (n : Node) (k : Taker) : Type 0 where
-      start : k .start ≡ n .block .start
-      first : k .first ≡ n .own .stack
-
-    taker-takes : (n : Node) (g : Option Sym) {k : Taker} → In k (taker n g) → Takes n k
-    taker-takes n none i = elim i [ ]
-    taker-takes n (some (before p)) here = record { start = refl; first = refl }
-    taker-takes n (some (before p)) (there i) = elim i [ ]
-    taker-takes n (some (constant v)) i = elim i [ ]
-    taker-takes n (some (jumpdest v)) i = elim i [ ]
-    taker-takes n (some (other pc)) i = elim i [ ]
-
-    kind-takes : (n : Node) (x : Kind) {k : Taker} → In k (takes n x) → Takes n k
-    kind-takes n (terminate success) i = elim i [ ]
-    kind-takes n (jump t) i = elim i [ ]
-    kind-takes n (jumpi t f) i = elim i [ ]
-    kind-takes n dynamic-jump i = taker-takes n (n .own .goes) i
-    kind-takes n (dynamic-jumpi f) i = taker-takes n (n .own .goes) i
-
     taker-replays : {k : Taker} → In k (takers ns) → Replays (k .start ∷ []) (k .first)
     taker-replays {k} i =
-        let g = in-gather _ ns i in
-        let t = kind-takes (g .0) (g .0 .block .kind) (g .2) in
-        one-block (g .0 .block .start) (ap (λ (b : ℕ). b ∷ []) (t .start)) (t .first ∙ ap (λ (r : Ran). r .stack) (own-run (g .1)))
+        let g = turned i in
+        one-block (g .0 .block .start) (ap (λ (b : ℕ). b ∷ []) (g .2 .start)) (g .2 .first ∙ ap (λ (r : Ran). r .stack) (own-run (g .1)))
 
     -- a record's path has a first block, and its kept state is what the path's blocks compose to
     pub data ReplaysRec : Rec → Type 0 where

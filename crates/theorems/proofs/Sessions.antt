@@ -16,7 +16,7 @@ use Rattle.spec.specs.Answer.{Answer, numberOf, written, prepared, searched, ma
 use Rattle.spec.specs.Program.{lends, decoded, program}
 
 -- n bytes, as the hexadecimal number that they spell
-abbrev hex : ℕ → ℕ → List ℕ
+abbrev pub hex : ℕ → ℕ → List ℕ
 hex zero v = []
 hex (suc n) v = ((v / 256 ^ n) % 256) ∷ hex n v
 

@@ -7,87 +7,34 @@ use native.Mathlib.Nat.{mod-eq-of-lt, le-trans}
 use mathlib.Core.Path.{_≡_, refl, sym, ap, _∙_}
 use mathlib.Core.Bool.{true}
 use mathlib.Core.Option.{Option, none, some}
-use mathlib.Core.List.{List, [], _∷_, _++_, append-assoc}
+use mathlib.Core.List.{List, _++_}
 use lib.Bits.{bitAnd, and-mask, and-comm}
 use lib.Dec.{eqb, ltb}
-use lib.ListN.{length, getD, take, drop, set, replicate, length-append, length-drop, length-replicate, length-set}
-use lib.Seq.{drop-cons, getD-drop, set-split}
+use lib.ListN.{length, getD, drop, length-append, length-drop, length-replicate, length-set}
 use borrow.Author.Tests.{eqb-true, ltb-true}
 use Rattle.spec.specs.Opcodes.{row}
 use Rattle.spec.specs.Walk.{Ins}
-use Rattle.spec.specs.Stacks.{Sym, before, constant, jumpdest, other, Stack, read, pops, push, pushes, span, from-value, known-value, mask, is, anded, summed, swap, trade, Does, pushes-value, pushes-pc, dups, swaps, ands, adds, jumps, jumpis, lands, halts, plain, does, act}
-use Rattle.spec.specs.Meaning.{supplied, exchanged, yields, Means, Tells, Holds, Deep, Small, Masked}
+use Rattle.spec.specs.Stacks.{Sym, before, constant, jumpdest, other, Stack, read, span, from-value, known-value, mask, is, anded, summed, Does, pushes-value, pushes-pc, dups, swaps, ands, adds, jumps, jumpis, lands, halts, plain, does, act}
+use Rattle.spec.specs.Meaning.{supplied, yields, Means, Tells, Holds, Deep, Small, Masked}
 use Rattle.laws.proofs.Branch.{both}
 use Rattle.theorems.proofs.Counts.{takes, gives, takes-row, gives-row, does-to, told, yields-does, ands?, anding-does}
-use Rattle.theorems.proofs.Composing.{reads-drop}
+use Rattle.theorems.proofs.Beside.{Follows, beside-act}
 
 -- ---- words that AND and ADD make
 
-is-known : (n : ℕ) (o : Option ℕ) → is n o ≡ true → o ≡ some n
+pub is-known : (n : ℕ) (o : Option ℕ) → is n o ≡ true → o ≡ some n
 is-known n none e = cc
 is-known n (some m) e = ap some (sym (eqb-true n m e))
 
-masked : (w : ℕ) → w < 2 ^ 32 → bitAnd w mask ≡ w
+pub masked : (w : ℕ) → w < 2 ^ 32 → bitAnd w mask ≡ w
 masked w l = and-mask w 32 ∙ mod-eq-of-lt l
 
 word-wide : 2 ^ 64 ≤ 2 ^ 256
 unfolding IsLe
 word-wide = le-by-compare (2 ^ 64) (2 ^ 256) tt
 
--- ---- two cells that change places
-
--- a list with a at the top and b at the place n + 1: those two, and what lies between and below
-pub changed : {A : Type 0} (n : ℕ) (xs : List A) (a b : A) → suc n < length xs
-    → set (set xs 0 a) (suc n) b ≡ (a ∷ take n (drop 1 xs) ++ (b ∷ [])) ++ drop (suc (suc n)) xs
-changed n [] a b l = absurd (omega arith)
-changed n (x ∷ xs) a b l = let h : n < length xs = omega arith in rw (set-split xs n b, append-assoc)
-
 -- ws stood on entry
 module _ (ws : List ℕ) where
-  -- ---- words put on and taken off
-
-  tells-push : {x : Sym} {w : ℕ} {s : Stack} {st : List ℕ} → Means ws x w → Tells ws s st → Tells ws (push x s) (w ∷ st)
-  unfolding read
-  tells-push m h = record { at = elim [ zero ↦ λ _. m | suc n ↦ λ l. h .at n (omega arith) ] }
-
-  tells-pops : (k : ℕ) {s : Stack} {st : List ℕ} → Tells ws s st → Tells ws (pops k s) (drop k st)
-  unfolding read
-  tells-pops k {s} {st} h =
-      record { at = λ n l. rw (reads-drop (s .above) (s .base) k n, getD-drop k st n 0) (h .at (k + n) (omega (arith, length-drop k st))) }
-
-  -- symbols and words side by side
-  data Side : List Sym → List ℕ → Type 0 where
-    none-left : Side [] []
-    one-more : {x : Sym} {w : ℕ} {xs : List Sym} {vs : List ℕ} → Means ws x w → Side xs vs → Side (x ∷ xs) (w ∷ vs)
-
-  tells-pushes : {xs : List Sym} {vs : List ℕ} → Side xs vs → {s : Stack} {st : List ℕ} → Tells ws s st → Tells ws (pushes xs s) (vs ++ st)
-  tells-pushes none-left h = h
-  tells-pushes (one-more m r) h = tells-push m (tells-pushes r h)
-
-  side-span : {s : Stack} {st : List ℕ} → Tells ws s st → (i n : ℕ) → i + n ≤ length st → Side (span s i n) (take n (drop i st))
-  side-span h i zero l = none-left
-  side-span {st} h i (suc n) l =
-      let here : i < length st = omega arith in
-      rw (drop-cons st i 0) (one-more (h .at i here) (side-span h (suc i) n (omega arith)))
-
-  side-supplied : (pc : ℕ) (f : ℕ → ℕ) (n : ℕ) → Side (replicate n (other pc)) (supplied f n)
-  side-supplied pc f zero = none-left
-  side-supplied pc f (suc n) = one-more tt (side-supplied pc f n)
-
-  side-append : {xs ys : List Sym} {vs us : List ℕ} → Side xs vs → Side ys us → Side (xs ++ ys) (vs ++ us)
-  side-append none-left k = k
-  side-append (one-more m r) k = one-more m (side-append r k)
-
-  tells-trade : (f : ℕ → ℕ) (i : Ins) {s : Stack} {st : List ℕ} → Tells ws s st
-      → Tells ws (trade i s) (supplied f (row (i .op) .given) ++ drop (row (i .op) .taken) st)
-  tells-trade f i h = tells-pushes (side-supplied (i .pc) f (row (i .op) .given)) (tells-pops (row (i .op) .taken) h)
-
-  tells-swap : (n : ℕ) {s : Stack} {st : List ℕ} → suc n < length st → Tells ws s st → Tells ws (swap n s) (exchanged (suc n) st)
-  tells-swap n {st} l h =
-      let between = side-span h 1 n (omega arith) in
-      let top = one-more (h .at 0 (omega arith)) none-left in
-      rw (changed n st (getD st (suc n) 0) (getD st 0 0) l) (tells-pushes (one-more (h .at (suc n) l) (side-append between top)) (tells-pops (suc (suc n)) h))
-
   -- ---- what is known of a word
 
   means-from-value : (code : List ℕ) (v : ℕ) → Means ws (from-value code v) v
@@ -121,22 +68,17 @@ module _ (ws : List ℕ) where
 
   -- ---- the instruction, by what it does
 
+  follows : (code : List ℕ) → Follows (Means ws) code
+  follows code = record {
+    unsaid = λ pc w. tt;
+    number = means-from-value code;
+    sum = λ pc a b u w m k. means-summed code pc a b u w m k (known-value a) (known-value b) refl refl;
+  }
+
   tells-act : (code : List ℕ) (f : ℕ → ℕ) (i : Ins) (d : Does) {s : Stack} {st : List ℕ} → Tells ws s st
       → takes (i .op) d ≤ length st → (ands? d ≡ true → Small s st) → Tells ws (act code i d s) (does-to f i d st)
-  unfolding act does-to
-  tells-act code f i pushes-value h l o = tells-push (means-from-value code (i .arg)) h
-  tells-act code f i pushes-pc h l o = tells-push (means-from-value code (i .pc)) h
-  tells-act code f i (dups n) h l o = tells-push (h .at n l) h
-  tells-act code f i (swaps n) h l o = tells-swap n l h
-  tells-act code f i ands {s} {st} h l o = tells-push (means-anded (i .pc) s st (o refl) (h .at 0 (omega arith)) (h .at 1 l)) (tells-pops 2 h)
-  tells-act code f i adds {s} {st} h l o =
-      tells-push (means-summed code (i .pc) (read s 0) (read s 1) (getD st 0 0) (getD st 1 0) (h .at 0 (omega arith)) (h .at 1 l) _ _ refl refl)
-      (tells-pops 2 h)
-  tells-act code f i jumps h l o = tells-pops 1 h
-  tells-act code f i jumpis h l o = tells-pops 2 h
-  tells-act code f i lands h l o = h
-  tells-act code f i halts h l o = tells-trade f i h
-  tells-act code f i plain h l o = tells-trade f i h
+  tells-act code f i d {s} {st} h l o =
+      record { at = beside-act (Means ws) code (follows code) f i d (record { at = h .at }) l (λ e m k. means-anded (i .pc) s st (o e) m k) .at }
 
 -- ---- the number of words
 
