@@ -1,7 +1,7 @@
 -- The laws of the rows: what they depend on, where they are split, which addresses start a block, and which block it is. Assumes nothing.
 use mathlib.Core.Path.{_≡_, refl, sym, ap, ap₂, _∙_}
 use mathlib.Core.Logic.{_⊎_, inl, inr}
-use mathlib.Core.Bool.{true, false, not, _||_, or-assoc, or-false}
+use mathlib.Core.Bool.{true, false, not, _||_, or-false}
 use mathlib.Core.List.{List, [], _∷_, _++_, append-assoc, map-append}
 use Prim.Native.Nat.{ℕ, zero, suc, _+_, _-_, _≤_, _<_}
 use native.Mathlib.Nat.{add-zero, zero-add, suc-add}
@@ -16,7 +16,7 @@ use Rattle.lent.specs.Bytes.{numAt}
 use Rattle.lent.proofs.Parts.{part-prefix, part-suffix}
 use Rattle.lent.proofs.Numbers.{num-within}
 use Rattle.laws.proofs.Branch.{both, if-true, if-false}
-use Rattle.laws.proofs.Members.{In, here, in-only, in-right, in-cases}
+use Rattle.laws.proofs.Members.{In, here, mem-append, in-only, in-right, in-cases}
 use Rattle.layout.specs.Parts.{ROW, rowPlace, rowsEnd, SameRows}
 use Rattle.layout.specs.Rows.{END, TO, OTHER, tagAt}
 use Rattle.initial.specs.Rows.{blockAt, rowBlocks, blocksFrom, blocksAt}
@@ -111,10 +111,6 @@ row-changed w v n a h b e =
     ∙ rw (from-prefix w v 0 a (rowPlace a) b (omega arith), from-suffix w v (suc a) (n - a) (rowPlace (a + 1)) e (omega arith))
 
 -- ---- which addresses start a block
-
-mem-append : (x : ℕ) (xs ys : List ℕ) → mem x (xs ++ ys) ≡ (mem x xs || mem x ys)
-mem-append x [] ys = refl
-mem-append x (y ∷ xs) ys = rw (mem-append x xs ys) (sym (or-assoc (eqb x y) (mem x xs) (mem x ys)))
 
 module _ (w : List ℕ) (x : ℕ) where
   mem-one : (a m : ℕ) → mem x (starts (blocksFrom w a (suc m))) ≡ (mem x (starts (rowBlocks w a)) || mem x (starts (blocksFrom w (suc a) m)))

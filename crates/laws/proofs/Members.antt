@@ -3,7 +3,7 @@ use Prim.Native.Nat.{ℕ, _≤_}
 use native.Mathlib.Omega.{arith}
 use mathlib.Core.Path.{_≡_, refl, sym, ap, subst}
 use mathlib.Core.Logic.{_⊎_, inl, inr}
-use mathlib.Core.Bool.{Bool, true, false, _&&_, _||_, true≢false}
+use mathlib.Core.Bool.{Bool, true, false, _&&_, _||_, true≢false, or-assoc}
 use mathlib.Core.List.{List, [], _∷_, _++_, map, append-assoc}
 use lib.Dec.{eqb}
 use lib.ListN.{length}
@@ -28,6 +28,12 @@ or-right false b e = e
 pub or-cases : (a b : Bool) → a || b ≡ true → (a ≡ true) ⊎ (b ≡ true)
 or-cases true b e = inl refl
 or-cases false b e = inr e
+
+-- two tests that imply each other
+pub same-test : {a b : Bool} → (a ≡ true → b ≡ true) → (b ≡ true → a ≡ true) → a ≡ b
+same-test {a = true} {b} p q = sym (p refl)
+same-test {a = false} {b = true} p q = q refl
+same-test {a = false} {b = false} p q = refl
 
 -- ---- numbers that a test finds
 
@@ -82,6 +88,10 @@ module _ {A : Type 0} {x : A} where
       next (inl q) = inl (there q)
       next (inr q) = inr q
 
+pub mem-append : (y : ℕ) (xs ys : List ℕ) → mem y (xs ++ ys) ≡ mem y xs || mem y ys
+mem-append y [] ys = refl
+mem-append y (x ∷ xs) ys = rw (mem-append y xs ys) (sym (or-assoc (eqb y x) (mem y xs) (mem y ys)))
+
 pub mem-left : (a : ℕ) (xs ys : List ℕ) → mem a xs ≡ true → mem a (xs ++ ys) ≡ true
 mem-left a xs ys h = in-mem a (in-left (mem-in a xs h) ys)
 
@@ -118,6 +128,10 @@ module _ {A B : Type 0} (f : A → List B) where
       split : In x (f a) ⊎ In x (gather f xs) → (In x (gather f xs) → (b : A) × In b xs × In x (f b)) → (b : A) × In b (a ∷ xs) × In x (f b)
       split (inl q) ih = (a, here, q)
       split (inr q) ih = let g = ih q in (g .0, there (g .1), g .2)
+
+  pub gather-in : {a : A} {b : B} {xs : List A} → In a xs → In b (f a) → In b (gather f xs)
+  gather-in (here {xs}) j = in-left j (gather f xs)
+  gather-in (there {y} i) j = in-right (f y) (gather-in i j)
 
 pub in-map : {A B : Type 0} {y : B} (f : A → B) (xs : List A) → In y (map f xs) → (a : A) × In a xs × (y ≡ f a)
 in-map f [] i = elim i [ ]

@@ -2,12 +2,12 @@
 use mathlib.Core.Path.{_≡_, refl, sym, _∙_}
 use mathlib.Core.Logic.{_⊎_, inl, inr, ⊎-elim}
 use mathlib.Core.Bool.{true}
-use mathlib.Core.List.{List, [], _∷_}
+use mathlib.Core.List.{List, [], _∷_, _++_}
 use Prim.Native.Nat.{ℕ, _-_, _≤_}
 use native.Mathlib.Omega.{arith}
 use Rattle.spec.specs.Lists.{mem}
 use Rattle.spec.specs.Reach.{Edge, edge, closure}
-use Rattle.laws.proofs.Members.{In, in-mem, mem-in}
+use Rattle.laws.proofs.Members.{In, in-mem, mem-in, in-only}
 use Rattle.theorems.proofs.Reached.{Reached, along}
 use Rattle.layout.specs.Fields.{entryAt}
 use Rattle.reachable.specs.Marks.{flagged}
@@ -38,10 +38,10 @@ edge-side {d} w n i o =
 
 -- ---- the loop
 
-pub expand-start : {n a when count : ℕ} {v w : List ℕ} → Expands n v a when → Took n when (a ∷ []) v 0 w count → Spreading (rowEdges w n) n when w w count
+pub expand-start : {n when count : ℕ} {seeds v w : List ℕ} → Expands n v seeds when → Took n when seeds v 0 w count → Spreading (rowEdges w n) n when w w count
 expand-start {n} {v} {w} x t =
     rw (edges-kept v w n (t .kept .rows))
-    (start (x .at .lent) (x .within) (λ d i p q. x .closed .sides (d .place) (d .to) p (edge-side v n i (inl refl))) t)
+    (start (x .lent) (x .within) (λ d i p q. x .closed .sides (d .place) (d .to) p (edge-side v n i (inl refl))) t)
 
 pub expand-turn : {n when count x : ℕ} {w₀ w : List ℕ} → Spreading (rowEdges w₀ n) n when w₀ w count → (count ≡ 0 → ⊥) → x ≡ entryAt w n (count - 1)
     → {w′ : List ℕ} {count′ : ℕ} → Took n when (sidesAt w x) w (count - 1) w′ count′ → Spreading (rowEdges w₀ n) n when w₀ w′ count′
@@ -53,7 +53,7 @@ expand-turn {n} {x} {w₀} {w} s more e t =
 
 -- ---- the end
 
-expand-end : {n a when count : ℕ} {v w₀ w : List ℕ} → Took n when (a ∷ []) v 0 w₀ count → Spreading (rowEdges v n) n when w₀ w 0 → Expanded n v a when w
+expand-end : {n when count : ℕ} {seeds v w₀ w : List ℕ} → Took n when seeds v 0 w₀ count → Spreading (rowEdges v n) n when w₀ w 0 → Expanded n v seeds when w
 expand-end {n} {v} {w} t s = record {
   reached = done-reached t s;
   sets = done-sets t s;
@@ -67,27 +67,28 @@ expand-end {n} {v} {w} t s = record {
     same : (x : ℕ) → x ≤ n → sidesAt w x ≡ sidesAt v x
     same = sides-kept v w n (s .kept .rows ∙ t .kept .rows)
 
-pub expand-done : {n a when count₀ count : ℕ} {v w₀ w : List ℕ} → Took n when (a ∷ []) v 0 w₀ count₀ → Spreading (rowEdges w₀ n) n when w₀ w count → count ≡ 0
-    → Expanded n v a when w
+pub expand-done : {n when count₀ count : ℕ} {seeds v w₀ w : List ℕ} → Took n when seeds v 0 w₀ count₀ → Spreading (rowEdges w₀ n) n when w₀ w count → count ≡ 0
+    → Expanded n v seeds when w
 expand-done {n} {v} {w₀} t s z = expand-end t (rw (z, edges-kept v w₀ n (t .kept .rows)) at s)
 
--- one seed after another: the search's rounds
-pub expand-round : {n a when : ℕ} {w w′ : List ℕ} (seeds : List ℕ) → Expanded n w a when w′ → ((y : ℕ) → mem y (flagged w n) ≡ mem y (closure (rowEdges w n) seeds))
-    → (x : ℕ) → mem x (flagged w′ n) ≡ mem x (closure (rowEdges w n) (a ∷ seeds))
-expand-round {n} {a} {w} seeds e h x = e .reached x ∙ closure-round (rowEdges w n) (a ∷ []) seeds (flagged w n) h x
+-- one batch after another: the search's rounds
+pub expand-round : {n when : ℕ} {w batch w′ : List ℕ} (seeds : List ℕ) → Expanded n w batch when w′ → ((y : ℕ) → mem y (flagged w n) ≡ mem y (closure (rowEdges w n) seeds))
+    → (x : ℕ) → mem x (flagged w′ n) ≡ mem x (closure (rowEdges w n) (batch ++ seeds))
+expand-round {n} {w} {batch} seeds e h x = e .reached x ∙ closure-round (rowEdges w n) batch seeds (flagged w n) h x
 
 -- ---- the search's start
 
 module _ {n : ℕ} {v w : List ℕ} (r : Room n v) (s : SidesWithin v n) (b : Begun n v w) where
-  pub reach-expands : Expands n w 0 1
+  pub reach-expands : Expands n w (0 ∷ []) 1
   reach-expands = record {
-    at = record { lent = record { short = r .short; room = omega (arith, r .room, b .wipes .kept) }; inside = omega arith };
+    lent = record { short = r .short; room = omega (arith, r .room, b .wipes .kept) };
+    inside = λ a h. omega (arith, in-only (mem-in a (0 ∷ []) h));
     small = omega arith;
     within = within-sides (sides-kept v w n (begun-rows b)) s;
     closed = record { sides = λ x t h i. not-both (rw (begun-flagged b) at h) refl };
   }
 
-  pub reach-done : {w′ : List ℕ} → Expanded n w 0 1 w′ → Reaches n v w′
+  pub reach-done : {w′ : List ℕ} → Expanded n w (0 ∷ []) 1 w′ → Reaches n v w′
   reach-done {w′} e = record {
     reached = λ x. e .reached x ∙ rw (edges-kept v w n (begun-rows b), begun-flagged b);
     fresh = sets-fresh (begun-flagged b) (begun-marks b) (begun-flags b) (e .sets);

@@ -8,6 +8,7 @@ pub mod Marks
 pub mod Entering
 pub mod Following
 pub mod Spreading
+pub mod Taking
 pub mod Expanding
 pub mod EdgeRows
 pub mod Chaining

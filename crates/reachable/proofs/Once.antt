@@ -39,9 +39,9 @@ module _ {n : ℕ} {v u : List ℕ} (p : Bytes v) (q : Bytes u) (long : length v
 
 -- ---- the closures
 
-pub one-expanded : {n a when : ℕ} {w v u : List ℕ} → Bytes v → Bytes u → Expanded n w a when v → Expanded n w a when u
+pub one-expanded : {n when : ℕ} {w seeds v u : List ℕ} → Bytes v → Bytes u → Expanded n w seeds when v → Expanded n w seeds when u
     → Outside (listPlace n) (2 * (n + 1)) v u
-one-expanded {n} {a} {when} {w} {v} {u} b d p q =
+one-expanded {n} {when} {w} {seeds} {v} {u} b d p q =
     let same : (x : ℕ) → mem x (flagged v n) ≡ mem x (flagged u n) = λ x. p .reached x ∙ sym (q .reached x) in
     but-worklist b d (p .kept .long ∙ sym (q .kept .long)) (p .kept .rows ∙ sym (q .kept .rows))
     (λ x h. p .sets .marks x h ∙ ap (λ (is : Bool). remark when (mem x (flagged w n)) is (markAt w n x)) (same x) ∙ sym (q .sets .marks x h))

@@ -12,7 +12,8 @@ use Rattle.spec.specs.Blocks.{Block}
 use Rattle.spec.specs.Reach.{Edge, edge}
 use Rattle.spec.specs.Search.{Node, sides, edges}
 use Rattle.laws.proofs.Branch.{if-true, if-false}
-use Rattle.laws.proofs.Members.{In, here, there, in-left, in-right, in-gather, in-map}
+use Rattle.laws.proofs.Members.{In, in-gather, in-map}
+pub use Rattle.laws.proofs.Members.{gather-in, map-in}
 use Rattle.layout.specs.Parts.{rowsEnd, SameRows}
 use Rattle.layout.specs.Rows.{tagAt}
 use Rattle.initial.specs.Rows.{rowBlocks, kindAt, blockAt, blocksAt}
@@ -21,14 +22,6 @@ use Rattle.reachable.specs.Marks.{flagged}
 use Rattle.reachable.specs.Edges.{sidesAt, blockEdges, rowEdges}
 use Rattle.reachable.specs.Contracts.{SidesWithin, Closed}
 use Rattle.reachable.proofs.Flags.{flagged-within}
-
-pub gather-in : {A B : Type 0} (f : A → List B) {a : A} {b : B} {xs : List A} → In a xs → In b (f a) → In b (gather f xs)
-gather-in f (here {xs}) j = in-left j (gather f xs)
-gather-in f (there {y} i) j = in-right (f y) (gather-in f i j)
-
-pub map-in : {A B : Type 0} (f : A → B) {a : A} {xs : List A} → In a xs → In (f a) (map f xs)
-map-in f here = here
-map-in f (there i) = there (map-in f i)
 
 -- ---- one row
 

@@ -9,6 +9,7 @@ use Rattle.spec.specs.Lists.{mem}
 use Rattle.spec.specs.Reach.{Edge, closure}
 use Rattle.laws.proofs.Members.{In, mem-left, in-right, in-mem, mem-in, or-cases}
 use Rattle.theorems.proofs.Reached.{Reached, seed, along, closure-sound, closure-complete}
+pub use Rattle.theorems.proofs.Batches.{reached-from, closure-same, closure-members}
 use Rattle.reachable.proofs.Tests.{same-test, mem-append}
 
 -- more edges reach more
@@ -16,24 +17,9 @@ pub along-more : {es ds : List Edge} {seeds : List ℕ} {x : ℕ} → ((e : Edge
 along-more f (seed h) = seed h
 along-more f (along e i p w) = along e (f e i) (along-more f p) (along-more f w)
 
--- seeds that are reached reach nothing else
-pub reached-from : {es : List Edge} {seeds more : List ℕ} {x : ℕ} → ((y : ℕ) → mem y seeds ≡ true → Reached es more y) → Reached es seeds x → Reached es more x
-reached-from f (seed h) = f _ h
-reached-from f (along e i p w) = along e i (reached-from f p) (reached-from f w)
-
 -- the closure as a test, by the rule
 pub closure-test : (es : List Edge) (seeds : List ℕ) (x : ℕ) {is : Bool} → (is ≡ true) ↔ Reached es seeds x → is ≡ mem x (closure es seeds)
 closure-test es seeds x h = same-test (λ p. closure-complete es seeds x (h .0 p)) (λ p. h .1 (closure-sound es seeds x p))
-
--- seeds of which each is reached from the others' side have one closure
-pub closure-same : (es : List Edge) (seeds more : List ℕ) → ((y : ℕ) → mem y seeds ≡ true → Reached es more y) → ((y : ℕ) → mem y more ≡ true → Reached es seeds y)
-    → (x : ℕ) → mem x (closure es seeds) ≡ mem x (closure es more)
-closure-same es seeds more f g x =
-    closure-test es more x (λ p. reached-from f (closure-sound es seeds x p), λ r. closure-complete es seeds x (reached-from g r))
-
--- only which seeds there are matters
-pub closure-members : (es : List Edge) (seeds more : List ℕ) → ((y : ℕ) → mem y seeds ≡ mem y more) → (x : ℕ) → mem x (closure es seeds) ≡ mem x (closure es more)
-closure-members es seeds more h = closure-same es seeds more (λ y p. seed (sym (h y) ∙ p)) (λ y p. seed (h y ∙ p))
 
 -- edges with the same members have one closure
 pub closure-edges : (es ds : List Edge) (seeds : List ℕ) → ((e : Edge) → In e es → In e ds) → ((e : Edge) → In e ds → In e es)

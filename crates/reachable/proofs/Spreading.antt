@@ -1,8 +1,8 @@
 -- The loop over the worklist, over any edges: its start, a turn, and its end. Assumes nothing.
-use mathlib.Core.Path.{_≡_, refl, _∙_}
+use mathlib.Core.Path.{_≡_, refl, sym, _∙_}
 use mathlib.Core.Logic.{_⊎_}
 use mathlib.Core.Bool.{true}
-use mathlib.Core.List.{List, [], _∷_}
+use mathlib.Core.List.{List, [], _∷_, _++_}
 use Prim.Native.Nat.{ℕ, zero, suc, _+_, _-_, _*_, _≤_, _<_}
 use native.Mathlib.Numerals.{sub-one}
 use native.Mathlib.Omega.{arith}
@@ -16,7 +16,7 @@ use Rattle.layout.specs.Fields.{entryAt}
 use Rattle.reachable.specs.Marks.{flagged, entries}
 use Rattle.reachable.specs.Contracts.{Room, SidesWithin, Kept, Sets, Going, Took}
 use Rattle.reachable.specs.Pruning.{Waits}
-use Rattle.reachable.proofs.Tests.{mem-one}
+use Rattle.reachable.proofs.Tests.{mem-append}
 use Rattle.reachable.proofs.Seeds.{closure-test, closure-members}
 use Rattle.reachable.proofs.Flags.{flagged-within, flagged-few}
 use Rattle.reachable.proofs.Frames.{kept-none, kept-after}
@@ -98,15 +98,15 @@ module _ {es : List Edge} {n when count : ℕ} {w₀ w : List ℕ} (s : Spreadin
 
 -- ---- the end
 
-module _ {es : List Edge} {n a when count : ℕ} {v w₀ w : List ℕ} (t : Took n when (a ∷ []) v 0 w₀ count) (s : Spreading es n when w₀ w 0) where
+module _ {es : List Edge} {n when count : ℕ} {seeds v w₀ w : List ℕ} (t : Took n when seeds v 0 w₀ count) (s : Spreading es n when w₀ w 0) where
   pub all-done : Work es (flagged w₀ n) (flagged w n) []
   unfolding entries
   all-done = s .work
 
-  pub done-reached : (x : ℕ) → mem x (flagged w n) ≡ mem x (closure es (a ∷ flagged v n))
+  pub done-reached : (x : ℕ) → mem x (flagged w n) ≡ mem x (closure es (seeds ++ flagged v n))
   done-reached x =
       closure-test es (flagged w₀ n) x (work-done all-done x)
-      ∙ closure-members es (flagged w₀ n) (a ∷ flagged v n) (λ y. t .more .all y ∙ rw (mem-one y a)) x
+      ∙ closure-members es (flagged w₀ n) (seeds ++ flagged v n) (λ y. t .more .all y ∙ sym (mem-append y seeds (flagged v n))) x
 
   pub done-sets : Sets n when v w
   done-sets = sets-after (more-keeps (t .more)) (s .work .seeded) (t .sets) (s .sets)

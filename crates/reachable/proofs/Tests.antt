@@ -1,31 +1,22 @@
 -- Tests that are equal, and membership as a test. Assumes nothing.
-use mathlib.Core.Path.{_≡_, refl, sym}
+use mathlib.Core.Path.{_≡_, refl}
 use mathlib.Core.Logic.{_⊎_, inl, inr}
-use mathlib.Core.Bool.{Bool, true, false, _||_, or-assoc, or-true, or-false}
-use mathlib.Core.List.{List, [], _∷_, _++_}
+use mathlib.Core.Bool.{Bool, true, false, _||_, or-true, or-false}
+use mathlib.Core.List.{List, [], _∷_}
 use Prim.Native.Nat.{ℕ}
 use native.Mathlib.Omega.{arith}
 use lib.Dec.{eqb}
 use borrow.Author.Tests.{eqb-true}
 use Rattle.spec.specs.Lists.{mem}
+pub use Rattle.laws.proofs.Members.{same-test, mem-append}
 
 pub not-both : {A : Type 0} {b : Bool} → b ≡ true → b ≡ false → A
 not-both p q = let z : _≡_ {A = ℕ} 0 1 = cc in absurd (omega arith)
-
--- two tests that imply each other
-pub same-test : {a b : Bool} → (a ≡ true → b ≡ true) → (b ≡ true → a ≡ true) → a ≡ b
-same-test {a = true} {b} p q = sym (p refl)
-same-test {a = false} {b = true} p q = q refl
-same-test {a = false} {b = false} p q = refl
 
 -- a test, one way or the other
 pub decided : (b : Bool) → (b ≡ true) ⊎ (b ≡ false)
 decided true = inl refl
 decided false = inr refl
-
-pub mem-append : (y : ℕ) (xs ys : List ℕ) → mem y (xs ++ ys) ≡ mem y xs || mem y ys
-mem-append y [] ys = refl
-mem-append y (x ∷ xs) ys = rw (mem-append y xs ys) (sym (or-assoc (eqb y x) (mem y xs) (mem y ys)))
 
 pub mem-one : (y x : ℕ) → mem y (x ∷ []) ≡ eqb y x
 mem-one y x = or-false (eqb y x)

@@ -1,7 +1,7 @@
 -- What each function asks and promises, a record each. Assumes nothing.
 use mathlib.Core.Path.{_≡_}
 use mathlib.Core.Bool.{true, not, _&&_, _||_}
-use mathlib.Core.List.{List, [], _∷_}
+use mathlib.Core.List.{List, [], _∷_, _++_}
 use Prim.Native.Nat.{ℕ, _+_, _≤_, _<_}
 use lib.Dec.{eqb}
 use lib.ListN.{length, replicate}
@@ -89,15 +89,16 @@ pub record Took (n when : ℕ) (ts w : List ℕ) (count : ℕ) (w′ : List ℕ)
 
 -- ---- the closure
 
-pub record Expands (n : ℕ) (w : List ℕ) (a when : ℕ) : Type 0 where
-  pub at : Address n w a
+pub record Expands (n : ℕ) (w seeds : List ℕ) (when : ℕ) : Type 0 where
+  pub lent : Room n w
+  pub inside : (a : ℕ) → mem a seeds ≡ true → a ≤ n
   pub small : when < 4294967296
   pub within : SidesWithin w n
   pub closed : Closed w n
 
--- One more address is expanded. The worklist's own bytes, 2 * (n + 1) of them from 40 * (n + 1) on, are scratch, and the one thing not said.
-pub record Expanded (n : ℕ) (w : List ℕ) (a when : ℕ) (w′ : List ℕ) : Type 0 where
-  pub reached : (x : ℕ) → mem x (flagged w′ n) ≡ mem x (closure (rowEdges w n) (a ∷ flagged w n))
+-- Seeds are expanded, in whatever order they stand. The worklist's own bytes, 2 * (n + 1) of them from 40 * (n + 1) on, are scratch, and the one thing not said.
+pub record Expanded (n : ℕ) (w seeds : List ℕ) (when : ℕ) (w′ : List ℕ) : Type 0 where
+  pub reached : (x : ℕ) → mem x (flagged w′ n) ≡ mem x (closure (rowEdges w n) (seeds ++ flagged w n))
   pub sets : Sets n when w w′
   pub closed : Closed w′ n
   pub kept : Kept n w w′

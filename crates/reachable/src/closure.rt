@@ -4,14 +4,28 @@ use crate::fields::begin;
 use crate::follow::enter;
 use crate::follow::follow;
 use crate::follow::last;
-ghost use Rattle.reachable.specs.Contracts.{Room, SidesWithin, Expands, Expanded, Reaches};
+ghost use Rattle.reachable.specs.Contracts.{Room, SidesWithin, Took, Expands, Expanded, Reaches};
 
-// Follows the static sides from a: what is reached from it is flagged, and marked where it has no mark.
-pub fn expand(w: &mut [u8], n: usize, a: usize, when: usize)
-    requires { ⌜ Expands n (now w) a when ⌝ }
-    ensures { λ _. ⌜ Expanded n (now (w .entry)) a when (now (w .exit)) ⌝ }
+// Takes the seeds: those that are not flagged wait in the worklist, whose number of entries is the answer.
+fn enter_all(w: &mut [u8], n: usize, seeds: &[usize], when: usize) -> usize
+    requires { ⌜ Expands n (now w) (now seeds) when ⌝ }
+    ensures { λ r. ⌜ Took n when (now (seeds .entry)) (now (w .entry)) 0 (now (w .exit)) r ⌝ }
 {
-    let mut count = enter(w, n, a, when, 0);
+    let mut count = 0;
+    let mut i = 0;
+    while i < seeds.len() {
+        count = enter(w, n, seeds[i], when, count);
+        i += 1;
+    }
+    count
+}
+
+// Follows the static sides from the seeds: what is reached from them is flagged, and marked where it has no mark.
+pub fn expand(w: &mut [u8], n: usize, seeds: &[usize], when: usize)
+    requires { ⌜ Expands n (now w) (now seeds) when ⌝ }
+    ensures { λ _. ⌜ Expanded n (now (w .entry)) (now (seeds .entry)) when (now (w .exit)) ⌝ }
+{
+    let mut count = enter_all(w, n, seeds, when);
     while count != 0 {
         let x = last(w, n, count);
         count = follow(w, n, x, when, count - 1);
@@ -25,5 +39,6 @@ pub fn reach(w: &mut [u8], n: usize)
     ensures { λ _. ⌜ Reaches n (now (w .entry)) (now (w .exit)) ⌝ }
 {
     begin(w, n);
-    expand(w, n, 0, 1);
+    let first = [0; 1];
+    expand(w, n, &first, 1);
 }

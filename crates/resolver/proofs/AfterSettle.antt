@@ -2,7 +2,7 @@
 use mathlib.Core.Path.{_≡_, refl, sym, _∙_}
 use mathlib.Core.Logic.{_⊎_, inl, inr}
 use mathlib.Core.Bool.{Bool, true, false, not, _&&_, _||_}
-use mathlib.Core.List.{List, [], _∷_, _++_, append-nil, append-assoc}
+use mathlib.Core.List.{List, [], _∷_, _++_, append-nil}
 use Prim.Native.Nat.{ℕ, zero, suc, _+_, _-_, _≤_, _<_}
 use native.Mathlib.Decide.{ℕ-discrete}
 use native.Mathlib.Omega.{arith}
@@ -39,7 +39,8 @@ use Rattle.steps.specs.Runs.{recsIn}
 use Rattle.resolver.specs.Turns.{Idle, Settles, destsFrom, Settled}
 use Rattle.steps.specs.declared.Plan.{Plan}
 use Rattle.steps.specs.declared.Run.{Run}
-use Rattle.resolver.proofs.SettleLoop.{destAt, dests-more}
+use Rattle.resolver.proofs.Batching.{destAt, dests-more}
+use Rattle.resolver.proofs.SettleLoop.{dests-split}
 
 -- ---- the destinations of the records, by their rows
 
@@ -64,14 +65,6 @@ module _ (r q s : List ℕ) (room : ℕ) where
       split : Dec (j ≡ suc m) → (j ≤ m → take j (recsOf r q s room m) ≡ recsOf r q s room j) → take j (recsOf r q s room (suc m)) ≡ recsOf r q s room j
       split (yes e) ih = rw e (take-all (suc m) (recsOf r q s room (suc m)) (omega (arith, recs-length r q s room (suc m))))
       split (no ne) ih = take-append-le j (recsOf r q s room m) (recAt r q s room m ∷ []) (omega (arith, recs-length r q s room m)) ∙ ih (omega arith)
-
-dests-split : (r : List ℕ) (i m j : ℕ) → destsFrom r i (m + j) ≡ destsFrom r i m ++ destsFrom r (i + m) j
-unfolding destsFrom
-dests-split r i m zero = let e : m + 0 ≡ m = omega arith in rw e (sym (append-nil (destsFrom r i m)))
-dests-split r i m (suc j) =
-    let e : m + suc j ≡ suc (m + j) = omega arith in
-    let f : i + (m + j) ≡ i + m + j = omega arith in
-    rw (e, dests-more r i (m + j), dests-split r i m j, f, dests-more r (i + m) j) (append-assoc (destsFrom r i m) (destsFrom r (i + m) j) (destAt r (i + m + j)))
 
 -- ---- marks: a test in numbers
 

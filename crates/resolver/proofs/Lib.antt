@@ -18,6 +18,7 @@ pub mod TakerRow
 pub mod TurnBegins
 pub mod TurnDone
 pub mod RoundLoop
+pub mod Batching
 pub mod SettleLoop
 pub mod AfterSettle
 pub mod RoundsLoop

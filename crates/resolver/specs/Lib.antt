@@ -2,3 +2,4 @@ pub mod Fits
 pub mod Enters
 pub mod Levels
 pub mod Turns
+pub mod Batches

@@ -3,6 +3,7 @@ mod enter;
 mod levels;
 mod round;
 mod rounds;
+mod settle;
 mod turn;
 
 pub use rounds::search;

@@ -1,19 +1,15 @@
 // The search: rounds of turns, from what is reached by the code's static sides alone.
 // "A round with no record is the last, and no round or turn starts once the limit is reached."
 use crate::round::round;
-use layout::MISSING;
+use crate::settle::settle;
 use layout::part::BUCKET;
 use layout::part::BUCKETS;
 use layout::part::NEED;
 use layout::part::NEED_MORE;
 use layout::part::SHARE;
 use layout::part::SHARE_MORE;
-use layout::record::RECORD;
-use layout::record::TO;
-use lent::get16;
 use lent::units;
 use lent::wipe_part;
-use reachable::expand;
 use reachable::reach;
 use steps::Plan;
 use steps::Run;
@@ -24,28 +20,13 @@ ghost use mathlib.Core.Path.{_≡_};
 ghost use Prim.Native.Nat.{_≤_};
 ghost use Rattle.spec.specs.Rooms.{longest};
 ghost use Rattle.layout.specs.Buffers.{buffers};
-ghost use Rattle.resolver.specs.Turns.{Settles, Settled, Between, Rounds, SearchAsks, Searched, roomsOf, planOf, begunRun};
+ghost use Rattle.resolver.specs.Turns.{Between, Rounds, SearchAsks, Searched, roomsOf, planOf, begunRun};
 
 // How many rounds there are at most.
 const ROUNDS: usize = 128;
 
 // How many buckets T has at most.
 const SHELVES: usize = 0x1_0000;
-
-// What the destinations of the records from `since` on lead to counts as reached when the next round begins.
-fn settle(w: &mut [u8], n: usize, r: &[u8], since: usize, records: usize)
-    requires { ⌜ Settles n (now w) (now r) since records ⌝ }
-    ensures { λ _. ⌜ Settled n (now (w .entry)) (now (r .entry)) since records (now (w .exit)) ⌝ }
-{
-    let mut i = since;
-    while i < records {
-        let to = get16(r, RECORD * i + TO);
-        i += 1;
-        if to != MISSING {
-            expand(w, n, to, records + 1);
-        }
-    }
-}
 
 // "A round with no record is the last, and no round or turn starts once the limit is reached."
 fn rounds(

@@ -92,7 +92,7 @@ made-kept k m = record {
   end-inside = rw (k .end) (m .end-inside);
 }
 
-final-starts : (code : List ℕ) (is : List Ins) (bs : List Block) (recs : List Rec) → finals-at (finals (nodes code is bs) recs) ≡ starts bs
+pub final-starts : (code : List ℕ) (is : List Ins) (bs : List Block) (recs : List Rec) → finals-at (finals (nodes code is bs) recs) ≡ starts bs
 final-starts code is [] recs = refl
 final-starts code is (b ∷ bs) recs =
     ap₂ {C = List ℕ} (λ (x : ℕ) (xs : List ℕ). x ∷ xs) (final-keeps recs (node b (run code is (b .start))) refl b (run code is (b .start)) refl .start) (final-starts code is bs recs)

@@ -18,7 +18,7 @@ use Rattle.spec.specs.Opcodes.{argument, row}
 use Rattle.spec.specs.Walk.{Ins, big, walk, instructions}
 use Rattle.spec.specs.Stacks.{Sym, before, constant, jumpdest, other, Stack, entry, reads, read, pops, span, swap, trade, from-value, known-value, anded, summed, joins, settle, trims, trim, Does, pushes-value, pushes-pc, dups, swaps, ands, adds, jumps, jumpis, lands, halts, plain, does, act, Ran, after, runs, run}
 use Rattle.spec.specs.Blocks.{Block, blocks}
-use Rattle.laws.proofs.Branch.{both, if-true, if-false}
+use Rattle.laws.proofs.Branch.{both, if-true, if-false, and-then}
 use Rattle.laws.proofs.Members.{In, and-both, and-true}
 use Rattle.theorems.proofs.Walking.{Stands, Walked, stops, steps, walks-from}
 use Rattle.theorems.proofs.Cutting.{block-afresh}
@@ -35,11 +35,6 @@ pub record Out : Type 0 where
 
 abbrev pub out : List Sym → Option Sym → Option Out
 out xs o = some (record { stack = xs; symbol = o })
-
--- a panic stays one
-abbrev and-then : {A B : Type 0} → Option A → (A → Option B) → Option B
-and-then none k = none
-and-then (some x) k = k x
 
 -- Before b, Before (b + 1) and so on downwards, n of them
 abbrev beneath : ℕ → ℕ → List Sym

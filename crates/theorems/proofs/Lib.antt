@@ -16,6 +16,8 @@ pub mod Reached
 pub mod Pruning
 pub mod Carried
 pub mod Growth
+pub mod Batches
+pub mod BatchedSearch
 pub mod Limits
 pub mod Records
 pub mod Energy
@@ -33,6 +35,11 @@ pub mod Exits
 pub mod PathWalked
 pub mod PathMet
 pub mod PathSessions
+pub mod Queue
+pub mod Extending
+pub mod AnyOrder
+pub mod Reaching
+pub mod RustSets
 pub mod Sessions
 pub mod Landing
 pub mod Sides

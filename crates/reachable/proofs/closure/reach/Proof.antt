@@ -11,4 +11,4 @@ returns : tie.Need-returns
 returns c = search reach-done
 
 pub reach-spec : {M : Type 1} → statement M
-reach-spec = tie.close (tie.spec (λ c κs. search needs) expand-requires (λ c. search needs) returns)
+reach-spec = tie.close (tie.spec (λ c κs. search needs) (λ c. search needs) expand-requires (λ c. search needs) returns)

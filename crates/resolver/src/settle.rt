@@ -1,0 +1,64 @@
+// What a round found, handed over to the reached set when it ends.
+// "Then let a round hand its targets over in batches of 64."
+use layout::MISSING;
+use layout::record::RECORD;
+use layout::record::TO;
+use lent::get16;
+use reachable::expand;
+ghost use Prim.Native.Nat.{_<_};
+ghost use Rattle.resolver.specs.Turns.{Settles, Settled};
+ghost use Rattle.resolver.specs.Batches.{Gathers, Gathered, HandedOver};
+
+// How many targets a batch has at most.
+const BATCH: usize = 64;
+
+// How many targets are in a batch, and the record that the next one starts from.
+struct Batch {
+    many: usize,
+    next: usize,
+}
+
+// The next targets of the records from `from` on, as many as a batch has or all that are left.
+fn gather(r: &[u8], from: usize, records: usize, batch: &mut [usize; BATCH]) -> Batch
+    requires { ⌜ Gathers (now r) from records (now batch) ⌝ }
+    ensures { λ b. ⌜ Gathered (now (r .entry)) from records (now (batch .exit)) b ⌝ }
+{
+    let mut many = 0;
+    let mut i = from;
+    while i < records && many < BATCH {
+        let to = get16(r, RECORD * i + TO);
+        i += 1;
+        if to != MISSING {
+            batch[many] = to;
+            many += 1;
+        }
+    }
+    Batch { many, next: i }
+}
+
+// Hands one batch over, if there is anything in it; the record that the next one starts from is the answer.
+fn hand_over(w: &mut [u8], n: usize, r: &[u8], from: usize, records: usize) -> usize
+    requires { ⌜ Settles n (now w) (now r) from records ⌝ }
+    requires { ⌜ from < records ⌝ }
+    ensures { λ next. ⌜ HandedOver n (now (w .entry)) (now (r .entry)) from records (now (w .exit)) next ⌝ }
+{
+    let mut batch = [0; BATCH];
+    let b = gather(r, from, records, &mut batch);
+    let many = b.many;
+    if many == 0 {
+        return b.next;
+    }
+    expand(w, n, &batch[0..many], records + 1);
+    b.next
+}
+
+// What the destinations of the records from `since` on lead to counts as reached when the next round begins.
+pub fn settle(w: &mut [u8], n: usize, r: &[u8], since: usize, records: usize)
+    requires { ⌜ Settles n (now w) (now r) since records ⌝ }
+    ensures { λ _. ⌜ Settled n (now (w .entry)) (now (r .entry)) since records (now (w .exit)) ⌝ }
+{
+    let mut i = since;
+    while i < records {
+        i = hand_over(w, n, r, i, records);
+    }
+}
