@@ -4,4 +4,6 @@ exports! {
     aznifrem_map(limit; read code, write w, write p, write s, write t, write r, write q, write out);
     aznifrem_json(limit; read code, write w, write p, write s, write t, write r, write q, write out, write text);
     aznifrem_read(; read map);
+    aznifrem_report_add(; write report, read map);
+    aznifrem_report_join(; write report, read other);
 }

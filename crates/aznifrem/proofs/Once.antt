@@ -3,8 +3,11 @@ use mathlib.Core.Path.{_≡_, sym, _∙_}
 use mathlib.Core.List.{List}
 use Prim.Native.Nat.{ℕ}
 use Rattle.layout.specs.Buffers.{Mem}
+use Rattle.spec.specs.Report.{ReportOutcome}
+use Rattle.layout.specs.Buffers.{Mem}
 use Rattle.answer.proofs.Once.{same-rooms}
 use Rattle.aznifrem.specs.Contracts.{Exported, ExportedJson}
+use Rattle.aznifrem.specs.Reports.{ExportedReport}
 
 pub one-exported : {limit x y : ℕ} {code out u v : List ℕ} {m m′ m″ : Mem} → Exported limit code m out m′ u x → Exported limit code m out m″ v y
     → (x ≡ y) × (m′ ≡ m″) × (u ≡ v)
@@ -22,3 +25,7 @@ one-exported-json c d = (
   c .out-is ∙ sym (d .out-is),
   c .text-is ∙ sym (d .text-is),
 )
+
+pub one-exported-report : {report : List ℕ} {o : ReportOutcome} {u v : List ℕ} {x y : ℕ} → ExportedReport report o u x → ExportedReport report o v y
+    → (x ≡ y) × (u ≡ v)
+one-exported-report c d = (c .number ∙ sym (d .number), c .bytes ∙ sym (d .bytes))

@@ -1,9 +1,13 @@
 // The exported calls.
 // "A call returns the number and the bytes written, 0 if refused; the exported entry gives whichever isn't 0. The exported entry takes numbers and byte
 // slices."
+mod release;
+
 use answer::map_code;
 use answer::map_json;
 use reader::read;
+pub use release::aznifrem_report_add;
+pub use release::aznifrem_report_join;
 ghost use mathlib.Core.Path.{_≡_};
 ghost use Rattle.spec.specs.Reader as definitions;
 ghost use Rattle.spec.specs.Reader.{reads-as};

@@ -58,6 +58,9 @@ pub mod ReaderAccepted
 pub mod EightsBack
 pub mod DistinctOnes
 pub mod MapSample
+pub mod Lowest
+pub mod ReportLaws
+pub mod ReportExamples
 pub mod Decimal
 pub mod Readers
 pub mod JsonReader

@@ -88,6 +88,30 @@ uint64_t aznifrem_json(uint64_t limit, const uint8_t *code, size_t code_len,
  * offset 0. Nothing is written. A map of length 0 still needs a pointer that is not NULL. */
 uint64_t aznifrem_read(const uint8_t *map, size_t map_len);
 
+/* A report over stored maps: 15 numbers of 8 bytes, little-endian. All zero bytes are a report of
+ * no maps.
+ *
+ *    0 maps                    6 dynamic blocks without destination    11 longest path
+ *    1 Terminate               7 with one                              12 energy
+ *    2 Jump                    8 with several                          13 share of 6 in 6 to 8,
+ *    3 Jumpi                   9 records with destination              14 in lowest terms; 0 over
+ *    4 DynamicJump            10 without                                  1 if there are none
+ *    5 DynamicJumpi */
+#define AZNIFREM_REPORT_BYTES 120u
+
+/* What a call on a report gives where a number of it, or the dynamic blocks together, would not
+ * fit 64 bits, or where a report has fewer than AZNIFREM_REPORT_BYTES. */
+#define AZNIFREM_TOTAL_TOO_LARGE 16
+
+/* Adds a stored map to a report: gives 0; or AZNIFREM_BAD_ENTRY and 256 times the offset of the
+ * map's first bad entry; or AZNIFREM_TOTAL_TOO_LARGE. On a refusal the report is untouched; else
+ * its bytes behind the first AZNIFREM_REPORT_BYTES are. The two may not overlap. */
+uint64_t aznifrem_report_add(uint8_t *report, size_t report_len, const uint8_t *map, size_t map_len);
+
+/* Joins another report to a report, which is then that of all their maps: gives 0, or
+ * AZNIFREM_TOTAL_TOO_LARGE. The rest as above. */
+uint64_t aznifrem_report_join(uint8_t *report, size_t report_len, const uint8_t *other, size_t other_len);
+
 #ifdef __cplusplus
 }
 #endif

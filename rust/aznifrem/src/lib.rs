@@ -19,8 +19,9 @@
 //! ```
 //!
 //! A [`Mapper`] keeps its memory between calls; [`Map::from_bytes`] reads a map that was stored;
-//! [`Mapper::json`] gives the blocks as JSON; [`call`], [`call_json`] and [`read()`] are the library's
-//! own calls, for those who lend the memory themselves.
+//! [`Mapper::json`] gives the blocks as JSON; a [`Report`] adds up many stored maps; [`call`], [`call_json`],
+//! [`read()`], [`report_add`] and [`report_join`] are the library's own calls, for those who lend the memory
+//! themselves.
 
 #![warn(missing_docs)]
 
@@ -34,6 +35,7 @@ mod kinds;
 mod map;
 mod mapper;
 mod read;
+mod report;
 mod room;
 mod rooms;
 mod write;
@@ -58,6 +60,7 @@ pub use error::{Error, Fault, NotRelayed, Unreadable, Unwritable};
 pub use map::{Block, BlockType, DynamicJump, Map, Record};
 pub use mapper::Mapper;
 pub use read::read;
+pub use report::{NotReported, REPORT_BYTES, Report, report_add, report_join};
 pub use room::Room;
 
 /// The map of a code, made with an energy limit of at most [`HIGHEST_LIMIT`], in memory of its

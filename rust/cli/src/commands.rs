@@ -1,12 +1,13 @@
 //! The table: every command, in the order in which help names them. A new one is a line here.
 
 use crate::table::{Command, DEFAULT};
-use crate::{completions, diff, help, man, maps, show};
+use crate::{completions, diff, help, man, maps, report, show};
 
 pub const ALL: &[Command] = &[
     maps::COMMAND,
     show::COMMAND,
     diff::COMMAND,
+    report::COMMAND,
     completions::COMMAND,
     man::COMMAND,
     help::COMMAND,

@@ -21,6 +21,7 @@ mod patterns;
 mod print;
 mod progress;
 mod refused;
+mod report;
 mod show;
 mod store;
 mod stored;

@@ -79,7 +79,7 @@ pub fn run(reader: Reader, count: u64, seed: u64) -> Maps {
 }
 
 /// Some fifty answers of the model, with dynamic jumps, paths and records.
-fn answers(random: &mut Random) -> Vec<Vec<u8>> {
+pub fn answers(random: &mut Random) -> Vec<Vec<u8>> {
     let corners = codes::corners::CORNERS;
     let mut codes: Vec<Vec<u8>> = Vec::new();
     for _ in 0..8 {

@@ -11,6 +11,7 @@ mod map;
 pub mod ops;
 pub mod reach;
 pub mod reader;
+pub mod report;
 pub mod rooms;
 pub mod search;
 pub mod stack;

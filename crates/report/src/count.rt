@@ -1,0 +1,156 @@
+// What an entry adds to the totals of its map.
+// "blocks of each kind, dynamic blocks with no destination (unresolved), one, or several distinct ones, records with and without destination, longest
+// path"
+use reader::Entry;
+ghost use mathlib.Core.Path.{_≡_};
+ghost use Rattle.report.specs.Counts.{Shut, Longer, Recorded, Counted, seenBy, openedBy, RoomToShut, Roomy};
+
+// "a missing destination is 0x8000".
+const ABSENT: usize = 0x8000;
+
+// The totals of a map, but for the number of maps and the energy.
+pub struct Counts {
+    pub terminate: usize,
+    pub jump: usize,
+    pub jumpi: usize,
+    pub dynamic_jump: usize,
+    pub dynamic_jumpi: usize,
+    pub unresolved: usize,
+    pub one: usize,
+    pub several: usize,
+    pub found: usize,
+    pub nowhere: usize,
+    pub longest: usize,
+}
+
+// The block at hand: not dynamic; or dynamic with no destination yet, with this one alone, or with several.
+pub enum Open {
+    Static,
+    NoneYet,
+    Only(usize),
+    Several,
+}
+
+// The totals once no more 7s of the block at hand can come.
+pub fn shut(counts: Counts, hand: Open) -> Counts
+    requires { ⌜ RoomToShut counts ⌝ }
+    ensures { λ r. ⌜ Shut counts hand r ⌝ }
+{
+    let mut d = counts;
+    match hand {
+        Open::Static => d,
+        Open::NoneYet => {
+            d.unresolved += 1;
+            d
+        }
+        Open::Only(_) => {
+            d.one += 1;
+            d
+        }
+        Open::Several => {
+            d.several += 1;
+            d
+        }
+    }
+}
+
+// The totals with a path of n addresses among them.
+fn longer(counts: Counts, n: usize) -> Counts
+    ensures { λ r. ⌜ Longer counts n r ⌝ }
+{
+    let mut d = counts;
+    if d.longest < n {
+        d.longest = n;
+        return d;
+    }
+    d
+}
+
+// The totals with a record among them, by its destination and the length of its path.
+fn recorded(counts: Counts, to: usize, n: usize) -> Counts
+    requires { ⌜ Roomy counts ⌝ }
+    ensures { λ r. ⌜ Recorded counts to n r ⌝ }
+{
+    let mut d = counts;
+    if to == ABSENT {
+        d.nowhere += 1;
+        return longer(d, n);
+    }
+    d.found += 1;
+    longer(d, n)
+}
+
+// The totals behind an entry: a block ends the run of 7s of the block at hand.
+pub fn counted(counts: Counts, hand: Open, entry: Entry) -> Counts
+    requires { ⌜ Roomy counts ⌝ }
+    ensures { λ r. ⌜ Counted counts hand entry r ⌝ }
+{
+    let mut d = counts;
+    match entry {
+        Entry::Terminate { .. } => {
+            d.terminate += 1;
+            shut(d, hand)
+        }
+        Entry::Jump { .. } => {
+            d.jump += 1;
+            shut(d, hand)
+        }
+        Entry::Jumpi { .. } => {
+            d.jumpi += 1;
+            shut(d, hand)
+        }
+        Entry::DynamicJump { .. } => {
+            d.dynamic_jump += 1;
+            shut(d, hand)
+        }
+        Entry::DynamicJumpi { .. } => {
+            d.dynamic_jumpi += 1;
+            shut(d, hand)
+        }
+        Entry::Way { count, .. } => longer(d, count),
+        Entry::Record { to, count, .. } => recorded(d, to, count),
+        Entry::Head { .. } => d,
+        Entry::Unknown => d,
+        Entry::Wrong => d,
+        Entry::Cut => d,
+    }
+}
+
+// The block at hand with a destination of one of its 7s.
+fn seen(hand: Open, to: usize) -> Open
+    ensures { λ r. ⌜ r ≡ seenBy to hand ⌝ }
+{
+    if to == ABSENT {
+        return hand;
+    }
+    match hand {
+        Open::Static => Open::Static,
+        Open::NoneYet => Open::Only(to),
+        Open::Only(t) => {
+            if t == to {
+                return Open::Only(t);
+            }
+            Open::Several
+        }
+        Open::Several => Open::Several,
+    }
+}
+
+// The block at hand behind an entry.
+pub fn opened(hand: Open, entry: Entry) -> Open
+    ensures { λ r. ⌜ r ≡ openedBy entry hand ⌝ }
+{
+    match entry {
+        Entry::Terminate { .. } => Open::Static,
+        Entry::Jump { .. } => Open::Static,
+        Entry::Jumpi { .. } => Open::Static,
+        Entry::DynamicJump { .. } => Open::NoneYet,
+        Entry::DynamicJumpi { .. } => Open::NoneYet,
+        Entry::Way { to, .. } => seen(hand, to),
+        Entry::Record { .. } => hand,
+        Entry::Head { .. } => hand,
+        Entry::Unknown => hand,
+        Entry::Wrong => hand,
+        Entry::Cut => hand,
+    }
+}
