@@ -6,4 +6,5 @@ exports! {
     aznifrem_read(; read map);
     aznifrem_report_add(; write report, read map);
     aznifrem_report_join(; write report, read other);
+    aznifrem_salvage(; read archive, write out, write report);
 }

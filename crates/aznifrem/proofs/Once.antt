@@ -8,6 +8,7 @@ use Rattle.layout.specs.Buffers.{Mem}
 use Rattle.answer.proofs.Once.{same-rooms}
 use Rattle.aznifrem.specs.Contracts.{Exported, ExportedJson}
 use Rattle.aznifrem.specs.Reports.{ExportedReport}
+use Rattle.aznifrem.specs.Archives.{ExportedSalvage}
 
 pub one-exported : {limit x y : ℕ} {code out u v : List ℕ} {m m′ m″ : Mem} → Exported limit code m out m′ u x → Exported limit code m out m″ v y
     → (x ≡ y) × (m′ ≡ m″) × (u ≡ v)
@@ -29,3 +30,7 @@ one-exported-json c d = (
 pub one-exported-report : {report : List ℕ} {o : ReportOutcome} {u v : List ℕ} {x y : ℕ} → ExportedReport report o u x → ExportedReport report o v y
     → (x ≡ y) × (u ≡ v)
 one-exported-report c d = (c .number ∙ sym (d .number), c .bytes ∙ sym (d .bytes))
+
+pub one-exported-salvage : {archive out report o p r q : List ℕ} {x y : ℕ} → ExportedSalvage archive out report o r x → ExportedSalvage archive out report p q y
+    → (x ≡ y) × (o ≡ p) × (r ≡ q)
+one-exported-salvage c d = (c .number ∙ sym (d .number), c .out-is ∙ sym (d .out-is), c .report-is ∙ sym (d .report-is))

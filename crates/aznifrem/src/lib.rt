@@ -1,6 +1,7 @@
 // The exported calls.
 // "A call returns the number and the bytes written, 0 if refused; the exported entry gives whichever isn't 0. The exported entry takes numbers and byte
 // slices."
+mod archive;
 mod release;
 
 use answer::map_code;
@@ -13,6 +14,7 @@ ghost use Rattle.spec.specs.Reader as definitions;
 ghost use Rattle.spec.specs.Reader.{reads-as};
 ghost use Rattle.layout.specs.Buffers.{buffers};
 ghost use Rattle.aznifrem.specs.Contracts.{Exported, ExportedJson};
+pub use archive::aznifrem_salvage;
 
 // Maps a code at an energy limit over seven lent buffers; gives the number of the refusal, or the bytes written, which are never under 18 (`answered-long`).
 #[no_mangle]

@@ -1,5 +1,6 @@
 -- The leading bytes at an offset: the ways out of the functions that read them, and what a caller learns. Assumes nothing.
 use mathlib.Core.Path.{_≡_, refl, sym, ap, _∙_}
+use mathlib.Core.Bool.{true, false}
 use mathlib.Core.List.{List}
 use Prim.Native.Nat.{ℕ, _+_, _-_, _^_, _≤_, _<_}
 use native.Mathlib.Omega.{arith}
@@ -15,13 +16,14 @@ use Rattle.spec.specs.BadEntries.{Whole}
 use Rattle.laws.proofs.Branch.{both, if-true, if-false}
 use Rattle.lent.specs.Bytes.{Holds}
 use Rattle.reader.specs.Sorts.{sortOf}
-use Rattle.reader.specs.Shapes.{leadAt, behindAt, shape, entryAt}
+use Rattle.reader.specs.Shapes.{leadAt, way?, leads-way, sevenAt, behindAt, shape, entryAt}
 use Rattle.reader.specs.declared.kind.Sort.{Sort}
-use Rattle.reader.specs.declared.kind.Sort.the-variants.{Unknown}
+use Rattle.reader.specs.declared.kind.Sort.the-variants.{Way, Unknown}
 use Rattle.reader.specs.declared.lead.Lead.{Lead}
 use Rattle.reader.specs.declared.lead.Lead.the-variants.{Says, Short}
 use Rattle.reader.specs.declared.entry.Entry.{Entry}
 use Rattle.reader.specs.declared.entry.Entry.the-variants.{Unknown as NotKnown, Cut}
+use Rattle.reader.proofs.Sorting.{not-way}
 use Rattle.reader.proofs.Bodies.{placed}
 
 module _ (b : List ℕ) (at : ℕ) where
@@ -98,6 +100,23 @@ module _ (b : List ℕ) (at : ℕ) where
     pub next-cut : r ≡ Short → length b ≡ behindAt b at
     unfolding behindAt
     next-cut q = both (λ (n : ℕ). length b ≡ n) (leb (6 + announced rest) (length rest)) (λ on. absurd (short q (leb-true _ _ on))) (λ off. refl)
+
+    -- ---- the ways out of seven_at
+
+    pub seven-cut : r ≡ Short → false ≡ sevenAt b at
+    unfolding sevenAt
+    seven-cut q = sym (ap leads-way (sym e ∙ q))
+
+    by-sort : {k n : ℕ} → r ≡ Says k n → (s : Sort) → sortOf s ≡ sort k → way? (sortOf s) ≡ sevenAt b at
+    unfolding sevenAt
+    by-sort q s t = ap way? t ∙ sym (ap leads-way (sym e ∙ q))
+
+    module _ {k n : ℕ} (q : r ≡ Says k n) {s : Sort} (t : sortOf s ≡ sort k) where
+      pub seven-there : s ≡ Way → true ≡ sevenAt b at
+      seven-there m = ap (λ (x : Sort). way? (sortOf x)) (sym m) ∙ by-sort q s t
+
+      pub seven-other : (s ≡ Way → ⊥) → false ≡ sevenAt b at
+      seven-other m = sym (not-way s m) ∙ by-sort q s t
 
     -- ---- the ways out of entry_at
 

@@ -1,7 +1,6 @@
 -- One turn of the scan: what it asks of its callees, and its ways out. Assumes nothing.
-use mathlib.Core.Path.{_≡_, sym, ap, subst, _∙_}
+use mathlib.Core.Path.{_≡_, refl, sym, ap, subst, _∙_}
 use mathlib.Core.List.{List, [], _∷_}
-use mathlib.Core.Option.{some}
 use Prim.Native.Nat.{ℕ, _+_, _^_, _≤_, _<_}
 use native.Mathlib.Omega.{arith}
 use native.Mathlib.Decide.{decLe}
@@ -17,8 +16,8 @@ use Rattle.spec.specs.BadEntries.{Whole}
 use Rattle.laws.proofs.Branch.{both}
 use Rattle.theorems.proofs.Bytes.{Bytes, bytes-drop, bytes-take}
 use Rattle.reader.specs.Shapes.{from, behindAt, numbers, known, shape, entryAt}
-use Rattle.reader.specs.Classes.{classOf, startOf, stepOf, stoppedOf, pending, blockIn, recordIn, blocksOf, recordsOf}
-use Rattle.reader.specs.Scanning.{Within, saidFrom, Goes}
+use Rattle.reader.specs.Classes.{classOf, startOf, stepOf, stoppedOf, blockIn, recordIn}
+use Rattle.reader.specs.Scanning.{Within, turned, turnTo, turnOf}
 use Rattle.reader.specs.declared.entry.Entry.{Entry}
 use Rattle.reader.specs.declared.entry.Entry.the-variants.{Wrong}
 use Rattle.reader.specs.declared.class.Class.{Class}
@@ -27,6 +26,7 @@ use Rattle.reader.specs.declared.class.Order.{Order}
 use Rattle.reader.specs.declared.class.Step.{Step}
 use Rattle.reader.specs.declared.class.Step.the-variants.{To, Stop}
 use Rattle.reader.specs.declared.scan.Scan.{Scan}
+use Rattle.reader.specs.declared.scan.Turn.the-variants.{On, Bad as Stops}
 use Rattle.reader.proofs.Judging.{entry-whole, entry-cut, behind-whole, judge, sevens-on, blocks-on, records-on}
 use Rattle.reader.proofs.Moving.{Moves, moves}
 use Rattle.theorems.proofs.ReaderPlaces.{never}
@@ -111,46 +111,66 @@ module _ {b : List ℕ} {s : Scan} (w : Within b s) (h : s .at < length b) (f : 
   pub sum-records : (k : Class) {x : ℕ} → x ≡ recordIn k → Fits w64 (s .records + x)
   sum-records k q = omega (arith, one-record k)
 
--- ---- the ways out of one
+-- ---- one turn
 
-module _ (b : List ℕ) (s : Scan) (h : s .at < length b) {e : Entry} (is : e ≡ entryAt b (s .at)) {k : Class} (c : k ≡ classOf e) {r : Step} (o : r ≡ stepOf k (s .place) (s .at)) where
+module _ (b : List ℕ) (s : Scan) where
   abbrev at : ℕ
   at = s .at
 
-  moved : {q : Step} → r ≡ q → Moves at (from b at) (from b (behindAt b at)) (s .place) q
-  moved {q} e =
-      let z : stepOf (classOf (entryAt b at)) (s .place) at ≡ q = sym (rw (c, is) at o) ∙ e in
-      subst (Moves at (from b at) (from b (behindAt b at)) (s .place)) z
-      (moves at (from b at) (from b (behindAt b at)) (classOf (entryAt b at)) (λ p. judge b at p h) (sevens-on b at) (s .place))
+  abbrev kind-of : Class
+  kind-of = classOf (entryAt b at)
 
-  pub one-stops : r ≡ Stop → {x : ℕ} → x ≡ stoppedOf (s .place) (s .at) (sevens (from b (s .at))) → saidFrom b s ≡ some x
-  one-stops q z = moved q ∙ ap some (sym z)
+  -- what is left to judge behind the entry ends where the whole does, or the entry is where the scan stops
+  module _ (w : Within b s) (h : s .at < length b) where
+    moved : (st : Step) → stepOf kind-of (s .place) at ≡ st → Moves at (from b at) (from b (behindAt b at)) (s .place) st
+    moved st e =
+        subst (Moves at (from b at) (from b (behindAt b at)) (s .place)) e
+        (moves at (from b at) (from b (behindAt b at)) kind-of (λ p. judge b at p h) (sevens-on b at) (s .place))
 
-  module _ {p : Order} (q : r ≡ To p) where
-    not-bad : classOf (entryAt b at) ≡ Bad → ⊥
-    not-bad z = let y : To p ≡ stepOf Bad (s .place) at = sym q ∙ o ∙ ap (λ (x : Class). stepOf x (s .place) at) (c ∙ ap classOf is ∙ z) in never (cc)
+    not-bad : (p : Order) → stepOf kind-of (s .place) at ≡ To p → kind-of ≡ Bad → ⊥
+    not-bad p e z = let y : To p ≡ stepOf Bad (s .place) at = sym e ∙ ap (λ (x : Class). stepOf x (s .place) at) z in never (cc)
 
-    there : Whole (drop at b)
-    there = by-whole (decLe (6 + announced (drop at b)) (length (drop at b)))
+    there : (kind-of ≡ Bad → ⊥) → Whole (drop at b)
+    there m = by-whole (decLe (6 + announced (drop at b)) (length (drop at b)))
       where
         by-whole : Dec (Whole (drop at b)) → Whole (drop at b)
         by-whole (yes w) = w
-        by-whole (no n) = absurd (not-bad (rw (entry-cut b at n)))
+        by-whole (no n) = absurd (m (rw (entry-cut b at n)))
 
-    pub one-goes : Within b s → {x y to : ℕ} → to ≡ behindAt b (s .at) → x ≡ blockIn k → y ≡ recordIn k
-        → Goes b s (record { at = to; place = p; blocks = s .blocks + x; records = s .records + y })
-    one-goes w {x} {y} {to} t bx ry =
-        let bs : blockIn k ≡ blockIn (classOf (entryAt b at)) = ap blockIn (c ∙ ap classOf is) in
-        let rs : recordIn k ≡ recordIn (classOf (entryAt b at)) = ap recordIn (c ∙ ap classOf is) in
-        let fb : blocksOf (from b to) ≡ blocksOf (from b (behindAt b at)) = ap (λ (n : ℕ). blocksOf (from b n)) t in
-        let fr : recordsOf (from b to) ≡ recordsOf (from b (behindAt b at)) = ap (λ (n : ℕ). recordsOf (from b n)) t in
-        let far : to ≡ at + (6 + announced (drop at b)) = t ∙ behind-whole b at there in
-        let l : Whole (drop at b) = there in
+    goes-on : (p : Order) → stepOf kind-of (s .place) at ≡ To p → turned b s (turnTo b s kind-of (To p))
+    goes-on p e =
+        let m = not-bad p e in
+        let l : Whole (drop at b) = there m in
+        let far : behindAt b at ≡ at + (6 + announced (drop at b)) = behind-whole b at l in
         let d = length-drop at b in
         record {
-          said = moved q ∙ ap (λ (n : ℕ). pending p (from b n)) (sym t);
-          blocks-are = omega (arith, blocks-on b at not-bad);
-          records-are = omega (arith, records-on b at not-bad);
+          said = moved (To p) e;
+          blocks-are = omega (arith, blocks-on b at m);
+          records-are = omega (arith, records-on b at m);
           on = omega arith;
-          within = record { inside = omega arith; few-blocks = omega (arith, one-block k); few-records = omega (arith, one-record k) };
+          within = record { inside = omega arith; few-blocks = omega (arith, one-block kind-of); few-records = omega (arith, one-record kind-of) };
         }
+
+    by-step : (st : Step) → stepOf kind-of (s .place) at ≡ st → turned b s (turnTo b s kind-of st)
+    by-step (To p) e = goes-on p e
+    by-step Stop e = moved Stop e
+
+    pub turns : turned b s (turnOf b s)
+    unfolding turnOf
+    turns = by-step (stepOf kind-of (s .place) at) refl
+
+  -- ---- the ways out of one
+
+  module _ {e : Entry} (is : e ≡ entryAt b (s .at)) {k : Class} (c : k ≡ classOf e) {r : Step} (o : r ≡ stepOf k (s .place) (s .at)) where
+    turns-to : {st : Step} → r ≡ st → turnTo b s k st ≡ turnOf b s
+    unfolding turnOf
+    turns-to {st} q =
+        let same : k ≡ kind-of = c ∙ ap classOf is in
+        ap (turnTo b s k) (sym q ∙ o) ∙ ap (λ (x : Class). turnTo b s x (stepOf x (s .place) at)) same
+
+    pub one-stops : r ≡ Stop → {x : ℕ} → x ≡ stoppedOf (s .place) (s .at) (sevens (from b (s .at))) → Stops x ≡ turnOf b s
+    one-stops q z = ap Stops z ∙ turns-to q
+
+    pub one-goes : {p : Order} → r ≡ To p → {x y to : ℕ} → to ≡ behindAt b (s .at) → x ≡ blockIn k → y ≡ recordIn k
+        → On (record { at = to; place = p; blocks = s .blocks + x; records = s .records + y }) ≡ turnOf b s
+    one-goes q t bx ry = rw (t, bx, ry) (turns-to q)

@@ -1,5 +1,6 @@
 -- What stands at an offset of the bytes, as the code has it: read off the definitions' forms. Assumes nothing.
 use Prim.Native.Nat.{ℕ, _+_, _*_}
+use mathlib.Core.Bool.{Bool, true, false}
 use mathlib.Core.List.{List}
 use lib.Dec.{eqb, leb}
 use lib.ListN.{length, take, drop}
@@ -20,6 +21,21 @@ from b at = pieces (drop at b) 0 at
 -- the leading bytes of a whole entry
 unfoldable pub leadAt : List ℕ → ℕ → Lead
 leadAt b at = let e = drop at b in if (leb (6 + announced e) (length e)) (Says (field 4 2 e) (announced e)) Short
+
+-- whether they are a 7's
+abbrev pub way? : Sort → Bool
+way? HEAD = false
+way? (BLOCK x) = false
+way? (WAY missing) = true
+way? (RECORD to missing) = false
+way? UNKNOWN = false
+
+abbrev pub leads-way : Lead → Bool
+leads-way (Says k n) = way? (sort k)
+leads-way Short = false
+
+unfoldable pub sevenAt : List ℕ → ℕ → Bool
+sevenAt b at = leads-way (leadAt b at)
 
 -- where the entry behind it stands
 unfoldable pub behindAt : List ℕ → ℕ → ℕ

@@ -8,9 +8,16 @@ mod run;
 mod scan;
 mod walk;
 
+pub use class::Order;
 pub use entry::Entry;
 pub use entry::entry_at;
+pub use lead::end_of;
+pub use run::seven_at;
 pub use scan::Reading;
+pub use scan::Scan;
+pub use scan::Turn;
+pub use scan::last;
+pub use scan::one;
 pub use scan::read;
 pub use walk::Walk;
 pub use walk::address;

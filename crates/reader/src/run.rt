@@ -8,8 +8,21 @@ ghost use mathlib.Core.Path.{_≡_};
 ghost use Prim.Native.Nat.{_≤_};
 ghost use lib.ListN.{length};
 ghost use Rattle.spec.specs.Reader.{sevens};
-ghost use Rattle.reader.specs.Shapes.{from};
+ghost use Rattle.reader.specs.Shapes.{from, sevenAt};
 ghost use Rattle.reader.specs.Classes.{stoppedOf};
+
+// Whether a whole 7 stands at an offset.
+pub fn seven_at(map: &[u8], at: usize) -> bool
+    ensures { λ r. ⌜ r ≡ sevenAt (now (map .entry)) at ⌝ }
+{
+    match lead_at(map, at) {
+        Lead::Says { kind, length: _ } => match sort_of(kind) {
+            Sort::Way => true,
+            _ => false,
+        },
+        Lead::Short => false,
+    }
+}
 
 // How many whole 7s stand in the run of 7s that begins at an offset.
 fn sevens(map: &[u8], at: usize) -> usize

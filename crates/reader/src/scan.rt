@@ -14,7 +14,7 @@ ghost use mathlib.Core.Option.{none};
 ghost use Prim.Native.Nat.{_≤_, _<_};
 ghost use lib.ListN.{length};
 ghost use Rattle.spec.specs.Reader.{read};
-ghost use Rattle.reader.specs.Scanning.{Within, turned, judged, lastOf, restOf, readingOf};
+ghost use Rattle.reader.specs.Scanning.{Within, turnOf, judged, lastOf, restOf, readingOf};
 
 // "12, bad entry, with its offset".
 const BAD: usize = 12;
@@ -26,23 +26,24 @@ pub struct Reading {
 }
 
 // Where the scan stands: the offset of the next entry, what may come, and the blocks and records so far.
-struct Scan {
-    at: usize,
-    place: Order,
-    blocks: usize,
-    records: usize,
+pub struct Scan {
+    pub at: usize,
+    pub place: Order,
+    pub blocks: usize,
+    pub records: usize,
 }
 
-enum Turn {
+// The scan behind an entry; or the offset of the first bad one.
+pub enum Turn {
     On(Scan),
     Bad(usize),
 }
 
 // One entry, which is there.
-fn one(map: &[u8], s: Scan) -> Turn
+pub fn one(map: &[u8], s: Scan) -> Turn
     requires { ⌜ Within (now map) s ⌝ }
     requires { ⌜ s .at < length (now map) ⌝ }
-    ensures { λ r. ⌜ turned (now (map .entry)) s r ⌝ }
+    ensures { λ r. ⌜ r ≡ turnOf (now (map .entry)) s ⌝ }
 {
     let at = s.at;
     let p = s.place;
@@ -82,7 +83,7 @@ fn counts(s: Scan, blocks: usize, records: usize) -> Reading
 }
 
 // At the end: an open dynamic block's count, then the head's counts.
-fn last(s: Scan, blocks: usize, records: usize) -> Reading
+pub fn last(s: Scan, blocks: usize, records: usize) -> Reading
     ensures { λ r. ⌜ r ≡ lastOf s blocks records ⌝ }
 {
     let p = s.place;

@@ -61,6 +61,11 @@ pub mod MapSample
 pub mod Lowest
 pub mod ReportLaws
 pub mod ReportExamples
+pub mod SalvageEnds
+pub mod SalvageLaws
+pub mod SalvageCut
+pub mod SalvageOnePass
+pub mod SalvageExamples
 pub mod Decimal
 pub mod Readers
 pub mod JsonReader

@@ -294,7 +294,7 @@ bad-within (no-byte e) = inl refl
 bad-within (cut-entry g h n) = inr (omega (arith, ends-at g))
 bad-within (bad-entry g w k) = inr (omega (arith, ends-at g))
 
-refused-within : {b : List ℕ} {o : ℕ} → Refused b o → (o ≡ 0) ⊎ (o < length b)
+pub refused-within : {b : List ℕ} {o : ℕ} → Refused b o → (o ≡ 0) ⊎ (o < length b)
 refused-within (at-first-bad f) = bad-within (f .is-bad)
 refused-within (by-its-head n h e) = inl e
 

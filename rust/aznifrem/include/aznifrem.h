@@ -111,6 +111,22 @@ uint64_t aznifrem_report_add(uint8_t *report, size_t report_len, const uint8_t *
 /* Joins another report to a report, which is then that of all their maps: gives 0, or
  * AZNIFREM_TOTAL_TOO_LARGE. The rest as above. */
 uint64_t aznifrem_report_join(uint8_t *report, size_t report_len, const uint8_t *other, size_t other_len);
+/* What aznifrem_salvage gives instead of 0, where out or report is short. */
+#define AZNIFREM_SALVAGE_SHORT 18
+
+/* Bytes that report must have. */
+#define AZNIFREM_SALVAGED 32
+
+/* Salvages an archive of stored maps that stand one after another: copies each that reads whole to
+ * out, up to the first that does not, and writes four numbers of 8 bytes, little-endian, to report:
+ * maps copied, bytes copied, bytes dropped, and the offset of the first bad entry or, where nothing
+ * is dropped, the archive's length.
+ *
+ * Gives 0; or AZNIFREM_SALVAGE_SHORT, and then neither is touched. On 0 the other bytes of both are
+ * untouched. As many bytes as the archive has are enough for out. The parts may not overlap, nor
+ * overlap the archive; one of length 0 still needs a pointer that is not NULL. */
+uint64_t aznifrem_salvage(const uint8_t *archive, size_t archive_len, uint8_t *out, size_t out_len,
+                          uint8_t *report, size_t report_len);
 
 #ifdef __cplusplus
 }

@@ -22,6 +22,9 @@
 //! [`Mapper::json`] gives the blocks as JSON; a [`Report`] adds up many stored maps; [`call`], [`call_json`],
 //! [`read()`], [`report_add`] and [`report_join`] are the library's own calls, for those who lend the memory
 //! themselves.
+//! [`Mapper::json`] gives the blocks as JSON; [`Salvaged::of`] salvages an archive of stored maps;
+//! [`call`], [`call_json`], [`read()`] and [`salvage()`] are the library's own calls, for those who
+//! lend the memory themselves.
 
 #![warn(missing_docs)]
 
@@ -38,6 +41,7 @@ mod read;
 mod report;
 mod room;
 mod rooms;
+mod salvage;
 mod write;
 
 #[cfg(target_arch = "x86_64")]
@@ -62,6 +66,7 @@ pub use mapper::Mapper;
 pub use read::read;
 pub use report::{NotReported, REPORT_BYTES, Report, report_add, report_join};
 pub use room::Room;
+pub use salvage::{Salvaged, salvage};
 
 /// The map of a code, made with an energy limit of at most [`HIGHEST_LIMIT`], in memory of its
 /// own up to [`Mapper::DEFAULT_CEILING`]. For many codes, a [`Mapper`] is faster.

@@ -1,13 +1,16 @@
 //! The table: every command, in the order in which help names them. A new one is a line here.
 
 use crate::table::{Command, DEFAULT};
-use crate::{completions, diff, help, man, maps, report, show};
+use crate::{archive, completions, diff, help, man, maps, report, salvage, show, unpack};
 
 pub const ALL: &[Command] = &[
     maps::COMMAND,
     show::COMMAND,
     diff::COMMAND,
     report::COMMAND,
+    archive::COMMAND,
+    salvage::COMMAND,
+    unpack::COMMAND,
     completions::COMMAND,
     man::COMMAND,
     help::COMMAND,

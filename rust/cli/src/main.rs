@@ -1,11 +1,13 @@
 //! `aznifrem`: maps of EVM contracts from files and folders, and what moved between two of them.
 
+mod archive;
 mod args;
 mod commands;
 mod completions;
 mod contracts;
 mod diff;
 mod files;
+mod fresh;
 mod given;
 mod help;
 mod input;
@@ -22,13 +24,16 @@ mod print;
 mod progress;
 mod refused;
 mod report;
+mod salvage;
 mod show;
 mod store;
 mod stored;
 mod summary;
 mod system;
 mod table;
+mod unpack;
 mod verdicts;
+mod windows;
 mod work;
 
 use std::io::{self, BufWriter, ErrorKind, Write};

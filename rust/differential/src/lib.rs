@@ -3,6 +3,7 @@
 //! The Rust says every block, type, path and destination; the model, which is held against the
 //! Rust by `agree`, says what the Rust does not have: records, energy, refusals, lower limits.
 
+mod archives;
 mod check;
 mod damage;
 mod families;
@@ -17,6 +18,7 @@ mod shrink;
 mod stored;
 mod tally;
 
+pub use archives::{Archives, Salvager, check as check_archive, run as salvage_archives};
 pub use check::{Checker, Verdict};
 pub use families::{FAMILIES, Family};
 pub use lend::{Given, call as fenced_call, call_json as fenced_call_json};

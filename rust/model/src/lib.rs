@@ -13,6 +13,7 @@ pub mod reach;
 pub mod reader;
 pub mod report;
 pub mod rooms;
+pub mod salvage;
 pub mod search;
 pub mod stack;
 
@@ -22,6 +23,7 @@ pub use call::map;
 pub use map::Map;
 pub use reader::{Bad, Held, Refused, read};
 pub use rooms::{Lent, Needs, Refusal};
+pub use salvage::{Salvaged, salvage};
 pub use search::Record;
 
 /// What a call gives back: its refusal, or the bytes of its output.

@@ -97,15 +97,15 @@ fn refused(offset: usize, bad: Vec<Bad>) -> Refused {
 }
 
 /// An entry; if it is cut, with the bytes that are there.
-struct Piece<'a> {
-    offset: usize,
-    whole: bool,
-    kind: usize,
+pub(crate) struct Piece<'a> {
+    pub(crate) offset: usize,
+    pub(crate) whole: bool,
+    pub(crate) kind: usize,
     body: &'a [u8],
 }
 
 /// The entries one after the other; only the last can be cut.
-fn pieces(bytes: &[u8]) -> Vec<Piece<'_>> {
+pub(crate) fn pieces(bytes: &[u8]) -> Vec<Piece<'_>> {
     let mut pieces = Vec::new();
     let mut offset = 0;
     while offset < bytes.len() {
@@ -131,11 +131,11 @@ fn number(bytes: &[u8], at: usize, size: usize) -> usize {
 }
 
 impl Piece<'_> {
-    fn number(&self, at: usize, size: usize) -> usize {
+    pub(crate) fn number(&self, at: usize, size: usize) -> usize {
         number(self.body, at, size)
     }
 
-    fn is_block(&self) -> bool {
+    pub(crate) fn is_block(&self) -> bool {
         (2..=6).contains(&self.kind)
     }
 

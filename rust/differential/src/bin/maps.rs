@@ -3,7 +3,7 @@
 use std::process::ExitCode;
 use std::time::Instant;
 
-use differential::{Maps, check_map, read_maps};
+use differential::{Archives, Maps, check_map, read_maps, salvage_archives};
 
 const HELP: &str = "\
 maps [OPTIONS]: the proved reader of stored maps, and the binding's, against the model's.
@@ -11,6 +11,7 @@ maps [OPTIONS]: the proved reader of stored maps, and the binding's, against the
   --maps N      whole and damaged maps to read (default 200000)
   --seed S      where the seeded maps begin (default 1); the same seed, the same maps
   --map HEX     these bytes alone
+  --archives N  in the place of maps: so many archives of maps, salvaged
 
 Exit: 0 if all is the same, 1 if something differs, 2 if the command is not understood.
 ";
@@ -18,9 +19,13 @@ Exit: 0 if all is the same, 1 if something differs, 2 if the command is not unde
 fn main() -> ExitCode {
     let begun = Instant::now();
     match run() {
-        Ok(Some(maps)) => {
+        Ok(Some(Came::Maps(maps))) => {
             report(&maps, begun);
             ExitCode::from(u8::from(maps.different != 0))
+        }
+        Ok(Some(Came::Archives(archives))) => {
+            report_archives(&archives, begun);
+            ExitCode::from(u8::from(archives.different != 0))
         }
         Ok(None) => {
             print!("{HELP}");
@@ -33,8 +38,14 @@ fn main() -> ExitCode {
     }
 }
 
-fn run() -> Result<Option<Maps>, String> {
+enum Came {
+    Maps(Maps),
+    Archives(Archives),
+}
+
+fn run() -> Result<Option<Came>, String> {
     let mut count = 200_000;
+    let mut archives = None;
     let mut seed = 1;
     let mut words = std::env::args().skip(1);
     while let Some(word) = words.next() {
@@ -43,17 +54,21 @@ fn run() -> Result<Option<Maps>, String> {
             "--help" | "-h" => return Ok(None),
             "--maps" => count = number(&value()?)?,
             "--seed" => seed = number(&value()?)?,
+            "--archives" => archives = Some(number(&value()?)?),
             "--map" => {
                 let bytes = codes::from_hex(&value()?)?;
                 println!("{:?}", check_map(aznifrem::read, &bytes));
                 let mut maps = Maps::default();
                 maps.add(aznifrem::read, &bytes);
-                return Ok(Some(maps));
+                return Ok(Some(Came::Maps(maps)));
             }
             _ => return Err(format!("'{word}' is no option")),
         }
     }
-    Ok(Some(read_maps(aznifrem::read, count, seed)))
+    Ok(Some(match archives {
+        Some(count) => Came::Archives(salvage_archives(aznifrem::salvage, count, seed)),
+        None => Came::Maps(read_maps(aznifrem::read, count, seed)),
+    }))
 }
 
 fn number(text: &str) -> Result<u64, String> {
@@ -72,6 +87,19 @@ fn report(maps: &Maps, begun: Instant) {
         maps.held,
         maps.different,
         refused.join(", "),
+        begun.elapsed().as_secs_f64()
+    );
+}
+
+fn report_archives(archives: &Archives, begun: Instant) {
+    let texts = archives.written_out.iter();
+    texts.for_each(|text| println!("{text}"));
+    println!(
+        "archives: {} whole, {} cut or damaged, {} different; maps copied: {}; {:.1} s",
+        archives.whole,
+        archives.cut,
+        archives.different,
+        archives.maps,
         begun.elapsed().as_secs_f64()
     );
 }

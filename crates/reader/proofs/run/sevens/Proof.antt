@@ -1,25 +1,12 @@
 -- `sevens` meets its contract: those counted and those still to come are the whole run. The measure is what is left of the bytes. Assumes nothing.
-use mathlib.Core.Path.{_≡_, subst}
-use mathlib.Core.List.{List, [], _∷_}
-use Prim.Native.Nat.{ℕ, _-_}
-use types.Run.{OneOf, miss}
-use denote.Enum.Declared.{tagOf}
+use Prim.Native.Nat.{_-_}
 use lib.ListN.{length}
-use Rattle.reader.specs.declared.kind.Sort.{Sort}
-use Rattle.reader.specs.declared.kind.Sort.the-variants.{Way}
-use Rattle.reader.proofs.kind.Sort.{the-type}
+use Rattle.reader.proofs.Sorting.{no-seven}
 use Rattle.reader.proofs.Onward.{Counting, count-none, count-cut, count-other, count-more, count-less, count-fits}
 use Rattle.reader.proofs.Leads.{sum-6, sum-body}
 use borrow.Author.Needs.{needs}
 use Rattle.reader.proofs.run.sevens.Statement.{statement}
 use Rattle.reader.proofs.run.sevens.Tie as tie
-
--- the arm of every other kind
-abbrev others : List ℕ
-others = 0 ∷ 1 ∷ 2 ∷ 3 ∷ 4 ∷ 5 ∷ 7 ∷ 8 ∷ []
-
-no-seven : (s : Sort) → OneOf others (tagOf the-type s) → s ≡ Way → ⊥
-no-seven s o q = miss others 6 tt (subst (λ (x : Sort). OneOf others (tagOf the-type x)) q o)
 
 abbrev Inv-loop : tie.InvT-loop
 Inv-loop map at n₀ to₀ n to = Counting map at n to

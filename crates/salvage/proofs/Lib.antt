@@ -1,0 +1,7 @@
+pub mod Overs
+pub mod Sorted
+pub mod Owned
+pub mod Firsts
+pub mod Maps
+pub mod Printed
+pub mod Once
