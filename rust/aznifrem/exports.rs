@@ -7,4 +7,5 @@ exports! {
     aznifrem_report_add(; write report, read map);
     aznifrem_report_join(; write report, read other);
     aznifrem_salvage(; read archive, write out, write report);
+    aznifrem_follow(; read map, read code, read log, write work, write counts);
 }

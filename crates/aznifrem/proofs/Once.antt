@@ -9,6 +9,7 @@ use Rattle.answer.proofs.Once.{same-rooms}
 use Rattle.aznifrem.specs.Contracts.{Exported, ExportedJson}
 use Rattle.aznifrem.specs.Reports.{ExportedReport}
 use Rattle.aznifrem.specs.Archives.{ExportedSalvage}
+use Rattle.aznifrem.specs.FollowContract.{ExportedFollow}
 
 pub one-exported : {limit x y : ℕ} {code out u v : List ℕ} {m m′ m″ : Mem} → Exported limit code m out m′ u x → Exported limit code m out m″ v y
     → (x ≡ y) × (m′ ≡ m″) × (u ≡ v)
@@ -34,3 +35,7 @@ one-exported-report c d = (c .number ∙ sym (d .number), c .bytes ∙ sym (d .b
 pub one-exported-salvage : {archive out report o p r q : List ℕ} {x y : ℕ} → ExportedSalvage archive out report o r x → ExportedSalvage archive out report p q y
     → (x ≡ y) × (o ≡ p) × (r ≡ q)
 one-exported-salvage c d = (c .number ∙ sym (d .number), c .out-is ∙ sym (d .out-is), c .report-is ∙ sym (d .report-is))
+
+pub one-exported-follow : {map code log work counts v w c d : List ℕ} {x y : ℕ} → ExportedFollow map code log work counts v c x → ExportedFollow map code log work counts w d y
+    → (x ≡ y) × (v ≡ w) × (c ≡ d)
+one-exported-follow p q = (p .number ∙ sym (q .number), p .work-is ∙ sym (q .work-is), p .counts-are ∙ sym (q .counts-are))

@@ -3,12 +3,14 @@
 // slices."
 mod archive;
 mod release;
+mod trace;
 
 use answer::map_code;
 use answer::map_json;
 use reader::read;
 pub use release::aznifrem_report_add;
 pub use release::aznifrem_report_join;
+pub use trace::aznifrem_follow;
 ghost use mathlib.Core.Path.{_≡_};
 ghost use Rattle.spec.specs.Reader as definitions;
 ghost use Rattle.spec.specs.Reader.{reads-as};

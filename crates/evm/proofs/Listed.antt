@@ -105,7 +105,7 @@ known-range v a n t {x} h g = beq→eq v (row x .known) (every-at (known-as v) n
 sized : ℕ → Bool
 sized k = eqb (row k .size) (suc (argument k))
 
-row-size : (x : ℕ) → x < 256 → row x .size ≡ suc (argument x)
+pub row-size : (x : ℕ) → x < 256 → row x .size ≡ suc (argument x)
 unfolding sized every row if _both_
 row-size x h = eqb→eq _ _ (every-at sized 256 0 x tt zero≤ h)
 

@@ -66,6 +66,11 @@ pub mod SalvageLaws
 pub mod SalvageCut
 pub mod SalvageOnePass
 pub mod SalvageExamples
+pub mod FollowTrace
+pub mod FollowCounts
+pub mod FollowSlots
+pub mod FollowLaws
+pub mod FollowExamples
 pub mod Decimal
 pub mod Readers
 pub mod JsonReader

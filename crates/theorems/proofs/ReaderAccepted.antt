@@ -96,10 +96,11 @@ held-blocks (a-record r ∷ is) m e = never (cc)
 held-blocks (no-item ∷ is) m e = never (cc)
 
 module _ (b : List ℕ) (m : Map) (e : read b ≡ holds m) where
+  -- the blocks are those of the items
+  pub read-blocks : finals-in (items (pieces b 0 0)) ≡ m .blocks
+  unfolding read
+  read-blocks = held-blocks (items (pieces b 0 0)) m (sym (ap (verdict (pieces b 0 0)) (none-bad b m e)) ∙ e)
+
   -- the starts of the blocks rise
   pub read-rises : Rising 0 (finals-at (m .blocks))
-  unfolding read
-  read-rises =
-      let none-bad-here = none-bad b m e in
-      subst (λ (fs : List Final). Rising 0 (finals-at fs))
-      (held-blocks (items (pieces b 0 0)) m (sym (ap (verdict (pieces b 0 0)) none-bad-here) ∙ e)) (later (pieces b 0 0) first none-bad-here)
+  read-rises = subst (λ (fs : List Final). Rising 0 (finals-at fs)) read-blocks (later (pieces b 0 0) first (none-bad b m e))

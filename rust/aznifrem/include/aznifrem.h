@@ -127,6 +127,26 @@ uint64_t aznifrem_report_join(uint8_t *report, size_t report_len, const uint8_t 
  * overlap the archive; one of length 0 still needs a pointer that is not NULL. */
 uint64_t aznifrem_salvage(const uint8_t *archive, size_t archive_len, uint8_t *out, size_t out_len,
                           uint8_t *report, size_t report_len);
+/* What aznifrem_follow gives in its lowest byte instead of 0 or AZNIFREM_BAD_ENTRY. */
+#define AZNIFREM_UNEVEN_LOG 14
+#define AZNIFREM_COUNT_ROOM 15
+
+/* The place of the first step that is not in the map, or the number of steps, of what aznifrem_follow gave with 0. */
+#define AZNIFREM_PLACE(given) ((uint64_t)((given) >> 8))
+
+/* Follows a log of program counters, 8 bytes each, little-endian, through a stored map of a code:
+ *
+ *   work    anything; where an index of the blocks fits, 16 bytes times one more than the last
+ *           block's start, a block is found in one step, else it is looked for
+ *   counts  8 bytes each: for each block its entries, then for each distinct destination of it
+ *           how often that edge was taken, in the answer's order
+ *
+ * Gives 0 and 256 times the place; or AZNIFREM_BAD_ENTRY and 256 times the offset of the first bad
+ * entry, AZNIFREM_UNEVEN_LOG, AZNIFREM_COUNT_ROOM, tested in that order: then nothing is touched. Else
+ * work is all zero bytes, and of counts the bytes behind the counts stay. No pointer may be NULL. */
+uint64_t aznifrem_follow(const uint8_t *map, size_t map_len, const uint8_t *code, size_t code_len,
+                         const uint8_t *log, size_t log_len, uint8_t *work, size_t work_len,
+                         uint8_t *counts, size_t counts_len);
 
 #ifdef __cplusplus
 }

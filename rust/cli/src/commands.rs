@@ -1,7 +1,7 @@
 //! The table: every command, in the order in which help names them. A new one is a line here.
 
 use crate::table::{Command, DEFAULT};
-use crate::{archive, completions, diff, help, man, maps, report, salvage, show, unpack};
+use crate::{archive, completions, diff, follow, help, man, maps, report, salvage, show, unpack};
 
 pub const ALL: &[Command] = &[
     maps::COMMAND,
@@ -11,6 +11,7 @@ pub const ALL: &[Command] = &[
     archive::COMMAND,
     salvage::COMMAND,
     unpack::COMMAND,
+    follow::COMMAND,
     completions::COMMAND,
     man::COMMAND,
     help::COMMAND,

@@ -7,6 +7,7 @@ mod completions;
 mod contracts;
 mod diff;
 mod files;
+mod follow;
 mod fresh;
 mod given;
 mod help;

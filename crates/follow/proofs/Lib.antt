@@ -1,0 +1,9 @@
+pub mod Going
+pub mod Placing
+pub mod Passing
+pub mod Moving
+pub mod Tallying
+pub mod Following
+pub mod Indexing
+pub mod Answering
+pub mod Once

@@ -1,0 +1,53 @@
+use Rattle.follow.proofs.Moving.{edge-walking, edge-few, edge-one, edge-sum, edge-takes, edge-nowhere, edge-not}
+use borrow.Author.Needs.{needs}
+use Rattle.follow.proofs.step.edge.Statement.{statement}
+use Rattle.follow.proofs.step.edge.Tie as tie
+
+seek-requires : tie.Need-seek-requires
+seek-requires c κs = search (edge-walking, edge-few)
+
+enum-known-n : tie.Need-enum-known-n
+enum-known-n c = search needs
+
+find-requires : tie.Need-find-requires
+find-requires c κs = search needs
+
+enum-known-to : tie.Need-enum-known-to
+enum-known-to c = search needs
+
+add-t15 : tie.Need-add-t15
+add-t15 c = search edge-one
+
+add-t16 : tie.Need-add-t16
+add-t16 c = search edge-sum
+
+enum-told : tie.Need-enum-told
+enum-told c = search needs
+
+enum-told-2 : tie.Need-enum-told-2
+enum-told-2 c = search needs
+
+returns : tie.Need-returns
+returns c = search edge-takes
+
+returns-2 : tie.Need-returns-2
+returns-2 c = search edge-nowhere
+
+returns-3 : tie.Need-returns-3
+returns-3 c = search edge-not
+
+pub edge-spec : {M : Type 1} → statement M
+edge-spec =
+    tie.close
+    (tie.spec
+    seek-requires
+    enum-known-n
+    find-requires
+    enum-known-to
+    add-t15
+    add-t16
+    enum-told
+    enum-told-2
+    returns
+    returns-2
+    returns-3)

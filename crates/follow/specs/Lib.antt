@@ -1,0 +1,6 @@
+pub mod Blocks
+pub mod Places
+pub mod Finding
+pub mod Stepping
+pub mod Walking
+pub mod Following

@@ -1,0 +1,112 @@
+// A block's destinations, one after the other: its static sides, then those of its 7s, "missing ones left out, in the answer's order".
+use crate::block::Named;
+use reader::Entry;
+use reader::Walk;
+use reader::next;
+ghost use mathlib.Core.Path.{_≡_};
+ghost use Prim.Native.Nat.{_≤_};
+ghost use Rattle.reader.specs.Walks.{Walking};
+ghost use Rattle.follow.specs.Blocks.{outOf, nextSeven, nextDest};
+
+// What stands for a missing destination in a 7.
+const MISSING: usize = 0x8000;
+
+// An entry as a 7 of the block: with its destination, with none, or no 7.
+pub enum Out {
+    To(usize),
+    Missing,
+    No,
+}
+
+// The next destination of the 7s, and the offset behind it.
+pub enum Seven {
+    To { to: usize, behind: usize },
+    Over,
+}
+
+// The next destination, and the others behind it.
+pub enum Dest {
+    To { to: usize, rest: Named },
+    Over,
+}
+
+// An entry's destination.
+fn out_of(e: Entry) -> Out
+    ensures { λ r. ⌜ r ≡ outOf e ⌝ }
+{
+    match e {
+        Entry::Way { to, .. } => {
+            if to == MISSING {
+                return Out::Missing;
+            }
+            Out::To(to)
+        }
+        Entry::Head { .. } => Out::No,
+        Entry::Terminate { .. } => Out::No,
+        Entry::Jump { .. } => Out::No,
+        Entry::Jumpi { .. } => Out::No,
+        Entry::DynamicJump { .. } => Out::No,
+        Entry::DynamicJumpi { .. } => Out::No,
+        Entry::Record { .. } => Out::No,
+        Entry::Unknown => Out::No,
+        Entry::Wrong => Out::No,
+        Entry::Cut => Out::No,
+    }
+}
+
+// The first destination of the 7s that come first from an offset on.
+fn seven_from(map: &[u8], from: usize) -> Seven
+    requires { ⌜ Walking (now map) from ⌝ }
+    ensures { λ r. ⌜ nextSeven (now (map .entry)) from r ⌝ }
+{
+    let mut at = from;
+    loop {
+        match next(map, at) {
+            Walk::Here { entry, behind } => match out_of(entry) {
+                Out::To(to) => {
+                    return Seven::To { to, behind };
+                }
+                Out::Missing => {
+                    at = behind;
+                }
+                Out::No => {
+                    return Seven::Over;
+                }
+            },
+            Walk::Over => {
+                return Seven::Over;
+            }
+        }
+    }
+}
+
+// The first of the destinations that are left.
+pub fn dest_of(map: &[u8], c: Named) -> Dest
+    requires { ⌜ (Walking (now map) (c .at)) × (c .many ≤ 2) ⌝ }
+    ensures { λ r. ⌜ nextDest (now (map .entry)) c r ⌝ }
+{
+    let at = c.at;
+    if c.many == 0 {
+        return match seven_from(map, at) {
+            Seven::To { to, behind } => Dest::To {
+                to,
+                rest: Named {
+                    many: 0,
+                    first: 0,
+                    second: 0,
+                    at: behind,
+                },
+            },
+            Seven::Over => Dest::Over,
+        };
+    }
+    Dest::To {
+        to: c.first,
+        rest: Named {
+            many: c.many - 1,
+            first: c.second,
+            second: 0,
+            at,
+        },
+    }
+}

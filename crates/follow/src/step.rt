@@ -1,0 +1,147 @@
+// One step of the log, from where the follower stands.
+// "the first step that isn't in the map"
+use crate::block::Block;
+use crate::find::Found;
+use crate::find::find;
+use crate::place::Place;
+use crate::place::seek;
+use evm::rows::size_of;
+ghost use mathlib.Core.Path.{_≡_};
+ghost use mathlib.Core.Bool.{_&&_};
+ghost use Prim.Native.Nat.{_+_, _<_};
+ghost use lib.Dec.{eqb, leb};
+ghost use lib.ListN.{length};
+ghost use Rattle.spec.specs.Opcodes.{row};
+ghost use Rattle.spec.specs.Follow.{size-at};
+ghost use Rattle.follow.specs.Blocks.{finalsAt};
+ghost use Rattle.follow.specs.Finding.{Ready, Index};
+ghost use Rattle.follow.specs.Stepping.{Stood, Standing, BeginsSo, EdgeSo, InsideSo, StepsSo};
+
+// Before the log's first step; or behind a step at pc, in a block with its count's place.
+pub enum Stand {
+    Outside,
+    Inside {
+        block: Block,
+        slot: usize,
+        pc: usize,
+    },
+}
+
+// What a step does: it is not in the map; it goes on in the block; it begins, with a block; it takes an edge, with the place of its count, and enters a block.
+pub enum Move {
+    No,
+    Stays {
+        block: Block,
+        slot: usize,
+    },
+    Begins {
+        block: Block,
+        slot: usize,
+    },
+    Takes {
+        edge: usize,
+        block: Block,
+        slot: usize,
+    },
+}
+
+// The log's first step. "A log not starting at 0 stops at its first step".
+fn begin(map: &[u8], work: &[u8], rows: usize, q: usize) -> Move
+    requires { ⌜ Ready (now map) ⌝ }
+    requires { ⌜ Index (now map) (now work) rows ⌝ }
+    ensures { λ r. ⌜ BeginsSo (now (map .entry)) q r ⌝ }
+{
+    if q != 0 {
+        return Move::No;
+    }
+    match find(map, work, rows, 0) {
+        Found::At { block, slot } => Move::Begins { block, slot },
+        Found::Nowhere => Move::No,
+    }
+}
+
+// A step behind a block's end: by an edge of it, to a block.
+fn edge(map: &[u8], work: &[u8], rows: usize, block: Block, slot: usize, q: usize) -> Move
+    requires { ⌜ Ready (now map) ⌝ }
+    requires { ⌜ Index (now map) (now work) rows ⌝ }
+    requires { ⌜ Stood (now map) block slot ⌝ }
+    ensures { λ r. ⌜ EdgeSo (now (map .entry)) block slot q r ⌝ }
+{
+    let c = block.named;
+    match seek(map, c, false, q) {
+        Place::At(n) => match find(map, work, rows, q) {
+            Found::At {
+                block: to,
+                slot: next,
+            } => Move::Takes {
+                edge: slot + 1 + n,
+                block: to,
+                slot: next,
+            },
+            Found::Nowhere => Move::No,
+        },
+        Place::Not(_) => Move::No,
+    }
+}
+
+// The size of an instruction, by its byte.
+fn size(op: u8) -> usize
+    ensures { λ r. ⌜ r ≡ row op .size ⌝ }
+{
+    size_of(op)
+}
+
+// Whether q is the instruction behind the one at pc, and not beyond the block's end.
+fn goes_on(code: &[u8], pc: usize, q: usize, end: usize) -> bool
+    requires { ⌜ pc < length (now code) ⌝ }
+    ensures { λ r. ⌜ r ≡ (eqb q (pc + size-at (now (code .entry)) pc) && leb q end) ⌝ }
+{
+    if q < pc {
+        return false;
+    }
+    if q - pc != size(code[pc]) {
+        return false;
+    }
+    q <= end
+}
+
+// A step from a pc of a block; nothing follows one past the code's end.
+fn inside(
+    map: &[u8],
+    work: &[u8],
+    rows: usize,
+    code: &[u8],
+    block: Block,
+    slot: usize,
+    pc: usize,
+    q: usize,
+) -> Move
+    requires { ⌜ Ready (now map) ⌝ }
+    requires { ⌜ Index (now map) (now work) rows ⌝ }
+    requires { ⌜ Stood (now map) block slot ⌝ }
+    ensures { λ r. ⌜ InsideSo (now (map .entry)) (now (code .entry)) block slot pc q r ⌝ }
+{
+    if code.len() <= pc {
+        return Move::No;
+    }
+    if pc == block.end {
+        return edge(map, work, rows, block, slot, q);
+    }
+    if goes_on(code, pc, q, block.end) {
+        return Move::Stays { block, slot };
+    }
+    Move::No
+}
+
+// A step, from wherever.
+pub fn step(map: &[u8], work: &[u8], rows: usize, code: &[u8], s: Stand, q: usize) -> Move
+    requires { ⌜ Ready (now map) ⌝ }
+    requires { ⌜ Index (now map) (now work) rows ⌝ }
+    requires { ⌜ Standing (now map) s ⌝ }
+    ensures { λ r. ⌜ StepsSo (now (map .entry)) (now (code .entry)) s q r ⌝ }
+{
+    match s {
+        Stand::Outside => begin(map, work, rows, q),
+        Stand::Inside { block, slot, pc } => inside(map, work, rows, code, block, slot, pc, q),
+    }
+}
