@@ -23,7 +23,7 @@ four = as-eights (4 ∷ 4 ∷ 5 ∷ 0 ∷ 3 ∷ 0 ∷ 1 ∷ 1 ∷ 1 ∷ 4 ∷ 0 
 abbrev nearly : ℕ → List ℕ
 nearly e = as-eights (replicate 12 0 ++ e ∷ 0 ∷ 1 ∷ [])
 
--- dynamic blocks of which one more fits, and no other
+-- dynamic blocks up to the last that fit
 abbrev crowded : ℕ → List ℕ
 crowded n = as-eights (replicate 6 0 ++ n ∷ 2 ^ 63 ∷ replicate 7 0)
 

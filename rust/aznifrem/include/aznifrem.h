@@ -77,10 +77,10 @@ uint64_t aznifrem_json(uint64_t limit, const uint8_t *code, size_t code_len,
 #define AZNIFREM_OUT_BYTES(n) ((size_t)((n) & 0xffffffffu))
 #define AZNIFREM_TEXT_BYTES(n) ((size_t)((n) >> 32))
 
-/* What aznifrem_read gives in its lowest byte instead of 0. */
+/* What aznifrem_read and aznifrem_report_add give in their lowest byte instead of 0. */
 #define AZNIFREM_BAD_ENTRY 12
 
-/* Where the first bad entry begins, of what aznifrem_read gave. */
+/* Where the first bad entry begins, of what aznifrem_read or aznifrem_report_add gave. */
 #define AZNIFREM_OFFSET(given) ((size_t)((given) >> 8))
 
 /* Reads an answer back that was stored: gives 0 if the bytes hold one, else AZNIFREM_BAD_ENTRY and
@@ -88,8 +88,8 @@ uint64_t aznifrem_json(uint64_t limit, const uint8_t *code, size_t code_len,
  * offset 0. Nothing is written. A map of length 0 still needs a pointer that is not NULL. */
 uint64_t aznifrem_read(const uint8_t *map, size_t map_len);
 
-/* A report over stored maps: 15 numbers of 8 bytes, little-endian. All zero bytes are a report of
- * no maps.
+/* A report over stored maps: 15 numbers of 8 bytes, little-endian. All zero bytes are taken as
+ * a report of no maps; the first call that is not refused writes its share.
  *
  *    0 maps                    6 dynamic blocks without destination    11 longest path
  *    1 Terminate               7 with one                              12 energy
@@ -105,7 +105,8 @@ uint64_t aznifrem_read(const uint8_t *map, size_t map_len);
 
 /* Adds a stored map to a report: gives 0; or AZNIFREM_BAD_ENTRY and 256 times the offset of the
  * map's first bad entry; or AZNIFREM_TOTAL_TOO_LARGE. On a refusal the report is untouched; else
- * its bytes behind the first AZNIFREM_REPORT_BYTES are. The two may not overlap. */
+ * its bytes behind the first AZNIFREM_REPORT_BYTES are. The two may not overlap. One of length 0
+ * still needs a pointer that is not NULL. */
 uint64_t aznifrem_report_add(uint8_t *report, size_t report_len, const uint8_t *map, size_t map_len);
 
 /* Joins another report to a report, which is then that of all their maps: gives 0, or
@@ -127,6 +128,7 @@ uint64_t aznifrem_report_join(uint8_t *report, size_t report_len, const uint8_t 
  * overlap the archive; one of length 0 still needs a pointer that is not NULL. */
 uint64_t aznifrem_salvage(const uint8_t *archive, size_t archive_len, uint8_t *out, size_t out_len,
                           uint8_t *report, size_t report_len);
+
 /* What aznifrem_follow gives in its lowest byte instead of 0 or AZNIFREM_BAD_ENTRY. */
 #define AZNIFREM_UNEVEN_LOG 14
 #define AZNIFREM_COUNT_ROOM 15
@@ -143,7 +145,8 @@ uint64_t aznifrem_salvage(const uint8_t *archive, size_t archive_len, uint8_t *o
  *
  * Gives 0 and 256 times the place; or AZNIFREM_BAD_ENTRY and 256 times the offset of the first bad
  * entry, AZNIFREM_UNEVEN_LOG, AZNIFREM_COUNT_ROOM, tested in that order: then nothing is touched. Else
- * work is all zero bytes, and of counts the bytes behind the counts stay. No pointer may be NULL. */
+ * work is all zero bytes, and of counts the bytes behind the counts stay. work and counts may not overlap each other, nor map,
+ * code or log. No pointer may be NULL. */
 uint64_t aznifrem_follow(const uint8_t *map, size_t map_len, const uint8_t *code, size_t code_len,
                          const uint8_t *log, size_t log_len, uint8_t *work, size_t work_len,
                          uint8_t *counts, size_t counts_len);

@@ -81,11 +81,16 @@ impl Followed {
         let mut counts: Vec<Counts> = held.blocks.values().map(untaken).collect();
         let room: usize = counts.iter().map(|block| 1 + block.edges.len()).sum();
         let mut bytes = vec![0; 8 * room];
-        // An index of the blocks, so that a step costs the same however large the map is.
+        // An index of the blocks: one is found in a step, however large the map is.
         let rows = held.blocks.keys().next_back().map_or(0, |last| last + 1);
         let log: Vec<u8> = steps.iter().flat_map(|step| step.to_le_bytes()).collect();
         let given = exported::aznifrem_follow(map, code, &log, &mut vec![0; 16 * rows], &mut bytes);
         let given = given.map_err(NotFollowed::NotRelayed)?;
+        assert_eq!(
+            given & 0xff,
+            0,
+            "the map is read and the room is counted from it"
+        );
         let mut numbers = bytes
             .chunks_exact(8)
             .map(|eight| u64::from_le_bytes(eight.try_into().unwrap_or_default()));

@@ -19,12 +19,10 @@
 //! ```
 //!
 //! A [`Mapper`] keeps its memory between calls; [`Map::from_bytes`] reads a map that was stored;
-//! [`Mapper::json`] gives the blocks as JSON; a [`Report`] adds up many stored maps; [`call`], [`call_json`],
-//! [`read()`], [`report_add`] and [`report_join`] are the library's own calls, for those who lend the memory
-//! themselves.
-//! [`Mapper::json`] gives the blocks as JSON; [`Salvaged::of`] salvages an archive of stored maps;
-//! [`call`], [`call_json`], [`read()`] and [`salvage()`] are the library's own calls, for those who
-//! lend the memory themselves.
+//! [`Mapper::json`] gives the blocks as JSON; a [`Report`] adds up many stored maps; [`Salvaged::of`]
+//! salvages an archive of them; [`Followed::of`] follows a log through one. [`call`], [`call_json`],
+//! [`read()`], [`report_add`], [`report_join`], [`salvage()`] and [`follow()`] are the library's own
+//! calls, for those who lend the memory themselves.
 
 #![warn(missing_docs)]
 

@@ -2,7 +2,7 @@
 
 use std::fmt;
 
-use crate::error::{NotRelayed, Unreadable};
+use crate::error::{Error, NotRelayed, Unreadable};
 use crate::exported;
 use crate::fault::fault;
 
@@ -10,6 +10,7 @@ use crate::fault::fault;
 pub const REPORT_BYTES: usize = 120;
 
 const BAD_ENTRY: u64 = 12;
+const TOTAL_TOO_LARGE: u64 = 16;
 
 /// The totals of stored maps. A new one, of no maps, is [`Report::default`].
 ///
@@ -65,6 +66,11 @@ pub enum NotReported {
     NoMap(Unreadable),
     /// A total would not fit 64 bits (16).
     TooLarge,
+    /// The linked library gave a number that document 02 does not have.
+    NoSuchAnswer {
+        /// The number.
+        number: u64,
+    },
     /// The library could not be reached.
     NotRelayed(NotRelayed),
 }
@@ -72,14 +78,23 @@ pub enum NotReported {
 impl fmt::Display for NotReported {
     fn fmt(&self, f: &mut fmt::Formatter<'_>) -> fmt::Result {
         match self {
-            NotReported::NoMap(bad) => write!(f, "is no stored map: {bad}"),
+            NotReported::NoMap(bad) => write!(f, "the bytes are no stored map: {bad}"),
             NotReported::TooLarge => f.write_str("a total of the report would not fit 64 bits"),
-            NotReported::NotRelayed(why) => write!(f, "{why}"),
+            NotReported::NoSuchAnswer { number } => Error::NoSuchAnswer { number: *number }.fmt(f),
+            NotReported::NotRelayed(why) => why.fmt(f),
         }
     }
 }
 
-impl std::error::Error for NotReported {}
+impl std::error::Error for NotReported {
+    fn source(&self) -> Option<&(dyn std::error::Error + 'static)> {
+        match self {
+            NotReported::NoMap(bad) => Some(bad),
+            NotReported::NotRelayed(why) => Some(why),
+            _ => None,
+        }
+    }
+}
 
 impl From<NotRelayed> for NotReported {
     fn from(why: NotRelayed) -> NotReported {
@@ -101,25 +116,30 @@ impl Report {
     pub fn add(&mut self, map: &[u8]) -> Result<(), NotReported> {
         let mut bytes = self.to_bytes();
         match exported::aznifrem_report_add(&mut bytes, map)? {
-            0 => *self = Report::from_bytes(&bytes),
             number if number & 0xff == BAD_ENTRY => {
                 let offset = (number >> 8) as usize;
                 let fault = fault(map, offset);
-                return Err(NotReported::NoMap(Unreadable { offset, fault }));
+                Err(NotReported::NoMap(Unreadable { offset, fault }))
             }
-            _ => return Err(NotReported::TooLarge),
+            number => self.take(number, &bytes),
         }
-        Ok(())
     }
 
     /// Joins the report of other maps: it is then the report of all of them, in whatever order
     /// they were added. On an error the report is as before.
     pub fn join(&mut self, other: &Report) -> Result<(), NotReported> {
         let mut bytes = self.to_bytes();
-        if exported::aznifrem_report_join(&mut bytes, &other.to_bytes())? != 0 {
-            return Err(NotReported::TooLarge);
+        let number = exported::aznifrem_report_join(&mut bytes, &other.to_bytes())?;
+        self.take(number, &bytes)
+    }
+
+    /// The report that a call wrote, if its number says that it did.
+    fn take(&mut self, number: u64, bytes: &[u8; REPORT_BYTES]) -> Result<(), NotReported> {
+        match number {
+            0 => *self = Report::from_bytes(bytes),
+            TOTAL_TOO_LARGE => return Err(NotReported::TooLarge),
+            _ => return Err(NotReported::NoSuchAnswer { number }),
         }
-        *self = Report::from_bytes(&bytes);
         Ok(())
     }
 
@@ -184,7 +204,7 @@ impl Report {
         bytes
     }
 
-    /// The report that bytes are.
+    /// The report that bytes are; all zero bytes are [`Report::default`].
     pub fn from_bytes(bytes: &[u8; REPORT_BYTES]) -> Report {
         let mut numbers = [0; 15];
         for (number, eight) in numbers.iter_mut().zip(bytes.chunks_exact(8)) {
@@ -192,6 +212,9 @@ impl Report {
                 .iter()
                 .rev()
                 .fold(0, |n, byte| n << 8 | u64::from(*byte));
+        }
+        if numbers == [0; 15] {
+            return Report::default();
         }
         Report::from_numbers(numbers)
     }
@@ -231,5 +254,26 @@ fn reached(given: Result<u64, NotRelayed>) -> u64 {
     match given {
         Ok(number) => number,
         Err(not_relayed) => panic!("{not_relayed}"),
+    }
+}
+
+#[cfg(test)]
+mod tests {
+    use super::{NotReported, Report};
+
+    #[test]
+    fn a_number_that_is_no_answer_is_told_and_changes_nothing() {
+        let (mut report, written) = (Report::default(), [1; 120]);
+        assert_eq!(report.take(16, &written), Err(NotReported::TooLarge));
+        for number in [1, 11, 17, 16 + 256] {
+            let told = report.take(number, &written);
+            assert_eq!(told, Err(NotReported::NoSuchAnswer { number }));
+            let sentence = told.unwrap_err().to_string();
+            assert!(
+                sentence.contains(&format!("answered {number}, which is no answer")),
+                "{sentence}"
+            );
+        }
+        assert_eq!(report, Report::default());
     }
 }

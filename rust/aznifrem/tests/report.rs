@@ -1,5 +1,7 @@
 //! Reports: what a map adds, that joining is adding, and what a refusal leaves.
 
+use std::error::Error;
+
 use aznifrem::{Mapper, NotReported, Report, report_add, report_join};
 
 const RETURN: [u8; 9] = [0x60, 5, 0x60, 7, 0x56, 0x5b, 0x00, 0x5b, 0x56];
@@ -24,6 +26,7 @@ fn a_map_adds_its_numbers() {
     let numbers = report(&[&RETURN, &NOWHERE]).numbers();
     assert_eq!(numbers, [2, 1, 2, 0, 1, 0, 1, 0, 0, 1, 0, 2, 2, 1, 1]);
     assert_eq!(report(&[]), Report::default());
+    assert_eq!(Report::from_bytes(&[0; 120]), Report::default());
     assert_eq!(report(&[&RETURN]).share, (0, 1));
 }
 
@@ -51,7 +54,15 @@ fn a_refusal_leaves_the_report() {
     assert_eq!(full.join(&before), Err(NotReported::TooLarge));
     let cut = &map(&RETURN)[..70];
     match full.add(cut) {
-        Err(NotReported::NoMap(bad)) => assert_eq!(bad.offset, 53),
+        Err(why) => {
+            let sentence = why.to_string();
+            assert!(
+                sentence.starts_with("the bytes are no stored map: "),
+                "{sentence}"
+            );
+            let bad = why.source().expect("the first bad entry");
+            assert!(bad.to_string().contains("byte 53"), "{bad}");
+        }
         given => panic!("a cut map gives {given:?}"),
     }
     assert_eq!(full, before);

@@ -1,5 +1,6 @@
 //! `aznifrem archive FOLDER OUT`: the stored maps of a folder, one after another in one file.
 
+use std::fs;
 use std::io::Write;
 use std::path::Path;
 
@@ -7,6 +8,7 @@ use crate::files::{Kind, beneath};
 use crate::fresh::Fresh;
 use crate::names::shown;
 use crate::outcome::{Outcome, tell};
+use crate::refused::unfinished;
 use crate::stored;
 use crate::table::{Command, Operand, Stop};
 
@@ -22,10 +24,14 @@ pub const COMMAND: Command = Command {
     exits: &[
         (0, "the archive is made"),
         (1, "a map is unreadable, or there is none"),
-        (2, "OUT cannot be written"),
+        (
+            2,
+            "the folder is not there, its night is unfinished, or OUT cannot be written or lies in it",
+        ),
     ],
     examples: &[("A night's maps", "aznifrem archive tonight tonight.maps")],
     run: |given, out| {
+        given.without_dash()?;
         let [folder, to] = &given.operands[..] else {
             return Err(Stop::Asked(COMMAND.takes.into()));
         };
@@ -34,6 +40,9 @@ pub const COMMAND: Command = Command {
 };
 
 fn run(folder: &Path, to: &Path, out: &mut dyn Write) -> Result<Outcome, Stop> {
+    if let Some(sentence) = unfit(folder, to) {
+        return Ok(wrong(&sentence));
+    }
     let found = beneath(folder, Kind::Maps);
     let mut faults = found.faults;
     if found.files.is_empty() && faults.is_empty() {
@@ -65,6 +74,23 @@ fn run(folder: &Path, to: &Path, out: &mut dyn Write) -> Result<Outcome, Stop> {
     }
     writeln!(out, "maps: {}, bytes: {bytes}", found.files.len())?;
     Ok(Outcome::Fine)
+}
+
+/// Why no archive is made of this folder there.
+fn unfit(folder: &Path, to: &Path) -> Option<String> {
+    if let Err(error) = fs::metadata(folder) {
+        return Some(stored::unreadable(folder, &error));
+    }
+    unfinished(folder).or_else(|| within(folder, to))
+}
+
+/// An archive among the maps would be taken for one of them the next time.
+fn within(folder: &Path, to: &Path) -> Option<String> {
+    let parent = to.parent().filter(|parent| !parent.as_os_str().is_empty());
+    let parent = fs::canonicalize(parent.unwrap_or(Path::new("."))).ok()?;
+    let inside = parent.starts_with(fs::canonicalize(folder).ok()?);
+    let sentence = "lies in the folder that is archived: give a file outside of it";
+    inside.then(|| format!("{}: {sentence}", shown(to)))
 }
 
 fn wrong(sentence: &str) -> Outcome {

@@ -5,6 +5,7 @@ use std::io::Write;
 
 use crate::commands;
 use crate::given::Given;
+use crate::names::shown;
 use crate::outcome::Outcome;
 use crate::table::{Command, DEFAULT, Of, Operand, Opt, Stop, Times};
 
@@ -43,7 +44,7 @@ fn run(given: &Given, out: &mut dyn Write) -> Result<Outcome, Stop> {
         Some("zsh") => zsh(),
         Some("fish") => fish(),
         _ => {
-            let wrong = format!("{}, not '{}'", COMMAND.takes, shell.display());
+            let wrong = format!("{}, not '{}'", COMMAND.takes, shown(shell));
             return Err(Stop::Asked(wrong));
         }
     };

@@ -9,7 +9,7 @@ use aznifrem::Map;
 use compare::{Coded, Judged, Totals, judge, judge_coded, judge_matched, judge_matched_coded};
 
 use crate::files::{Kind, Named, beneath};
-use crate::given::Given;
+use crate::given::{Given, no_dash};
 use crate::input;
 use crate::names::shown;
 use crate::nights::Nights;
@@ -104,10 +104,35 @@ pub const COMMAND: Command = Command {
     ],
     run: |given, out| {
         let setting = Setting::asked(given)?;
+        given.without_dash()?;
+        if let Some(sentence) = given.path("--html").map_or(Ok(None), no_page)? {
+            tell(&sentence);
+            return Ok(Outcome::Wrong);
+        }
         let [old, new] = [&given.operands[0], &given.operands[1]];
         Ok(run(old, new, &setting, wanted(given), out)?)
     },
 };
+
+/// Why no page is written there: it takes the place of what stands there, and a map is not lost so.
+fn no_page(page: &Path) -> Result<Option<String>, Stop> {
+    if page.as_os_str().is_empty() {
+        let wrong = "--html takes a file, and its name is empty";
+        return Err(Stop::Asked(wrong.into()));
+    }
+    no_dash("--html", page)?;
+    let map = page.extension().is_some_and(|ending| ending == "map");
+    let why = if page.is_dir() {
+        "is a folder, and --html takes a file"
+    } else if map {
+        "is no name of a page: what ends in .map is a stored map"
+    } else if page.is_file() && stored::read(page).is_ok() {
+        "is a stored map, and no page is written over it"
+    } else {
+        return Ok(None);
+    };
+    Ok(Some(format!("{}: {why}", shown(page))))
+}
 
 fn wanted(given: &Given) -> Wanted {
     let form = match given.last(&["--json", "--dot"]) {

@@ -1,11 +1,14 @@
 //! `aznifrem follow`: a log of program counters, followed through a stored map.
 
+use std::fmt;
 use std::fs;
 use std::io::{self, IsTerminal, Read, Write};
-use std::path::Path;
+use std::path::{Path, PathBuf};
+use std::sync::mpsc::RecvTimeoutError;
 use std::time::{Duration, Instant};
 
-use aznifrem::{Block, BlockType, Counts, Followed, Map};
+use aznifrem::{Block, BlockType, Counts, Followed, Map, NotFollowed};
+use compare::{NotTheCode, quoted};
 
 use crate::input::{self, Form};
 use crate::names::shown;
@@ -22,23 +25,38 @@ pub const COMMAND: Command = Command {
         Operand::path("LOG"),
     ],
     takes: "follow takes a stored map, its code, and a log of program counters, 8 bytes each",
-    groups: &[Group {
-        heading: "What comes out (the first is the default)",
-        options: &[
-            Opt::flag("--summary", "blocks and edges by start, with their counts"),
-            Opt::flag("--hottest", "the same, the most entered first"),
-            Opt::flag("--json", "the same as JSON, on a line"),
-            Opt::flag("--dot", "the same for Graphviz, redder the more often"),
-        ],
-    }],
+    groups: &[
+        Group {
+            heading: "What comes out (the first is the default)",
+            options: &[
+                Opt::flag("--summary", "blocks and edges by start, with their counts"),
+                Opt::flag("--hottest", "the same, the most entered first"),
+                Opt::flag(
+                    "--json",
+                    "the same as JSON, on a line; left has the step that is not in the map, or is null",
+                ),
+                Opt::flag("--dot", "the same for Graphviz, redder the more often"),
+            ],
+        },
+        Group {
+            heading: "Options",
+            options: &[
+                Opt::flag("--hex", "the code's file holds hexadecimal digits"),
+                Opt::flag("--binary", "the code's file holds the bytes themselves"),
+            ],
+        },
+    ],
     notes: &[
-        "A log is a file of numbers of 8 bytes, little-endian; - for standard input.",
-        "The code is a file of hexadecimal digits or of bytes, as for map.",
+        "A log is a file of numbers of 8 bytes, little-endian; - for standard input. It has the counter of every instruction, begins at 0, and is one run.",
+        "The code is a file of hexadecimal digits or of bytes, as for map. One of another length than the map's is refused; another code of the same length is not told apart.",
     ],
     exits: &[
         (0, "all steps are in the map"),
         (1, "one is not"),
-        (2, "map, code or log cannot be read"),
+        (
+            2,
+            "map, code or log cannot be read, or the code is not the map's",
+        ),
     ],
     examples: &[(
         "A night's log",
@@ -46,12 +64,33 @@ pub const COMMAND: Command = Command {
     )],
     run: |given, out| {
         let print = given.last(&["--summary", "--hottest", "--json", "--dot"]);
-        run(&given.operands, print.unwrap_or("--summary"), out)
+        let form = Form::asked(given);
+        run(&given.operands, form, print.unwrap_or("--summary"), out)
     },
 };
 
+/// Steps of a long log's beginning.
+const BEGINNING: usize = 1 << 20;
+const WIDTH: usize = 30;
 /// Between two lines on a terminal.
 const PAUSE: Duration = Duration::from_millis(300);
+
+/// The first step that is not in the map, and what may stand in its place.
+struct Left {
+    place: usize,
+    counter: u64,
+    expected: String,
+}
+
+impl fmt::Display for Left {
+    fn fmt(&self, f: &mut fmt::Formatter) -> fmt::Result {
+        let (place, counter, expected) = (self.place, self.counter, &self.expected);
+        write!(
+            f,
+            "step {place}, at {counter}, is not in the map; {expected}"
+        )
+    }
+}
 
 /// What one run has.
 struct Run {
@@ -61,11 +100,16 @@ struct Run {
     followed: Followed,
 }
 
-fn run(operands: &[std::path::PathBuf], print: &str, out: &mut dyn Write) -> Result<Outcome, Stop> {
+fn run(
+    operands: &[PathBuf],
+    form: Form,
+    print: &str,
+    out: &mut dyn Write,
+) -> Result<Outcome, Stop> {
     let [map, code, log] = operands else {
         return Err(Stop::Asked(COMMAND.takes.into()));
     };
-    let run = match followed(map, code, log) {
+    let run = match followed(map, code, log, form) {
         Ok(run) => run,
         Err(sentence) => {
             tell(&sentence);
@@ -80,17 +124,18 @@ fn run(operands: &[std::path::PathBuf], print: &str, out: &mut dyn Write) -> Res
     out.write_all(text.as_bytes())?;
     match run.left() {
         None => Ok(Outcome::Fine),
-        Some(sentence) => {
+        Some(left) => {
             out.flush()?;
-            tell(&format!("{}: {sentence}", shown(log)));
+            tell(&format!("{}: {left}", shown(log)));
             Ok(Outcome::Found)
         }
     }
 }
 
-fn followed(map: &Path, code: &Path, log: &Path) -> Result<Run, String> {
+fn followed(map: &Path, code: &Path, log: &Path, form: Form) -> Result<Run, String> {
     let stored = stored::read(map)?;
-    let code = input::code(code, Form::ToldApart)?;
+    let named = |sentence| format!("{}: {sentence}", shown(code));
+    let code = code_of(&stored.map, code, form).map_err(named)?;
     let bytes = log_bytes(log).map_err(|error| stored::unreadable(log, &error))?;
     if !bytes.len().is_multiple_of(8) {
         return Err(format!(
@@ -101,7 +146,7 @@ fn followed(map: &Path, code: &Path, log: &Path) -> Result<Run, String> {
     }
     let eight = |eight: &[u8]| u64::from_le_bytes(eight.try_into().unwrap_or_default());
     let steps: Vec<u64> = bytes.chunks_exact(8).map(eight).collect();
-    let followed = waited(steps.len(), || Followed::of(&stored.bytes, &code, &steps));
+    let followed = with_a_bar(&stored.bytes, &code, &steps);
     let followed = followed.map_err(|error| format!("{}: {error}", shown(map)))?;
     let map = stored.map;
     Ok(Run {
@@ -112,24 +157,65 @@ fn followed(map: &Path, code: &Path, log: &Path) -> Result<Run, String> {
     })
 }
 
-/// Says on a terminal how long a long log has been followed: the library's call is one, and has no half.
-fn waited<T: Send>(steps: usize, work: impl FnOnce() -> T + Send) -> T {
-    if !io::stderr().is_terminal() {
-        return work();
+/// The code of a map, as far as its length tells.
+fn code_of(map: &Map, code: &Path, form: Form) -> Result<Vec<u8>, String> {
+    let bytes = input::code(code, form)?;
+    if bytes.len() != map.code_length {
+        let (code, map) = (bytes.len(), map.code_length);
+        return Err(NotTheCode::Length { code, map }.to_string());
     }
+    Ok(bytes)
+}
+
+/// Follows a log; on a terminal a long one has a bar. The library's call is one and tells nothing on its way, so the
+/// log's beginning is followed first, and tells how long the whole will take.
+fn with_a_bar(map: &[u8], code: &[u8], steps: &[u64]) -> Result<Followed, NotFollowed> {
+    let dumb = std::env::var_os("TERM").is_some_and(|term| term == "dumb");
+    if steps.len() < 2 * BEGINNING || dumb || !io::stderr().is_terminal() {
+        return Followed::of(map, code, steps);
+    }
+    let begun = Instant::now();
+    let first = Followed::of(map, code, &steps[..BEGINNING])?;
+    // Where the beginning leaves the map, the whole log does, with the same counts (`moves-prefix`, `follow-is`).
+    if first.place < BEGINNING as u64 {
+        return Ok(first);
+    }
+    let wanted = begun
+        .elapsed()
+        .mul_f64(steps.len() as f64 / BEGINNING as f64);
     std::thread::scope(|scope| {
         let (sender, receiver) = std::sync::mpsc::channel();
-        scope.spawn(move || sender.send(work()));
+        scope.spawn(move || sender.send(Followed::of(map, code, steps)));
         let begun = Instant::now();
         loop {
-            if let Ok(done) = receiver.recv_timeout(PAUSE) {
-                eprint!("\r\x1b[K");
-                return done;
+            match receiver.recv_timeout(PAUSE) {
+                Ok(done) => {
+                    draw("");
+                    return done;
+                }
+                Err(RecvTimeoutError::Timeout) => {
+                    let share = begun.elapsed().as_secs_f64() / wanted.as_secs_f64();
+                    draw(&bar(share, steps.len()));
+                }
+                Err(RecvTimeoutError::Disconnected) => {
+                    panic!("the follower ended without an answer")
+                }
             }
-            let seconds = begun.elapsed().as_secs_f64();
-            eprint!("\rfollowing {steps} steps, {seconds:.1} s\x1b[K");
         }
     })
+}
+
+/// A bar that cannot be drawn is no reason to stop.
+fn draw(line: &str) {
+    let _ = write!(io::stderr(), "\r{line}\x1b[K");
+}
+
+/// How far a log is by the clock, as a guess: never quite at its end.
+fn bar(share: f64, steps: usize) -> String {
+    let percent = (share * 100.0).clamp(0.0, 99.0) as usize;
+    let filled = percent * WIDTH / 100;
+    let (done, left) = ("#".repeat(filled), ".".repeat(WIDTH - filled));
+    format!("[{done}{left}] about {percent} % of {steps} steps")
 }
 
 fn log_bytes(log: &Path) -> io::Result<Vec<u8>> {
@@ -142,13 +228,14 @@ fn log_bytes(log: &Path) -> io::Result<Vec<u8>> {
 
 impl Run {
     /// Where the log leaves the map, and what was expected there.
-    fn left(&self) -> Option<String> {
+    fn left(&self) -> Option<Left> {
         let place = usize::try_from(self.followed.place).ok()?;
-        let step = self.steps.get(place)?;
-        Some(format!(
-            "step {place}, at {step}, is not in the map; {}",
-            self.expected(place)
-        ))
+        let counter = *self.steps.get(place)?;
+        Some(Left {
+            place,
+            counter,
+            expected: self.expected(place),
+        })
     }
 
     /// What may come behind the steps before a place.
@@ -180,6 +267,10 @@ impl Run {
             .filter(|(to, _)| self.map.blocks.contains_key(to));
         let known: Vec<String> = known.map(|(to, _)| to.to_string()).collect();
         match known.as_slice() {
+            [] if dynamic(&block.btype) => format!(
+                "the map knows no destination of the block {}-{}",
+                block.start, block.end
+            ),
             [] => format!("nothing follows the block {}-{}", block.start, block.end),
             all => format!(
                 "behind the block {}-{} comes {}",
@@ -213,6 +304,13 @@ fn size(byte: u8) -> usize {
     }
 }
 
+fn dynamic(btype: &BlockType) -> bool {
+    matches!(
+        btype,
+        BlockType::DynamicJump { .. } | BlockType::DynamicJumpi { .. }
+    )
+}
+
 fn kind(btype: &BlockType) -> &'static str {
     match btype {
         BlockType::Terminate { .. } => "Terminate",
@@ -228,11 +326,13 @@ fn summary(run: &Run, hottest: bool) -> String {
     if hottest {
         counts.sort_by_key(|counts| std::cmp::Reverse(counts.entered));
     }
-    let entered: u64 = counts.iter().map(|counts| counts.entered).sum();
+    let entries: u64 = counts.iter().map(|counts| counts.entered).sum();
+    let entered = counts.iter().filter(|counts| counts.entered > 0).count();
     let mut text = format!(
-        "steps {}, in the map {}; blocks entered {entered}\n",
+        "steps {}, in the map {}; block entries {entries}; blocks entered {entered} of {}\n",
         run.steps.len(),
-        run.followed.place
+        run.followed.place,
+        run.map.blocks.len()
     );
     for counts in counts {
         let block = &run.map.blocks[&counts.start];
@@ -264,8 +364,12 @@ fn json(run: &Run) -> String {
         )
     });
     let blocks: Vec<String> = blocks.collect();
+    let left = run.left().map_or("null".into(), |left| {
+        let (counter, expected) = (left.counter, quoted(&left.expected));
+        format!("{{\"counter\":{counter},\"expected\":{expected}}}")
+    });
     format!(
-        "{{\"steps\":{},\"place\":{},\"blocks\":[{}]}}\n",
+        "{{\"steps\":{},\"place\":{},\"left\":{left},\"blocks\":[{}]}}\n",
         run.steps.len(),
         run.followed.place,
         blocks.join(",")
@@ -303,4 +407,17 @@ fn dot(run: &Run) -> String {
         }
     }
     text + "}\n"
+}
+
+#[cfg(test)]
+mod tests {
+    use super::bar;
+
+    #[test]
+    fn a_bar_fills_and_never_ends() {
+        assert!(bar(0.0, 10).starts_with("[......"));
+        assert_eq!(bar(0.5, 10).matches('#').count(), 15);
+        assert_eq!(bar(7.0, 10).matches('#').count(), 29);
+        assert!(bar(7.0, 10).ends_with("about 99 % of 10 steps"));
+    }
 }

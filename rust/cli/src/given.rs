@@ -14,7 +14,23 @@ pub struct Given {
     pub operands: Vec<PathBuf>,
 }
 
+/// Refuses - where it is not standard input.
+pub fn no_dash(command: &str, path: &Path) -> Result<(), Stop> {
+    if path != Path::new("-") {
+        return Ok(());
+    }
+    let sentence =
+        "takes files and folders by name, not standard input; a file of that name is './-'";
+    Err(Stop::Asked(format!("{command} {sentence}")))
+}
+
 impl Given {
+    /// Refuses - among the operands.
+    pub fn without_dash(&self) -> Result<(), Stop> {
+        let mut operands = self.operands.iter();
+        operands.try_for_each(|path| no_dash(self.command.name, path))
+    }
+
     pub fn has(&self, name: &str) -> bool {
         self.last(&[name]).is_some()
     }

@@ -1,9 +1,10 @@
 //! `aznifrem map`: each contract's map, printed or stored.
 
-use std::io::{self, IsTerminal, Write};
+use std::fs;
+use std::io::{self, ErrorKind, IsTerminal, Write};
 use std::mem;
 use std::num::NonZero;
-use std::path::PathBuf;
+use std::path::{Path, PathBuf};
 use std::sync::Arc;
 use std::thread::available_parallelism;
 use std::time::Duration;
@@ -28,6 +29,7 @@ use crate::work::{Made, Work};
 /// How soon Ctrl-C is heard.
 const SOON: Duration = Duration::from_millis(50);
 const MOST_JOBS: u64 = 1024;
+const NO_NIGHT: &str = "aznifrem: no contract is mapped: there is no night";
 const MOST_MEBIBYTES: u64 = (usize::MAX >> 20) as u64;
 
 pub const COMMAND: Command = Command {
@@ -75,7 +77,7 @@ pub const COMMAND: Command = Command {
                 Opt::with(
                     "--jobs",
                     Value::word("N"),
-                    "contracts that are mapped at a time (default: as many as there are cores); what comes out, and its order, is the same",
+                    "contracts that are mapped at a time 1 to 1024 (default: as many as there are cores); what comes out, and its order, is the same",
                 ),
                 Opt::with(
                     "--limit",
@@ -96,7 +98,7 @@ pub const COMMAND: Command = Command {
     notes: &[
         "A contract is a file of deployed code (at most 24,576 bytes), as hexadecimal digits, with or without 0x and line breaks, or as the bytes themselves. Which of the two it is shows by its content; say --hex or --binary where it does not: other text, and what begins with a byte order mark, is a contract with --binary alone. In folders of contracts, files and folders that begin with a dot, files that end in .map, refused.jsonl, unfinished.txt and links to folders are passed over.",
         "In a PATTERN ? is any letter, * any letters, and ** also goes across the / of folders. One that has a / is held to the whole path beneath the folder, another to the file's own name.",
-        "Progress is a bar on a terminal, elsewhere a line every half minute. A run that is cut short, as by Ctrl-C, leaves no half file; unfinished.txt stays in the folder then, so that diff does not take it for a night.",
+        "Progress is a bar on a terminal, elsewhere a line every half minute. A run that is cut short, as by Ctrl-C, leaves no half file; unfinished.txt stays in the folder then, so that diff, report and archive do not take it for a night.",
     ],
     exits: &[
         (0, "every contract is mapped"),
@@ -104,7 +106,10 @@ pub const COMMAND: Command = Command {
             1,
             "one is refused or not stored, or a file or folder is unreadable (a line for each on standard error); the others are mapped",
         ),
-        (2, "maps cannot be stored in the folder of --to"),
+        (
+            2,
+            "with --to: a file or folder that is named is not there, no contract at all is mapped, or maps cannot be stored in the folder",
+        ),
     ],
     examples: &[
         (
@@ -178,16 +183,47 @@ fn patterns(given: &Given, name: &str) -> Result<Vec<Vec<u8>>, Stop> {
     Ok(values)
 }
 
+/// Why there is nothing to store: maps of a mistyped or bare folder are no night.
+fn nothing(inputs: &[PathBuf], contracts: &Contracts) -> Vec<String> {
+    let absent = |input: &&PathBuf| match fs::metadata(input) {
+        Err(error) => error.kind() == ErrorKind::NotFound && *input != Path::new("-"),
+        Ok(_) => false,
+    };
+    let absent = inputs.iter().filter(absent);
+    let mut sentences: Vec<String> = absent
+        .map(|input| format!("{}: is not there: nothing is mapped", shown(input)))
+        .collect();
+    if sentences.is_empty() && contracts.files.is_empty() {
+        sentences.clone_from(&contracts.faults);
+        sentences.push(NO_NIGHT.into());
+    }
+    sentences
+}
+
+/// The folder of --to, or a sentence for each reason why nothing is stored in it.
+fn opened(to: &Path, inputs: &[PathBuf], contracts: &Contracts) -> Result<Arc<Store>, Vec<String>> {
+    let sentences = nothing(inputs, contracts);
+    if !sentences.is_empty() {
+        return Err(sentences);
+    }
+    let store = Store::open(to).map_err(|sentence| vec![sentence])?;
+    Ok(Arc::new(store))
+}
+
 fn run(options: &Options, out: &mut impl Write) -> Result<Outcome, Stop> {
     system::catch_endings();
-    let store = match options.to.as_deref().map(Store::open).transpose() {
-        Ok(store) => store.map(Arc::new),
-        Err(sentence) => {
-            tell(&sentence);
+    let contracts = Contracts::of(&options.inputs, &options.patterns);
+    let store = match options.to.as_deref() {
+        Some(to) => opened(to, &options.inputs, &contracts).map(Some),
+        None => Ok(None),
+    };
+    let store = match store {
+        Ok(store) => store,
+        Err(sentences) => {
+            sentences.iter().for_each(|sentence| tell(sentence));
             return Ok(Outcome::Wrong);
         }
     };
-    let contracts = Contracts::of(&options.inputs, &options.patterns);
     contracts.faults.iter().for_each(|sentence| tell(sentence));
     let mut run = Run {
         progress: Progress::new(contracts.files.len(), options.quiet),
@@ -200,14 +236,15 @@ fn run(options: &Options, out: &mut impl Write) -> Result<Outcome, Stop> {
     let work = Work::new(options, contracts.files, threads, store.clone());
     run.over(Arc::new(work), threads, out)?;
     run.progress.clear();
-    let stored = store.map_or(Ok(()), |store| {
-        let closed = store.close(&run.refusals);
-        if closed.is_ok() && !options.quiet {
+    let closed = store.map_or(Ok(()), |store| {
+        store.close(&run.refusals)?;
+        if !options.quiet {
             tell(&run.totals(contracts.left_out, &store));
         }
-        closed
+        let night = run.mapped > 0;
+        night.then_some(()).ok_or_else(|| String::from(NO_NIGHT))
     });
-    Ok(match stored {
+    Ok(match closed {
         Ok(()) if faults == 0 && run.refusals.is_empty() => Outcome::Fine,
         Ok(()) => Outcome::Found,
         Err(sentence) => {

@@ -74,6 +74,13 @@ impl Refusal {
     }
 }
 
+/// A sentence on a folder whose run was cut short: half a night is not taken for a whole one.
+pub fn unfinished(folder: &Path) -> Option<String> {
+    let sentence = "the run that stores maps here is not over, or was cut short: remove the folder and make it again";
+    let marked = folder.join(UNFINISHED).exists();
+    marked.then(|| format!("{}: {sentence}", shown(folder)))
+}
+
 /// The list of one folder of maps.
 #[derive(Clone, Debug, Default, PartialEq, Eq)]
 pub struct Refused(BTreeMap<String, Refusal>);
@@ -82,11 +89,8 @@ impl Refused {
     /// Of a folder without a list, as older runs made them, nothing is known to be refused. A run
     /// that was cut short, and a list that cannot be read, is a sentence.
     pub fn of_folder(folder: &Path) -> Result<Refused, String> {
-        if folder.join(UNFINISHED).exists() {
-            return Err(format!(
-                "{}: the run that stores maps here is not over, or was cut short: remove the folder and map again",
-                shown(folder)
-            ));
+        if let Some(sentence) = unfinished(folder) {
+            return Err(sentence);
         }
         let list = folder.join(LIST);
         match fs::read_to_string(&list) {

@@ -23,12 +23,12 @@ pub const COMMAND: Command = Command {
         options: &[Opt::with(
             "--window",
             Value::word("BYTES"),
-            "bytes that are read at a time (default 16777216); a map that is larger is read whole all the same",
+            "bytes that are read at a time, 1 to 1099511627776 (default 16777216); a map that is larger is read whole all the same",
         )],
     }],
     notes: &[
-        "An archive is stored maps one after another, as the command archive makes it. Four lines are printed: maps copied, bytes copied, bytes dropped, and the offset of the first bad entry or, where nothing was dropped, the archive's length. Everything from the start of the first map on that does not read whole is dropped; the archive itself stays as it is.",
-        "OUT is written beside its place as OUT.part, and has its name once it is whole. A file that is there already is not overwritten.",
+        "An archive is stored maps one after another, as the command archive makes it. Four lines are printed: maps copied, bytes copied, bytes dropped, and the offset of the first bad entry; where nothing was dropped, the archive's length in place of the offset, and a fifth line that says so. That an archive is empty is told on standard error. Everything from the start of the first map on that does not read whole is dropped; the archive itself stays as it is.",
+        "OUT is written beside its place as OUT.part, and has its name once it is whole. A file that is there already is not overwritten. Where the archive stops being readable midway, what was copied is thrown away, and there is no OUT.",
     ],
     exits: &[
         (0, "nothing was dropped"),
@@ -40,12 +40,13 @@ pub const COMMAND: Command = Command {
         "aznifrem salvage backup.maps saved.maps",
     )],
     run: |given, out| {
+        given.without_dash()?;
         let window = window(given)?;
         let [archive, to] = &given.operands[..] else {
             return Err(Stop::Asked(COMMAND.takes.into()));
         };
         match salvaged(archive, to, window) {
-            Ok(salvaged) => Ok(print(&salvaged, out)?),
+            Ok(salvaged) => Ok(print(archive, &salvaged, out)?),
             Err(sentence) => {
                 tell(&sentence);
                 Ok(Outcome::Wrong)
@@ -66,18 +67,23 @@ pub fn window(given: &Given) -> Result<usize, Stop> {
 fn salvaged(archive: &Path, to: &Path, window: usize) -> Result<Salvaged, String> {
     let mut input = opened(archive)?;
     let mut out = Fresh::at(to)?;
-    let salvaged = windows::salvage(&mut input, window, |maps| out.write(maps))?;
+    let keep = |maps: &[u8]| out.write(maps);
+    let salvaged = windows::salvage(&shown(archive), &mut input, window, keep)?;
     out.keep()?;
     Ok(salvaged)
 }
 
 pub fn opened(archive: &Path) -> Result<File, String> {
     let file = File::open(archive);
-    file.map_err(|error| format!("{}: cannot be read: {error}", shown(archive)))
+    file.map_err(|error| windows::unreadable(&shown(archive), &error))
 }
 
-/// The four numbers; and that nothing was dropped, where nothing was.
-pub fn print(salvaged: &Salvaged, out: &mut dyn Write) -> io::Result<Outcome> {
+/// The four numbers; and that nothing was dropped, where nothing was. An archive without a byte is told
+/// beside them: nothing is missing of it, and likely it is not what was meant.
+pub fn print(archive: &Path, salvaged: &Salvaged, out: &mut dyn Write) -> io::Result<Outcome> {
+    if salvaged.copied + salvaged.dropped == 0 {
+        tell(&format!("{}: is empty: no map is in it", shown(archive)));
+    }
     writeln!(out, "maps copied: {}", salvaged.maps)?;
     writeln!(out, "bytes copied: {}", salvaged.copied)?;
     writeln!(out, "bytes dropped: {}", salvaged.dropped)?;

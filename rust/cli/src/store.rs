@@ -9,7 +9,7 @@ use crate::files::{Kind, beneath};
 use crate::names::shown;
 use crate::refused::{LIST, Refusal, UNFINISHED};
 
-const MARK: &str = "The run that stores maps here is not over, or was cut short: then remove the folder and map again.\n";
+const MARK: &str = "The run that stores maps here is not over, or was cut short: then remove the folder and make it again.\n";
 
 /// Held to be read by each thread that writes a file.
 static WRITING: RwLock<()> = RwLock::new(());
@@ -33,8 +33,20 @@ impl Store {
         let store = Store {
             folder: folder.into(),
         };
-        store.put(UNFINISHED.as_ref(), MARK.as_bytes())?;
+        store.mark()?;
         Ok(store)
+    }
+
+    /// Says in the folder that not all is there yet.
+    pub fn mark(&self) -> Result<(), String> {
+        self.put(UNFINISHED.as_ref(), MARK.as_bytes())
+    }
+
+    /// All is there.
+    pub fn unmark(&self) -> Result<(), String> {
+        let mark = self.folder.join(UNFINISHED);
+        let removed = fs::remove_file(&mark);
+        removed.map_err(|error| format!("cannot remove {}: {error}", shown(&mark)))
     }
 
     /// Stores a map or its text, as the name says.
@@ -48,9 +60,7 @@ impl Store {
     pub fn close(&self, refusals: &[Refusal]) -> Result<(), String> {
         let lines: String = refusals.iter().map(Refusal::line).collect();
         self.put(LIST.as_ref(), lines.as_bytes())?;
-        let mark = self.folder.join(UNFINISHED);
-        let removed = fs::remove_file(&mark);
-        removed.map_err(|error| format!("cannot remove {}: {error}", shown(&mark)))
+        self.unmark()
     }
 
     pub fn list(&self) -> PathBuf {

@@ -4,7 +4,7 @@ use std::fs;
 use std::io::{self, Read};
 use std::path::Path;
 
-use aznifrem::Map;
+use aznifrem::{Map, Salvaged};
 
 use crate::input::is_text;
 use crate::names::shown;
@@ -31,9 +31,19 @@ pub fn read(path: &Path) -> Result<Stored, String> {
             shown(path),
             printed(&bytes)
         )),
+        Ok(Err(_)) if maps_of(&bytes) > 1 => Err(format!(
+            "{}: is no stored map: it is an archive of them; unpack takes it apart",
+            shown(path)
+        )),
         Ok(Err(bad)) => Err(format!("{}: is no stored map: {bad}", shown(path))),
         Err(not_relayed) => Err(format!("{}: {not_relayed}", shown(path))),
     }
+}
+
+/// How many maps read whole, one after another from the beginning.
+fn maps_of(bytes: &[u8]) -> u64 {
+    let salvaged = Salvaged::of(bytes, &mut vec![0; bytes.len()]);
+    salvaged.ok().flatten().map_or(0, |salvaged| salvaged.maps)
 }
 
 /// What a text is: likely something that was printed and kept.

@@ -8,6 +8,7 @@ use aznifrem::Map;
 use compare::{Judged, Totals, Verdict, quoted, rows_json, totals_json};
 use draw::{Page, Shown, dot_beside};
 
+use crate::names::shown;
 use crate::nights::Became;
 use crate::outcome::{Outcome, tell};
 
@@ -277,9 +278,31 @@ fn judged_json(judged: &Judged) -> String {
 
 /// Writes the page beside its place first, so that no half of one is ever there.
 fn store(path: &Path, page: &str) -> Result<(), String> {
-    let unwritable = |error| format!("{}: cannot be written: {error}", path.display());
+    let unwritable = |error| format!("{}: cannot be written: {error}", shown(path));
     let mut beside = path.as_os_str().to_os_string();
     beside.push(".part");
-    fs::write(&beside, page).map_err(unwritable)?;
-    fs::rename(&beside, path).map_err(unwritable)
+    let written = fs::write(&beside, page).and_then(|()| fs::rename(&beside, path));
+    if written.is_err() {
+        // What is told is why it could not be written.
+        let _ = fs::remove_file(&beside);
+    }
+    written.map_err(unwritable)
+}
+
+#[cfg(test)]
+mod tests {
+    use super::store;
+    use std::{env, fs, process};
+
+    #[test]
+    fn a_page_that_cannot_have_its_name_leaves_no_half() {
+        let folder = env::temp_dir().join(format!("aznifrem-page-{}", process::id()));
+        let taken = folder.join("page.html");
+        fs::create_dir_all(taken.join("in the way")).expect("folders can be made");
+        let said = store(&taken, "<!doctype html>").expect_err("a folder has the name");
+        assert!(said.contains("page.html: cannot be written: "), "{said}");
+        let names = fs::read_dir(&folder).expect("the folder is there");
+        assert_eq!(names.count(), 1);
+        fs::remove_dir_all(&folder).expect("it can be taken away");
+    }
 }

@@ -3,10 +3,12 @@
 //! The result is that of the whole archive. What the call copies of a window it copies of the archive
 //! too, if no 7 stands behind it there: a map ends where its head's counts say, and only a 7 can be of
 //! its last block's run (`windows` in crates/theorems/proofs/SalvageLaws.antt, which also says that the
-//! rest is salvaged as if it stood alone). So a window's maps are kept once the kind of the entry behind
-//! them is known, and the next window begins at that entry. What a window refuses may be whole in the
-//! archive, where the window's end has cut it: it is refused for good where no byte behind the window
-//! can change that ([`settled`]); else the window moves on, or grows if it holds no whole map.
+//! rest is salvaged as if it stood alone, if no 7 stands behind it; a 7 that the call has seen whole and
+//! not taken stands in place of a head, which is argued and tested here and not in the theorem). So a
+//! window's maps are kept once the entry behind them is known to be no 7, or a 7 that was seen whole, and
+//! the next window begins at that entry. What a window refuses may be whole in the archive, where the
+//! window's end has cut it: it is refused for good where no byte behind the window can change that
+//! ([`settled`]); else the window moves on, or grows if it holds no whole map.
 
 use std::io::{self, Read};
 
@@ -22,14 +24,28 @@ const RECORD: u16 = 8;
 /// Bytes of a head, with its header.
 const HEAD_BYTES: usize = 18;
 
-/// Salvages what is read, in windows of so many bytes at first; each run of maps that is copied is
-/// handed to `keep`, in order. An error is a sentence.
+/// Salvages what is read of the archive of this name, in windows of so many bytes at first; each run of
+/// maps that is copied is handed to `keep`, in order. An error is a sentence.
 pub fn salvage(
+    name: &str,
     input: &mut impl Read,
+    window: usize,
+    keep: impl FnMut(&[u8]) -> Result<(), String>,
+) -> Result<Salvaged, String> {
+    salvage_held(&mut Held::new(name, input), window, keep)
+}
+
+/// A sentence on an archive that cannot be read.
+pub fn unreadable(name: &str, error: &io::Error) -> String {
+    format!("{name}: cannot be read: {error}")
+}
+
+/// The same, where what is held can be looked at afterwards.
+fn salvage_held(
+    held: &mut Held<impl Read>,
     window: usize,
     mut keep: impl FnMut(&[u8]) -> Result<(), String>,
 ) -> Result<Salvaged, String> {
-    let mut held = Held::new(input);
     let mut out = Vec::new();
     let mut so_far = Salvaged::default();
     let window = window.max(HEADER);
@@ -55,21 +71,27 @@ pub fn salvage(
             return Ok(so_far);
         }
         held.bytes.drain(..copied);
-        size = if copied == 0 { 2 * size } else { window };
+        size = if copied == 0 {
+            2 * held.bytes.len()
+        } else {
+            window
+        };
     }
 }
 
 /// What is read of the archive and not yet kept.
 struct Held<'a, R> {
+    name: &'a str,
     input: &'a mut R,
     bytes: Vec<u8>,
     /// Nothing is left to read.
     ended: bool,
 }
 
-impl<R: Read> Held<'_, R> {
-    fn new(input: &mut R) -> Held<'_, R> {
+impl<'a, R: Read> Held<'a, R> {
+    fn new(name: &'a str, input: &'a mut R) -> Held<'a, R> {
         Held {
+            name,
             input,
             bytes: Vec::new(),
             ended: false,
@@ -78,9 +100,9 @@ impl<R: Read> Held<'_, R> {
 
     /// Reads until so many bytes are held, or one more is asked for and there is none.
     fn fill(&mut self, size: usize) -> Result<(), String> {
-        let more = (size + 1).saturating_sub(self.bytes.len()) as u64;
+        let more = size.saturating_add(1).saturating_sub(self.bytes.len()) as u64;
         let read = self.input.by_ref().take(more).read_to_end(&mut self.bytes);
-        let read = read.map_err(unreadable)?;
+        let read = read.map_err(|error| unreadable(self.name, &error))?;
         self.ended |= (read as u64) < more;
         Ok(())
     }
@@ -102,12 +124,9 @@ impl<R: Read> Held<'_, R> {
 
     /// How many bytes are left to read.
     fn skip(&mut self) -> Result<u64, String> {
-        io::copy(self.input, &mut io::sink()).map_err(unreadable)
+        let skipped = io::copy(self.input, &mut io::sink());
+        skipped.map_err(|error| unreadable(self.name, &error))
     }
-}
-
-fn unreadable(error: io::Error) -> String {
-    format!("cannot read the archive: {error}")
 }
 
 /// Kind and end of the entry at a place, if its header is there; the end may lie beyond the bytes.
@@ -128,7 +147,27 @@ fn settled(window: &[u8], start: usize, bad: usize) -> bool {
             end <= window.len() && counts_met(window, start)
         }
         Some(_) if bad == start => true,
+        Some((kind, end)) if ill(kind, end - bad - HEADER, &window[bad + HEADER..]) => true,
         Some((_, end)) => end <= window.len() && run_ends(window, end),
+    }
+}
+
+/// Whether an entry behind a head is bad by its kind and its length, however much of it is there. A 7 is
+/// not asked: whole, it counts for its block.
+fn ill(kind: u16, length: usize, body: &[u8]) -> bool {
+    match kind {
+        2 => length != 5,
+        3 => length != 6,
+        4 | 5 => length != 8,
+        6 => length != 10,
+        SEVEN => false,
+        RECORD => match body.first_chunk() {
+            Some([_, _, _, _, a, b, c, d]) => {
+                length != 8 + 2 * u32::from_le_bytes([*a, *b, *c, *d]) as usize
+            }
+            None => length < 8,
+        },
+        _ => true,
     }
 }
 
@@ -168,8 +207,9 @@ fn counts_met(window: &[u8], start: usize) -> bool {
 
 #[cfg(test)]
 mod tests {
-    use super::salvage;
+    use super::{HEADER, Held, salvage, salvage_held, settled};
     use aznifrem::Salvaged;
+    use std::io::{self, Read};
 
     fn entry(kind: u8, body: &[u8]) -> Vec<u8> {
         [&[body.len() as u8, 0, 0, 0, kind, 0], body].concat()
@@ -195,25 +235,36 @@ mod tests {
         entry(8, &[7, 0, 5, 0, 2, 0, 0, 0, 7, 0, 0, 0])
     }
 
-    /// In windows, and at once.
-    fn both(archive: &[u8], window: usize) -> [(Salvaged, Vec<u8>); 2] {
+    /// What is told and what is copied.
+    type Given = (Salvaged, Vec<u8>);
+
+    fn at_once(archive: &[u8]) -> Given {
+        let mut out = vec![0; archive.len()];
+        let given = Salvaged::of(archive, &mut out).expect("the library is reached");
+        let given = given.expect("there is room");
+        out.truncate(given.copied as usize);
+        (given, out)
+    }
+
+    /// In windows; and the bytes of memory that the largest took.
+    fn in_windows(mut archive: &[u8], window: usize) -> (Given, usize) {
         let mut kept = Vec::new();
         let keep = |bytes: &[u8]| {
             kept.extend_from_slice(bytes);
             Ok(())
         };
-        let windows = salvage(&mut &archive[..], window, keep).expect("it is read");
-        let mut out = vec![0; archive.len()];
-        let given = Salvaged::of(archive, &mut out).expect("the library is reached");
-        let given = given.expect("there is room");
-        out.truncate(given.copied as usize);
-        [(windows, kept), (given, out)]
+        let mut held = Held::new("archive", &mut archive);
+        let given = salvage_held(&mut held, window, keep).expect("it is read");
+        let largest = held.bytes.capacity();
+        ((given, kept), largest)
     }
 
     fn same(archive: &[u8]) {
-        for window in (1..=archive.len() + 8).step_by(3) {
-            let [windows, whole] = both(archive, window);
-            assert_eq!(windows, whole, "{archive:?} in windows of {window}");
+        let whole = at_once(archive);
+        let windows = (1..=archive.len() + 8).step_by(3);
+        for window in windows.chain([usize::MAX]) {
+            let (given, _) = in_windows(archive, window);
+            assert_eq!(given, whole, "{archive:?} in windows of {window}");
         }
     }
 
@@ -266,14 +317,147 @@ mod tests {
         let many = maps().concat().repeat(2_000);
         let few = [head(1, 1), stop(0), stop(2), record()].concat();
         let missing = [head(9, 0), stop(0)].concat();
-        for bad in [few, missing] {
+        // The place of each, and the first byte from which on no more is needed: behind the record, and
+        // behind the header of the second head.
+        for (bad, offset, enough) in [(few, 0, 58), (missing, 29, 35)] {
             let archive = [&bad[..], &many].concat();
-            let [windows, whole] = both(&archive, 128);
-            assert_eq!(windows, whole);
-            let offset = whole.0.offset as usize;
-            assert!(super::settled(&archive[..128], 0, offset));
-            // The last byte of the entry, or the kind of the next, is not there yet.
-            assert!(!super::settled(&archive[..offset + 17], 0, offset));
+            assert_small(&archive);
+            assert_eq!(at_once(&archive).0.offset, offset as u64);
+            assert!(settled(&archive[..enough], 0, offset));
+            assert!(!settled(&archive[..enough - 1], 0, offset));
         }
     }
+
+    #[test]
+    fn a_damaged_length_does_not_grow_the_window() {
+        let many = maps().concat().repeat(2_000);
+        // A second head, a block, a record and no kind at all, each of more bytes than the window has.
+        for kind in [1, 2, 3, 4, 5, 6, 8, 9] {
+            let damaged = [0, 0, 3, 0, kind, 0];
+            let archive = [&head(2, 0)[..], &stop(0), &damaged, &many].concat();
+            assert_small(&archive);
+            let bad = head(2, 0).len() + stop(0).len();
+            assert!(settled(&archive[..bad + HEADER + 8], 0, bad));
+        }
+        // Of a right length, and cut by the window: whole, they may be good.
+        for entry in [stop(2), record()] {
+            let archive = [&head(2, 0)[..], &stop(0), &entry].concat();
+            let bad = archive.len() - entry.len();
+            assert!(!settled(&archive[..archive.len() - 1], 0, bad));
+        }
+    }
+
+    /// In windows of 128 bytes it is what it is at once, and a few windows' memory is enough.
+    fn assert_small(archive: &[u8]) {
+        let (given, largest) = in_windows(archive, 128);
+        assert_eq!(given, at_once(archive));
+        assert!(largest <= 1_024, "{largest} of {}", archive.len());
+    }
+
+    struct Broken;
+
+    impl Read for Broken {
+        fn read(&mut self, _: &mut [u8]) -> io::Result<usize> {
+            Err(io::Error::other("the disk is broken"))
+        }
+    }
+
+    #[test]
+    fn an_archive_that_is_unreadable_midway_is_named() {
+        let all = maps().concat();
+        let mut kept = 0;
+        let keep = |bytes: &[u8]| {
+            kept += bytes.len();
+            Ok(())
+        };
+        let given = salvage("old.maps", &mut all.chain(Broken), 64, keep);
+        let said = given.expect_err("its end cannot be read");
+        assert_eq!(said, "old.maps: cannot be read: the disk is broken");
+        assert!(kept > 0 && kept < all.len(), "{kept}");
+    }
+
+    /// Numbers that look random, the same at every run.
+    struct Random(u64);
+
+    impl Random {
+        fn below(&mut self, bound: usize) -> usize {
+            self.0 ^= self.0 << 13;
+            self.0 ^= self.0 >> 7;
+            self.0 ^= self.0 << 17;
+            (self.0 >> 11) as usize % bound
+        }
+
+        fn small(&mut self) -> u8 {
+            self.below(3) as u8
+        }
+
+        /// A map that reads whole.
+        fn map(&mut self) -> Vec<u8> {
+            let (blocks, records) = (self.small(), self.small());
+            let mut map = head(blocks, records);
+            for start in 0..blocks {
+                match self.small() {
+                    0 => map.extend(stop(start)),
+                    count => {
+                        map.extend(dynamic(start, count));
+                        (0..count).for_each(|_| map.extend(seven()));
+                    }
+                }
+            }
+            (0..records).for_each(|_| map.extend(record()));
+            map
+        }
+
+        /// An entry, good or bad behind the others.
+        fn entry(&mut self, start: u8) -> Vec<u8> {
+            match self.below(12) {
+                0 | 1 => head(self.small(), self.small()),
+                2 | 3 => stop(start),
+                4 | 5 => dynamic(start, self.small()),
+                6..=8 => seven(),
+                9 => record(),
+                10 => entry(7, &[5; 11]),
+                _ => (0..self.below(9)).map(|_| self.below(9) as u8).collect(),
+            }
+        }
+
+        fn maps(&mut self) -> Vec<u8> {
+            (0..self.below(3)).flat_map(|_| self.map()).collect()
+        }
+
+        /// Maps, entries, maps; of some a byte is another, some are cut.
+        fn archive(&mut self) -> Vec<u8> {
+            let mut archive = self.maps();
+            let entries = self.below(7) as u8;
+            (0..entries).for_each(|start| archive.extend(self.entry(start)));
+            archive.extend(self.maps());
+            if self.below(3) == 0 && !archive.is_empty() {
+                let at = self.below(archive.len());
+                archive[at] = self.below(9) as u8;
+            }
+            if self.below(3) == 0 {
+                archive.truncate(self.below(archive.len() + 1));
+            }
+            archive
+        }
+    }
+
+    #[test]
+    fn windows_of_random_archives_give_what_they_give_at_once() {
+        let mut random = Random(0x9e37_79b9_7f4a_7c15);
+        let mut dropped = 0;
+        for _ in 0..ARCHIVES {
+            let archive = random.archive();
+            let whole = at_once(&archive);
+            dropped += u32::from(whole.0.dropped > 0);
+            for _ in 0..4 {
+                let window = 1 + random.below(90);
+                let (given, _) = in_windows(&archive, window);
+                assert_eq!(given, whole, "{archive:?} in windows of {window}");
+            }
+        }
+        assert!(dropped > ARCHIVES / 2 && dropped < ARCHIVES, "{dropped}");
+    }
+
+    const ARCHIVES: u32 = 3_000;
 }

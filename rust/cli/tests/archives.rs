@@ -79,11 +79,87 @@ fn nothing_is_overwritten_and_no_half_file_stays() {
     }
     assert_eq!(fs::read(here.join("whole")).expect("it is there"), whole);
     assert_eq!(fs::read(here.join("other")).expect("it is there"), b"mine");
+    // A folder is opened, and cannot be read.
+    let (exit, _, said) = all(&run(&here, &["salvage", "maps", "fresh"]));
+    assert_eq!(exit, 2);
+    assert!(said.contains("maps: cannot be read"), "{said}");
     put(&here, "maps/bad.map", &whole[..30]);
     let (exit, _, said) = all(&run(&here, &["archive", "maps", "fresh"]));
     assert_eq!(exit, 1);
     assert!(said.contains("bad.map: is no stored map"), "{said}");
     assert_eq!(files(&here), ["code", "maps", "other", "whole"]);
+    // What another run writes is its own.
+    put(&here, "fresh.part", "theirs");
+    let (exit, _, said) = all(&run(&here, &["salvage", "whole", "fresh"]));
+    assert_eq!(exit, 2);
+    assert!(
+        said.contains("fresh.part: is there already, left"),
+        "{said}"
+    );
+    let part = fs::read(here.join("fresh.part"));
+    assert_eq!(part.expect("it is there"), b"theirs");
+}
+
+#[test]
+fn standard_input_is_no_archive() {
+    let (here, _) = archived("archive-dash");
+    for (command, words) in [
+        ("archive", ["-", "fresh"]),
+        ("archive", ["maps", "-"]),
+        ("salvage", ["-", "fresh"]),
+        ("salvage", ["whole", "-"]),
+        ("unpack", ["-", "fresh"]),
+        ("unpack", ["whole", "-"]),
+        ("diff", ["-", "maps"]),
+        ("diff", ["maps", "-"]),
+    ] {
+        let (exit, out, said) = all(&run(&here, &[command, words[0], words[1]]));
+        assert_eq!((exit, out.as_str()), (2, ""), "{command} {words:?}");
+        let sentence = format!(
+            "aznifrem: {command} takes files and folders by name, not standard input; a file of that name is './-'\n"
+        );
+        assert!(said.starts_with(&sentence), "{said}");
+    }
+    assert_eq!(files(&here), ["code", "maps", "whole"]);
+    assert_eq!(all(&run(&here, &["archive", "maps", "./-"])).0, 0);
+}
+
+#[test]
+fn an_archive_without_a_byte_is_told() {
+    let here = folder("archive-empty");
+    put(&here, "none", "");
+    for words in [["salvage", "none", "out"], ["unpack", "none", "parts"]] {
+        let (exit, out, said) = all(&run(&here, &words));
+        assert_eq!((exit, out.starts_with("maps copied: 0\n")), (0, true));
+        assert_eq!(said, "none: is empty: no map is in it\n");
+    }
+}
+
+#[test]
+fn an_archive_that_is_shown_is_told_from_a_bad_map() {
+    let (here, whole) = archived("archive-shown");
+    let sentence = "is no stored map: it is an archive of them; unpack takes it apart\n";
+    put(&here, "cut", &whole[..whole.len() - 1]);
+    for name in ["whole", "cut"] {
+        let wanted = (1, String::new(), format!("{name}: {sentence}"));
+        assert_eq!(all(&run(&here, &["show", name])), wanted);
+    }
+}
+
+#[test]
+fn an_archive_is_made_of_a_folder_that_is_there_and_outside_of_it() {
+    let (here, _) = archived("archive-outside");
+    let (exit, out, said) = all(&run(&here, &["archive", "nope", "fresh"]));
+    assert_eq!((exit, out.as_str()), (2, ""));
+    assert!(said.starts_with("nope: cannot be read: "), "{said}");
+    fs::create_dir(here.join("maps/deep")).expect("a folder can be made");
+    for to in ["maps/all.map", "maps/deep/all"] {
+        let sentence =
+            format!("{to}: lies in the folder that is archived: give a file outside of it\n");
+        let words = ["archive", "maps", to];
+        assert_eq!(all(&run(&here, &words)), (2, String::new(), sentence));
+    }
+    assert_eq!(files(&here), ["code", "maps", "whole"]);
 }
 
 #[test]
@@ -103,6 +179,21 @@ fn an_archive_is_taken_apart_and_made_again() {
     let (exit, _, said) = all(&run(&here, &["unpack", "whole", "parts"]));
     assert_eq!(exit, 2);
     assert!(said.contains("holds maps already"), "{said}");
+    // Where it does not come to its end, the folder is not taken for the whole.
+    put(&here, "half/00000002.map/notes.txt", "in the way");
+    assert_eq!(all(&run(&here, &["unpack", "whole", "half"])).0, 2);
+    let names_of_half = ["00000001.map", "00000002.map", "unfinished.txt"];
+    assert_eq!(files(&here.join("half")), names_of_half);
+    for words in [
+        &["report", "half"][..],
+        &["archive", "half", "fresh"],
+        &["diff", "parts", "half"],
+    ] {
+        let (exit, out, said) = all(&run(&here, words));
+        assert_eq!((exit, out.as_str()), (2, ""), "{words:?}");
+        let sentence = "half: the run that stores maps here is not over, or was cut short";
+        assert!(said.starts_with(sentence), "{said}");
+    }
     // Of a damaged archive, the maps before the damage.
     put(&here, "cut", &whole[..whole.len() - 1]);
     assert_eq!(all(&run(&here, &["unpack", "cut", "two"])).0, 1);

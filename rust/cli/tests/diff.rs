@@ -222,3 +222,30 @@ fn a_night_is_a_page() {
         "{said}"
     );
 }
+
+#[test]
+fn a_page_is_written_over_no_map() {
+    let here = folder("no-page");
+    put(&here, "a.hex", "00");
+    assert_eq!(all(&run(&here, &["--to", "maps", "a.hex"])).0, 0);
+    let map = fs::read(here.join("maps/a.hex.map")).expect("it is stored");
+    put(&here, "kept", &map);
+    for (page, why) in [
+        ("maps/a.hex.map", "maps/a.hex.map: is no name of a page"),
+        ("new.map", "new.map: is no name of a page"),
+        ("kept", "kept: is a stored map"),
+        ("maps", "maps: is a folder, and --html takes a file"),
+        ("", "aznifrem: --html takes a file, and its name is empty"),
+        ("-", "aznifrem: --html takes files and folders by name"),
+    ] {
+        let words = ["diff", "--html", page, "maps", "maps"];
+        let (exit, out, said) = all(&run(&here, &words));
+        assert_eq!((exit, out.as_str()), (2, ""), "{page}");
+        assert!(said.starts_with(why), "{said}");
+    }
+    for name in ["maps/a.hex.map", "kept"] {
+        assert_eq!(fs::read(here.join(name)).expect("it is there"), map);
+    }
+    let names = fs::read_dir(&here).expect("it is a folder");
+    assert_eq!(names.count(), 3);
+}

@@ -231,8 +231,17 @@ fn diff_takes_no_unfinished_night_and_no_list_that_is_none() {
     put(&here, "new/unfinished.txt", "");
     let (exit, out, said) = all(&run(&here, &["diff", "old", "new"]));
     assert_eq!((exit, out.as_str()), (2, ""));
-    let sentence = "new: the run that stores maps here is not over, or was cut short: remove the folder and map again\n";
+    let sentence = "new: the run that stores maps here is not over, or was cut short: remove the folder and make it again\n";
     assert_eq!(said, sentence);
+    for words in [
+        &["report", "new"][..],
+        &["report", "--json", "old", "--against", "new"],
+        &["archive", "new", "all"],
+    ] {
+        let wanted = (2, String::new(), sentence.into());
+        assert_eq!(all(&run(&here, words)), wanted, "{words:?}");
+    }
+    assert!(!here.join("all").exists() && !here.join("all.part").exists());
     put(&here, "old/refused.jsonl", "{\"contract\":1}\n");
     let (exit, _, said) = all(&run(&here, &["diff", "old", "old"]));
     assert_eq!(exit, 2);
@@ -246,8 +255,36 @@ fn diff_takes_no_unfinished_night_and_no_list_that_is_none() {
     assert_eq!(all(&run(&here, &["diff", "old", "new"])).0, 0);
 }
 
+#[test]
+fn what_maps_nothing_is_no_night() {
+    let here = folder("no-night");
+    put(&here, "code/a.hex", RETURN);
+    put(&here, "bad/a.hex", too_long());
+    fs::create_dir(here.join("bare")).expect("a folder can be made");
+    let none = "aznifrem: no contract is mapped: there is no night\n";
+    let bare = format!("bare: no contract is in it\n{none}");
+    let absent = String::from("kode: is not there: nothing is mapped\n");
+    for (words, sentence) in [
+        (&["--to", "maps", "kode"][..], &absent),
+        (&["--to", "maps", "code", "kode"], &absent),
+        (&["--quiet", "--to", "maps", "bare"], &bare),
+    ] {
+        let wanted = (2, String::new(), sentence.clone());
+        assert_eq!(all(&run(&here, words)), wanted, "{words:?}");
+        assert!(!here.join("maps").exists());
+    }
+    // What was refused is listed all the same, and the folder is fresh.
+    let (exit, _, said) = all(&run(&here, &["--to", "maps", "bad"]));
+    assert_eq!((exit, said.ends_with(none)), (2, true), "{said}");
+    assert!(text(here.join("maps/refused.jsonl")).starts_with("{\"contract\":\"a.hex\","));
+    assert_eq!(all(&run(&here, &["--to", "maps", "code", "bare"])).0, 1);
+}
+
+/// Starts the program with no signal ignored: what runs the tests in the background may ignore some.
 fn started(here: &Path, words: &[&str]) -> Child {
-    let mut command = Command::new(env!("CARGO_BIN_EXE_aznifrem"));
+    let mut command = Command::new("env");
+    command.arg("--default-signal=INT,HUP,TERM");
+    command.arg(env!("CARGO_BIN_EXE_aznifrem"));
     command.args(words).current_dir(here);
     command.stdout(Stdio::piped()).stderr(Stdio::piped());
     command.spawn().expect("the program runs")
@@ -298,6 +335,40 @@ fn what_is_cut_short_leaves_no_half_file_and_says_so() {
         let sentence = format!("{to}: an earlier run that stored maps here is not over");
         assert_eq!((exit, said.starts_with(&sentence)), (2, true), "{said}");
     }
+}
+
+#[test]
+fn an_unpack_that_is_cut_short_is_not_taken_for_the_whole() {
+    let here = folder("cut-unpack");
+    put(&here, "code/a.hex", RETURN);
+    put(&here, "code/b.hex", RETURN);
+    assert_eq!(all(&run(&here, &["--to", "maps", "code"])).0, 0);
+    assert_eq!(all(&run(&here, &["archive", "maps", "whole"])).0, 0);
+    let slow = pipe(&here, "slow");
+    // The pipe has the archive, and does not end.
+    let mut shell = Command::new("sh");
+    shell.args(["-c", "exec 3> slow; cat whole >&3; exec sleep 60"]);
+    let mut writer = shell.current_dir(&here).spawn().expect("the shell runs");
+    let words = [
+        "unpack",
+        "--window",
+        "40",
+        slow.to_str().expect("a path"),
+        "parts",
+    ];
+    let child = started(&here, &words);
+    wait_for(&here.join("parts/00000001.map"));
+    signal(&child, "-INT");
+    let output = child.wait_with_output().expect("it ends");
+    writer.kill().expect("it runs");
+    writer.wait().expect("it ends");
+    assert_eq!(output.status.signal(), Some(2));
+    let (exit, out, said) = all(&run(&here, &["report", "parts"]));
+    assert_eq!((exit, out.as_str()), (2, ""), "{said}");
+    assert!(
+        said.starts_with("parts: the run that stores maps here"),
+        "{said}"
+    );
 }
 
 #[test]

@@ -54,6 +54,17 @@ fn the_page_is_true() {
     // The same night again has no fresh folder, and the link stays where it is.
     let again = typed(&here, "./night.sh contracts maps");
     assert_eq!(again.0, 2, "{}", again.1);
+    // Neither a mistyped folder nor one without contracts is a night: no link goes to it.
+    std::fs::create_dir(here.join("bare")).expect("a folder can be made");
+    for (contracts, why) in [
+        ("kontracts", "is not there"),
+        ("bare", "no contract is in it"),
+    ] {
+        let (exit, said) = typed(&here, &format!("./night.sh {contracts} fresh"));
+        assert_eq!(exit, 2, "{said}");
+        assert!(said.starts_with(&format!("{contracts}: {why}")), "{said}");
+        assert!(!here.join("fresh").exists());
+    }
     let compared = "aznifrem --include '*.hex' --to maps/new contracts || [ $? = 1 ] && aznifrem diff maps/last maps/new";
     let short = "aznifrem --to new contracts || [ $? = 1 ] && aznifrem diff old new";
     assert!(PAGE.contains(short));

@@ -173,3 +173,11 @@ fn every_command_gives_the_version() {
         assert_eq!(printed(&here, words), version);
     }
 }
+
+#[test]
+fn a_shell_that_is_none_is_shown_escaped() {
+    let here = folder("no-shell");
+    let (exit, _, said) = all(&run(&here, &["completions", "a\x1b[2J"]));
+    let sentence = "aznifrem: completions takes one of bash, zsh and fish, not 'a\\x1b[2J'\n";
+    assert_eq!((exit, said.starts_with(sentence)), (2, true), "{said}");
+}

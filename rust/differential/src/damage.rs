@@ -44,6 +44,27 @@ impl Parts {
     }
 }
 
+/// A whole map with no record: what its 7s say no record says again.
+pub fn without_records(map: &[u8]) -> Vec<u8> {
+    let mut parts = Parts::of(map);
+    parts.0.retain(|(kind, _)| *kind != 8);
+    parts.recount();
+    parts.bytes()
+}
+
+/// A whole map in which all 7s of a block have the destination of its first.
+pub fn one_destination(map: &[u8]) -> Vec<u8> {
+    let mut parts = Parts::of(map);
+    let mut first = None;
+    for (kind, body) in &mut parts.0 {
+        match body.first_chunk_mut::<2>() {
+            Some(to) if *kind == 7 => *to = *first.get_or_insert(*to),
+            _ => first = None,
+        }
+    }
+    parts.bytes()
+}
+
 /// One of these maps with one to three things changed.
 pub fn damaged(random: &mut Random, maps: &[Vec<u8>]) -> Vec<u8> {
     let one = &maps[random.below(maps.len())];

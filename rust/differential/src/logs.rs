@@ -34,6 +34,8 @@ pub struct Call {
     pub log: Vec<u8>,
     pub work: usize,
     pub counts: usize,
+    /// The log is the stepper's own, and nothing is damaged: all its steps are in the map.
+    pub sound: bool,
 }
 
 /// So many logs.
@@ -58,17 +60,24 @@ impl Logs {
         self.steps += call.log.len() as u64 / 8;
         match check(follower, call) {
             Ok(Ok(place)) if place == call.log.len() / 8 => self.whole += 1,
+            Ok(Ok(place)) if call.sound => {
+                let sentence =
+                    format!("a log that is in the map by construction leaves it at {place}");
+                self.tell(&mismatch("place", sentence), call);
+            }
             Ok(Ok(_)) => self.left += 1,
             Ok(Err(NotFollowed::BadMap(_))) => self.refused[0] += 1,
             Ok(Err(NotFollowed::UnevenLog)) => self.refused[1] += 1,
             Ok(Err(NotFollowed::NoRoom)) => self.refused[2] += 1,
-            Err(found) => {
-                self.different += 1;
-                if self.written_out.len() < 5 {
-                    let text = format!("{}: {} in {call:?}", found.kind, found.sentence);
-                    self.written_out.push(text);
-                }
-            }
+            Err(found) => self.tell(&found, call),
+        }
+    }
+
+    fn tell(&mut self, found: &Mismatch, call: &Call) {
+        self.different += 1;
+        if self.written_out.len() < 5 {
+            let text = format!("{}: {} in {call:?}", found.kind, found.sentence);
+            self.written_out.push(text);
         }
     }
 }
@@ -176,6 +185,7 @@ fn call(random: &mut Random, maps: &[(Vec<u8>, Vec<u8>)]) -> Call {
             (16 * last).saturating_sub(1),
         ]),
         counts: room + random.below(20),
+        sound: false,
     };
     match random.below(10) {
         0 => damage(random, &mut steps, code.len()),
@@ -189,11 +199,12 @@ fn call(random: &mut Random, maps: &[(Vec<u8>, Vec<u8>)]) -> Call {
                 *byte = random.byte();
             }
         }
-        _ => {}
+        _ => call.sound = true,
     }
     call.log = steps.iter().flat_map(|step| step.to_le_bytes()).collect();
     if random.percent(3) {
-        call.log.push(random.byte());
+        let more = random.between(1, 7);
+        call.log.extend((0..more).map(|_| random.byte()));
     }
     call
 }

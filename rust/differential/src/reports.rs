@@ -1,9 +1,12 @@
 //! Reports over stored maps: the library's against the model's, folders, borders and joins.
 
+use std::collections::BTreeSet;
+
 use codes::Random;
 use model::report::{self, BYTES, NotAdded};
+use model::{Entry, Held, Kind};
 
-use crate::damage::damaged;
+use crate::damage::{damaged, one_destination, without_records};
 use crate::stored::answers;
 
 /// The library's calls on reports, or what stands in for them in a test.
@@ -20,12 +23,18 @@ pub struct Reports {
     pub refused: u64,
     pub joins: u64,
     pub too_large: u64,
+    /// Maps whose longest path is of a 7 and of no record.
+    pub longest_by_7: u64,
+    /// Maps with a dynamic block of several distinct destinations.
+    pub several: u64,
+    /// Maps with a dynamic block of one destination that several 7s have.
+    pub one_with_several_7s: u64,
     /// The first difference, if there is one.
     pub different: Option<String>,
 }
 
-/// So many maps in folders: each folder fed to a report, the folders' reports joined in any order
-/// and shape, and each map added to reports at the border of 64 bits.
+/// So many maps in folders: each map added to a new report, each folder fed to a report, the
+/// folders' reports joined in any order and shape, and maps added at the border of 64 bits.
 pub fn run(port: ReportPort, count: u64, seed: u64) -> Reports {
     let mut run = Run {
         port,
@@ -36,10 +45,12 @@ pub fn run(port: ReportPort, count: u64, seed: u64) -> Reports {
         let whole = answers(&mut random);
         let mut folders = vec![Vec::new(); random.between(1, 6)];
         for _ in 0..random.between(40, 160) {
-            let map = if random.percent(70) {
-                whole[random.below(whole.len())].clone()
-            } else {
-                damaged(&mut random, &whole)
+            let one = &whole[random.below(whole.len())];
+            let map = match random.below(100) {
+                0..45 => one.clone(),
+                45..60 => without_records(one),
+                60..70 => one_destination(one),
+                _ => damaged(&mut random, &whole),
             };
             let folder = random.below(folders.len());
             folders[folder].push(map);
@@ -63,6 +74,7 @@ impl Run {
         for folder in folders {
             let mut report = vec![0; BYTES + random.below(3)];
             for map in folder {
+                self.alone(map);
                 self.add(&mut report, map);
                 self.add(&mut all, map);
             }
@@ -79,6 +91,28 @@ impl Run {
             self.differ(format!(
                 "the folders' reports joined are {joined:?}, of all maps {of_all:?}"
             ));
+        }
+    }
+
+    /// In a new report no longer path and no other block hides what a map says.
+    fn alone(&mut self, map: &[u8]) {
+        self.add(&mut [0; BYTES], map);
+        if let Ok(held) = model::read(map) {
+            let blocks: Vec<&[Entry]> = sevens(&held).collect();
+            let longest = |paths: &mut dyn Iterator<Item = usize>| paths.max().unwrap_or(0);
+            let of_7s = longest(
+                &mut blocks
+                    .iter()
+                    .copied()
+                    .flatten()
+                    .map(|seven| seven.path.len()),
+            );
+            let of_records = longest(&mut held.records.iter().map(|record| record.path.len()));
+            let any =
+                |test: fn(&[Entry]) -> bool| u64::from(blocks.iter().any(|block| test(block)));
+            self.seen.longest_by_7 += u64::from(of_7s > of_records);
+            self.seen.several += any(|block| ends(block) > 1);
+            self.seen.one_with_several_7s += any(|block| ends(block) == 1 && block.len() > 1);
         }
     }
 
@@ -160,6 +194,20 @@ impl Run {
     fn differ(&mut self, sentence: String) {
         self.seen.different.get_or_insert(sentence);
     }
+}
+
+/// The 7s of each dynamic block.
+fn sevens(held: &Held) -> impl Iterator<Item = &[Entry]> {
+    held.blocks.iter().filter_map(|block| match &block.kind {
+        Kind::DynamicJump { entries } | Kind::DynamicJumpi { entries, .. } => Some(&entries[..]),
+        _ => None,
+    })
+}
+
+/// How many distinct destinations a block's 7s have.
+fn ends(sevens: &[Entry]) -> usize {
+    let ends: BTreeSet<usize> = sevens.iter().filter_map(|seven| seven.to).collect();
+    ends.len()
 }
 
 /// A report of small numbers.

@@ -37,7 +37,7 @@ fn faults_are_found() {
         }
         number
     });
-    // A map too many is counted; a byte of a bad map is copied; 18 writes.
+    // A map too many is counted; the last byte of the output's room is another; 18 writes.
     found(|archive, out, report| {
         let number = salvage(archive, out, report);
         if number == 0 {

@@ -34,3 +34,33 @@ fn wrong_followers_are_found() {
         given
     });
 }
+
+/// The binding's counts, block by block and edge by edge, in the place of the library's.
+fn by_the_binding(map: &[u8], code: &[u8], log: &[u8], work: &mut [u8], counts: &mut [u8]) -> u64 {
+    let given = aznifrem::follow(map, code, log, work, counts);
+    if given & 0xff != 0 {
+        return given;
+    }
+    let eight = |eight: &[u8]| u64::from_le_bytes(eight.try_into().unwrap());
+    let steps: Vec<u64> = log.chunks_exact(8).map(eight).collect();
+    let followed = aznifrem::Followed::of(map, code, &steps).unwrap();
+    let held = model::read(map).unwrap();
+    for (block, counted) in held.blocks.iter().zip(&followed.counts) {
+        let named: Vec<usize> = counted.edges.iter().map(|edge| edge.0).collect();
+        assert_eq!(named, model::follow::destinations(block));
+    }
+    let numbers = followed.counts.iter().flat_map(|block| {
+        let taken = block.edges.iter().map(|edge| edge.1);
+        std::iter::once(block.entered).chain(taken)
+    });
+    for (eight, number) in counts.chunks_exact_mut(8).zip(numbers) {
+        eight.copy_from_slice(&number.to_le_bytes());
+    }
+    followed.place << 8
+}
+
+#[test]
+fn the_binding_pairs_counts_with_their_edges() {
+    let logs = follow_logs(by_the_binding, 300, 13);
+    assert_eq!(logs.written_out, Vec::<String>::new());
+}

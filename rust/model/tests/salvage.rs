@@ -53,6 +53,8 @@ fn a_map_ends_where_its_heads_counts_say() {
     assert_eq!(numbers(&[EMPTY, SEVEN]), [1, 18, 16, 18]);
     // A 7 more is of the last block's run.
     assert_eq!(numbers(&[&map, OPEN, SEVEN]), [1, 71, 103, 112]);
+    // A cut one is not: it stands in place of the next head.
+    assert_eq!(numbers(&[OPEN, &SEVEN[..14]]), [1, 87, 7, 87]);
     // A record too few before the next head, and a block too many.
     assert_eq!(numbers(&[&map, HEAD, BLOCKS, &map]), [1, 71, 124, 124]);
     assert_eq!(numbers(&[FEWER, BLOCKS, RECORD]), [0, 0, 71, 0]);

@@ -37,9 +37,12 @@ fn main() -> ExitCode {
         println!("{sentence}");
     }
     println!(
-        "reports: {} maps added, {} of them no maps; {} joins; {} sums too large; {} different; {:.1} s",
+        "reports: {} maps added, {} of them no maps; longest by a 7 {}, several {}, one with several 7s {}; {} joins; {} sums too large; {} different; {:.1} s",
         seen.maps,
         seen.refused,
+        seen.longest_by_7,
+        seen.several,
+        seen.one_with_several_7s,
         seen.joins,
         seen.too_large,
         u8::from(seen.different.is_some()),
