@@ -12,14 +12,13 @@ use Rattle.spec.specs.Blocks.{Kind, terminate, jump, jumpi, dynamic-jump, dynam
 use Rattle.spec.specs.Search.{Found, nowhere, found, Rec, is-nowhere, dest, dests}
 use Rattle.spec.specs.Ending.{Final, all-are}
 use Rattle.spec.specs.Entries.{Map, flag}
-use Rattle.spec.specs.Reader.{holds, Item, a-head, a-block, a-way, a-record, no-item}
+use Rattle.spec.specs.Reader.{Item, a-head, a-block, a-way, a-record, no-item}
 use Rattle.spec.specs.Counting.{count, distinct}
 use Rattle.spec.specs.Report.{Totals, of-kind, dynamic-with, longest-of, totals-of, nothing-yet, join, listed}
-use Rattle.theorems.proofs.ReaderItems.{way-of, block-items, items-of}
+use Rattle.theorems.proofs.ReaderItems.{way-of, block-items}
 use Rattle.theorems.proofs.DistinctOnes.{distinct-one, distinct-several}
 use Rattle.theorems.proofs.ReportLaws.{same-totals, join-assoc, join-comm, join-neutral, neutral-join}
-use Rattle.report.specs.Counts.{at-place, shutOf, seesOf}
-use Rattle.report.specs.Scanning.{behindHead}
+use Rattle.report.specs.Counts.{totalsOf, countsOf, at-place, shutOf, seesOf}
 use Rattle.report.specs.declared.count.Open.{Open}
 use Rattle.report.specs.declared.count.Open.the-variants.{Static, NoneYet, Only, Several}
 
@@ -216,15 +215,19 @@ scan-blocks rs (f ∷ fs) t o =
 
 -- ---- the whole
 
-map-parts : (m : Map) → join (final-totals (m .blocks)) (rec-totals (m .recs)) ≡ behindHead (holds m)
+-- all but what its head says
+abbrev behindHead : Map → Totals
+behindHead m = totalsOf (countsOf (totals-of m))
+
+map-parts : (m : Map) → join (final-totals (m .blocks)) (rec-totals (m .recs)) ≡ behindHead m
 unfolding join totals-of
-map-parts m = same-totals (join (final-totals (m .blocks)) (rec-totals (m .recs))) (behindHead (holds m)) (omega (arith, longest-append (entries-in (m .blocks)) (m .recs)))
+map-parts m = same-totals (join (final-totals (m .blocks)) (rec-totals (m .recs))) (behindHead m) (omega (arith, longest-append (entries-in (m .blocks)) (m .recs)))
 
 -- the items behind a map's head
 abbrev pub tail-of : Map → List Item
 tail-of m = gather block-items (m .blocks) ++ map a-record (m .recs)
 
-pub scan-is : (m : Map) → scan (tail-of m) nothing-yet Static ≡ behindHead (holds m)
+pub scan-is : (m : Map) → scan (tail-of m) nothing-yet Static ≡ totalsOf (countsOf (totals-of m))
 scan-is m =
     let x = join (final-totals (m .blocks)) (rec-totals (m .recs)) in
     scan-blocks (m .recs) (m .blocks) nothing-yet Static ∙ ap (λ (u : Totals). join u x) (join-neutral nothing-yet) ∙ neutral-join x ∙ map-parts m

@@ -6,27 +6,37 @@ use Prim.Native.Nat.{ℕ, _+_, _^_, _≤_, _<_}
 use native.Mathlib.Nat.{zero-add}
 use native.Mathlib.Omega.{arith}
 use lib.Dec.{leb, ltb}
-use lib.ListN.{length, getD, take, drop, set}
+use lib.ListN.{length, getD, set}
 use borrow.Author.Tests.{le-leb, lt-leb, lt-ltb, le-ltb, not-true, not-false}
 use Rattle.spec.specs.Eights.{eights, as-eights, all-fit, over}
 use Rattle.spec.specs.Report as spec
 use Rattle.spec.specs.Report.{Totals, listed, sums, dynamic-blocks, share, lowest, report-bytes, fits, renewed, ReportOutcome, reported, bad-map, no-fit}
+use Rattle.spec.specs.Entries.{Map}
 use Rattle.spec.specs.Reader.{Reading as Said, holds, bad, read}
 use Rattle.laws.proofs.Branch.{both, if-true, if-false, and-false}
 use Rattle.laws.proofs.Members.{and-true}
 use Rattle.theorems.proofs.ReaderPlaces.{never}
 use Rattle.lent.specs.Bytes.{patch, Stored}
-use Rattle.reader.specs.Scanning.{readingOf}
+use Rattle.reader.specs.Shapes.{behindAt, entryAt}
+use Rattle.reader.specs.Scanning.{refuses, readingOf}
+use Rattle.reader.specs.declared.entry.Entry.{Entry}
+use Rattle.reader.specs.declared.entry.Entry.the-variants.{Head}
 use Rattle.reader.specs.declared.scan.Reading.{Reading}
-use Rattle.report.specs.Scanning.{Holding, numbersIn}
+use Rattle.reader.proofs.Resting.{read-none}
+use Rattle.report.specs.Counts.{countsOf}
+use Rattle.report.specs.Scanning.{Headed, passOf, numbersOf}
 use Rattle.report.specs.Numbers.{summed, shareOf}
 use Rattle.report.specs.Merging.{Told, numberOf, together, Summed}
 use Rattle.report.specs.Calls.{saidOf, Added}
+use Rattle.report.specs.declared.count.Counts.{Counts}
+use Rattle.report.specs.declared.scan.Pass.{Pass}
+use Rattle.report.specs.declared.scan.Pass.the-variants.{Whole, Bad}
 use Rattle.report.specs.declared.number.Sum.{Sum}
 use Rattle.report.specs.declared.number.Sum.the-variants.{Is, TooLarge}
 use Rattle.report.specs.declared.share.Share.{Share}
 use Rattle.report.proofs.Sums.{is-sum, large-sum}
 use Rattle.report.proofs.Placed.{tab, tab-is}
+use Rattle.report.proofs.Scanned.{energy-is}
 
 -- ---- 16, and the report as it was
 
@@ -115,45 +125,55 @@ join-good report other at =
 
 -- ---- adding a map
 
--- what is added, by the reading
-abbrev Adds : List ℕ → Said → List ℕ → Reading → Type 0
-Adds report s report′ r = (r ≡ saidOf (spec.added report s)) × (report′ ≡ spec.report-after report (spec.added report s))
-
-module _ (report map : List ℕ) {r : Reading} (e : r ≡ readingOf (read map)) where
+module _ (report map : List ℕ) where
   -- "12 as in No. 2"
-  pub add-bad : (r .number ≡ 0 → ⊥) → Added report map report r
-  add-bad n = let k = by (read map) e in record { said = k .0; bytes = k .1 }
-    where
-      by : (s : Said) → r ≡ readingOf s → Adds report s report r
-      by (holds m) q = absurd (n (ap (λ (x : Reading). x .number) q))
-      by (bad o) q = (q, refl)
+  refused : (at : ℕ) → read map ≡ bad at → Added report map report (record { number = 12; offset = at })
+  refused at q = record { said = sym (ap (λ (s : Said). saidOf (spec.added report s)) q); bytes = sym (ap (λ (s : Said). spec.report-after report (spec.added report s)) q) }
 
-  module _ (z : r .number ≡ 0) where
-    pub add-holding : Holding map
-    add-holding = by (read map) refl e
+  module _ {e : Entry} (is : e ≡ entryAt map 0) where
+    pub add-headless : ((size n m energy : ℕ) → e ≡ Head size n m energy → ⊥) → Added report map report (record { number = 12; offset = 0 })
+    add-headless h = by-said (read map) refl (read-none map is h)
       where
-        by : (s : Said) → read map ≡ s → r ≡ readingOf s → Holding map
-        by (holds m) p q = record { held-map = m; held = p }
-        by (bad o) p q = let k : _≡_ {A = ℕ} 12 0 = sym (ap (λ (x : Reading). x .number) q) ∙ z in absurd (omega arith)
+        by-said : (s : Said) → read map ≡ s → refuses 0 ≡ readingOf s → Added report map report (record { number = 12; offset = 0 })
+        by-said (holds m) q k = let z : _≡_ {A = ℕ} 12 0 = ap (λ (r : Reading). r .number) k in absurd (omega arith)
+        by-said (bad o) q k = refused 0 (q ∙ ap bad (sym (ap (λ (r : Reading). r .offset) k)))
 
-    module _ {ns : List ℕ} (a : ns ≡ numbersIn (read map)) where
-      pub added-long : length ns ≡ 15
-      unfolding sums
-      added-long = ap length (a ∙ ap numbersIn (add-holding .held))
+    module _ {size n m energy : ℕ} (h : e ≡ Head size n m energy) where
+      pub add-headed : {to : ℕ} → to ≡ behindAt map 0 → Headed map to n m
+      add-headed t = record { size = size; energy = energy; head = sym is ∙ h; behind = t }
 
-      pub add-told : {report′ : List ℕ} {n : ℕ} → Told report (renewed report (together report ns)) report′ n → Added report map report′ (record { number = n; offset = 0 })
-      unfolding sums
-      add-told {report′} {n} t =
-          let m = add-holding .held-map in
-          let same : listed ns ≡ spec.totals-of m = ap listed (a ∙ ap numbersIn (add-holding .held)) in
-          let o : renewed report (together report ns) ≡ spec.report-add report map =
-          ap (λ (u : Totals). renewed report (spec.join (spec.totals-in report) u)) same ∙ sym (ap (spec.added report) (add-holding .held)) in
-          record { said = said-by (renewed report (together report ns)) n not-bad (t .number) ∙ ap saidOf o; bytes = t .bytes ∙ ap (spec.report-after report) o }
-        where
-          not-bad : (at : ℕ) → renewed report (together report ns) ≡ bad-map at → ⊥
-          not-bad at = renewed-good report (together report ns) at
+      module _ {p : Pass} (k : p ≡ passOf (read map)) where
+        pub add-bad : {at : ℕ} → p ≡ Bad at → Added report map report (record { number = 12; offset = at })
+        add-bad {at} q = by-said (read map) refl k
+          where
+            by-said : (s : Said) → read map ≡ s → p ≡ passOf s → Added report map report (record { number = 12; offset = at })
+            by-said (holds v) x y = never (cc)
+            by-said (bad o) x y = refused at (x ∙ ap bad (cc))
 
-          said-by : (p : ReportOutcome) (k : ℕ) → ((at : ℕ) → p ≡ bad-map at → ⊥) → k ≡ numberOf p → _≡_ {A = Reading} (record { number = k; offset = 0 }) (saidOf p)
-          said-by (reported b) k f q = rw q
-          said-by (bad-map at) k f q = absurd (f at refl)
-          said-by no-fit k f q = rw q
+        pub add-told : {c : Counts} → p ≡ Whole c → {ns : List ℕ} → ns ≡ numbersOf c energy → {report′ : List ℕ} {x : ℕ}
+            → Told report (renewed report (together report ns)) report′ x → Added report map report′ (record { number = x; offset = 0 })
+        unfolding spec.totals-of
+        add-told {c} q {ns} a {report′} {x} t = by-said (read map) refl k
+          where
+            not-bad : (at : ℕ) → renewed report (together report ns) ≡ bad-map at → ⊥
+            not-bad at = renewed-good report (together report ns) at
+
+            said-by : (o : ReportOutcome) (k : ℕ) → ((at : ℕ) → o ≡ bad-map at → ⊥) → k ≡ numberOf o → _≡_ {A = Reading} (record { number = k; offset = 0 }) (saidOf o)
+            said-by (reported b) k f q = rw q
+            said-by (bad-map at) k f q = absurd (f at refl)
+            said-by no-fit k f q = rw q
+
+            told-by : (v : Map) → read map ≡ holds v → c ≡ countsOf (spec.totals-of v) → Added report map report′ (record { number = x; offset = 0 })
+            told-by v r z =
+                let y : energy ≡ v .energy = energy-is map (sym is ∙ h) r in
+                let same : listed ns ≡ spec.totals-of v = ap listed (a ∙ ap₂ numbersOf z y) in
+                let o : renewed report (together report ns) ≡ spec.report-add report map =
+                ap (λ (u : Totals). renewed report (spec.join (spec.totals-in report) u)) same ∙ sym (ap (spec.added report) r) in
+                record { said = said-by (renewed report (together report ns)) x not-bad (t .number) ∙ ap saidOf o; bytes = t .bytes ∙ ap (spec.report-after report) o }
+
+            by-said : (s : Said) → read map ≡ s → p ≡ passOf s → Added report map report′ (record { number = x; offset = 0 })
+            by-said (holds v) r y = told-by v r (cc)
+            by-said (bad o) r y = never (cc)
+
+pub numbers-of-long : {c : Counts} {energy : ℕ} {ns : List ℕ} → ns ≡ numbersOf c energy → length ns ≡ 15
+numbers-of-long e = ap length e

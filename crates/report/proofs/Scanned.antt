@@ -1,37 +1,55 @@
--- The pass over the entries of bytes that hold a map: what is still to come from an entry on ends where the whole does. Assumes nothing.
+-- The one pass over a stored map: what is counted so far and what is still to come are the totals of all its entries, and the reader's scan judges them. Assumes nothing.
 use mathlib.Core.Path.{_≡_, refl, sym, ap, ap₂, _∙_}
 use mathlib.Core.Bool.{Bool, true, false}
-use mathlib.Core.List.{List, [], _∷_, _++_, map}
+use mathlib.Core.List.{List, [], _∷_}
 use Prim.Native.Nat.{ℕ, zero, suc, _+_, _*_, _-_, _^_, _≤_, _<_}
 use native.Mathlib.Omega.{arith}
-use native.Mathlib.Decide.{decLt}
+use native.Mathlib.Decide.{decLe}
 use lib.Dec.{eqb}
 use lib.ListN.{length, take, drop}
+use borrow.Author.Tests.{eq-eqb, ne-eqb}
 use Rattle.spec.specs.Lists.{if}
 use Rattle.spec.specs.Stacks.{entry as no-state}
-use Rattle.spec.specs.Search.{Found, nowhere, found}
+use Rattle.spec.specs.Search.{nowhere, found}
 use Rattle.spec.specs.Entries.{Map, absent}
-use Rattle.spec.specs.Reader.{Reading as Said, holds, bad, Item, a-head, a-block, a-way, a-record, destined, addresses, read}
-use Rattle.spec.specs.Report.{Totals, totals-of, nothing-yet, join, sums}
-use Rattle.laws.proofs.Branch.{both}
+use Rattle.spec.specs.Forms.{announced}
+use Rattle.spec.specs.Reader.{Reading as Said, holds, bad, Piece, Item, a-head, items, destined, addresses, read}
+use Rattle.spec.specs.BadEntries.{Whole as WholeEntry}
+use Rattle.spec.specs.Report.{Totals, totals-of, nothing-yet, join}
+use Rattle.laws.proofs.Branch.{both, if-true, if-false}
 use Rattle.theorems.proofs.ReaderPlaces.{never}
 use Rattle.theorems.proofs.ReaderItems.{items-of}
 use Rattle.theorems.proofs.ReportLaws.{join-assoc, join-comm, join-neutral}
 use Rattle.lent.proofs.Parts.{length-part}
-use Rattle.reader.specs.Shapes.{behindAt, entryAt, itemOf}
-use Rattle.reader.specs.Walks.{walkAt, itemsFrom, Walking, over, here}
+use Rattle.reader.specs.Shapes.{from, behindAt, entryAt, itemOf}
+use Rattle.reader.specs.Classes.{classOf, stepOf, blockIn, recordIn}
+use Rattle.reader.specs.Scanning.{Within, turnTo, turnOf, refuses, lastOf, restOf, readingOf}
+use Rattle.reader.specs.Walks.{itemsFrom}
 use Rattle.reader.specs.declared.entry.Entry.{Entry}
 use Rattle.reader.specs.declared.entry.Entry.the-variants.{Head, Terminate, Jump, Jumpi, DynamicJump, DynamicJumpi, Way, Record, Unknown, Wrong, Cut}
-use Rattle.reader.specs.declared.walk.Walk.{Walk}
-use Rattle.reader.specs.declared.walk.Walk.the-variants.{Here, Over}
-use Rattle.reader.proofs.Walked.{Begun, begins, Steps, stepping, ended, next-here, next-over}
+use Rattle.reader.specs.declared.class.Class.{Class}
+use Rattle.reader.specs.declared.class.Class.the-variants.{Bad as BadOf, Head as HeadOf}
+use Rattle.reader.specs.declared.class.Order.the-variants.{Blocks}
+use Rattle.reader.specs.declared.class.Step.{Step}
+use Rattle.reader.specs.declared.class.Step.the-variants.{To, Stop}
+use Rattle.reader.specs.declared.scan.Scan.{Scan}
+use Rattle.reader.specs.declared.scan.Reading.{Reading}
+use Rattle.reader.specs.declared.scan.Turn.{Turn}
+use Rattle.reader.specs.declared.scan.Turn.the-variants.{On, Bad as Stops}
+use Rattle.reader.proofs.Onward.{from-end}
+use Rattle.reader.proofs.Judging.{entry-cut, behind-whole, items-on}
+use Rattle.reader.proofs.Turning.{behind-in}
+use Rattle.reader.proofs.Resting.{Scans, scan-start, scan-on, scan-less, scan-bad, scan-last, read-head}
+use Rattle.reader.proofs.Walked.{begins}
 use Rattle.reader.proofs.Paths.{way-inside, record-inside}
-use Rattle.report.specs.Counts.{totalsOf, at-place, shutOf, pathOf, recordOf, addsOf, seesOf, seenBy, openedBy, Shut, Counted, RoomToShut, Roomy}
-use Rattle.report.specs.Scanning.{Holding, behindHead, numbersIn}
+use Rattle.report.specs.Counts.{totalsOf, countsOf, noneCounted, at-place, shutOf, pathOf, recordOf, addsOf, seesOf, seenBy, openedBy, Shut, Counted, RoomToShut, Roomy}
+use Rattle.report.specs.Scanning.{Headed, closedOf, passOf}
 use Rattle.report.specs.declared.count.Counts.{Counts}
 use Rattle.report.specs.declared.count.Open.{Open}
 use Rattle.report.specs.declared.count.Open.the-variants.{Static, NoneYet, Only, Several}
-use Rattle.report.proofs.Items.{kind-totals, record-totals, opened, seen, scan, tail-of, scan-is}
+use Rattle.report.specs.declared.scan.Pass.{Pass}
+use Rattle.report.specs.declared.scan.Pass.the-variants.{Whole, Bad}
+use Rattle.report.proofs.Items.{record-totals, seen, scan, tail-of, scan-is}
 
 -- ---- an entry as an item
 
@@ -148,153 +166,148 @@ small-on {c} {r} {o} {e} {at} {to} s k h =
       nowhere = omega (arith, ap (λ (t : Totals). t .records-nowhere) q);
     }
 
+-- ---- one turn
+
+-- a scan that goes on stands behind the entry, which is right by itself
+module _ (b : List ℕ) (s u : Scan) (e : turnOf b s ≡ On u) where
+  abbrev kind-of : Class
+  kind-of = classOf (entryAt b (s .at))
+
+  turned-by : turnTo b s kind-of (stepOf kind-of (s .place) (s .at)) ≡ On u
+  unfolding turnOf
+  turned-by = e
+
+  turned-at : u .at ≡ behindAt b (s .at)
+  turned-at = by-step (stepOf kind-of (s .place) (s .at)) turned-by
+    where
+      by-step : (st : Step) → turnTo b s kind-of st ≡ On u → u .at ≡ behindAt b (s .at)
+      by-step (To p) q =
+          let z : record { at = behindAt b (s .at); place = p; blocks = s .blocks + blockIn kind-of; records = s .records + recordIn kind-of } ≡ u = cc in
+          sym (ap (λ (x : Scan). x .at) z)
+      by-step Stop q = never (cc)
+
+  turned-right : kind-of ≡ BadOf → ⊥
+  turned-right z = let y : turnTo b s BadOf Stop ≡ On u = sym (ap (λ (x : Class). turnTo b s x (stepOf x (s .place) (s .at))) z) ∙ turned-by in never (cc)
+
+-- ---- a head, and what bytes that hold a map have behind it
+
+module _ (b : List ℕ) {size n k energy : ℕ} (h : entryAt b 0 ≡ Head size n k energy) where
+  head-right : classOf (entryAt b 0) ≡ BadOf → ⊥
+  head-right z = let y : HeadOf ≡ BadOf = sym (ap classOf h) ∙ z in never (cc)
+
+  behind-some : 0 < behindAt b 0
+  behind-some = by-whole (decLe (6 + announced (drop 0 b)) (length (drop 0 b)))
+    where
+      by-whole : Dec (WholeEntry (drop 0 b)) → 0 < behindAt b 0
+      by-whole (yes w) = omega (arith, behind-whole b 0 w)
+      by-whole (no v) = absurd (head-right (ap classOf (entry-cut b 0 v)))
+
+  module _ {m : Map} (r : read b ≡ holds m) where
+    all-items : a-head size n k energy ∷ itemsFrom b (behindAt b 0) ≡ items-of m
+    unfolding itemsFrom
+    all-items = sym (items-on b 0 head-right ∙ ap {B = List Item} (λ (e : Entry). itemOf b e ∷ items (from b (behindAt b 0))) h) ∙ begins b m r .all
+
+    rest-is : itemsFrom b (behindAt b 0) ≡ tail-of m
+    rest-is = let z = all-items in cc
+
+    pub energy-is : energy ≡ m .energy
+    energy-is = let z = all-items in cc
+
 -- ---- the loop
 
-pub record Scans (b : List ℕ) (c : Counts) (o : Open) (at : ℕ) : Type 0 where
-  pub walking : Walking b at
-  pub same : scan (itemsFrom b at) (totalsOf c) o ≡ behindHead (read b)
-  pub inside : at ≤ length b
-  pub small : Small c at
+pub record Passes (b : List ℕ) (start : ℕ) (s : Scan) (c : Counts) (o : Open) : Type 0 where
+  pub scans : Scans b start s
+  pub same : scan (itemsFrom b start) nothing-yet Static ≡ scan (itemsFrom b (s .at)) (totalsOf c) o
+  pub small : Small c (s .at)
 
-module _ {b : List ℕ} {c : Counts} {o : Open} {at : ℕ} (s : Scans b c o at) where
-  pub room-to-shut : length b < 2 ^ 64 → RoomToShut c
-  room-to-shut h =
-      record { unresolved = omega (arith, s .small .unresolved, s .inside); one = omega (arith, s .small .one, s .inside); several = omega (arith, s .small .several, s .inside) }
-
-  pub roomy : length b < 2 ^ 64 → Roomy c
-  roomy h =
-      record {
-        terminate = omega (arith, s .small .terminate, s .inside);
-        jump = omega (arith, s .small .jump, s .inside);
-        jumpi = omega (arith, s .small .jumpi, s .inside);
-        dynamic-jump = omega (arith, s .small .dynamic-jump, s .inside);
-        dynamic-jumpi = omega (arith, s .small .dynamic-jumpi, s .inside);
-        found = omega (arith, s .small .found, s .inside);
-        nowhere = omega (arith, s .small .nowhere, s .inside);
-        to-shut = room-to-shut h;
-      }
-
-  module _ {r : Walk} (q : r ≡ walkAt b at) where
-    -- the entry that stands there
-    here-is : {e : Entry} {to : ℕ} → r ≡ Here e to → e ≡ entryAt b at
-    here-is {e} {to} k = by-walk (s .walking)
-      where
-        by-walk : Walking b at → e ≡ entryAt b at
-        by-walk (over z) = let n : itemsFrom b at ≡ [] = ended (s .walking) q (q ∙ sym (next-over b at (omega arith))) in never (let m = stepping (s .walking) q k .item in cc)
-        by-walk (here l n v) = let z : Here e to ≡ Here (entryAt b at) (behindAt b at) = sym k ∙ q ∙ sym (next-here b at l refl refl) in cc
-
-    pub scans-on : {e : Entry} {to : ℕ} {c′ : Counts} {o′ : Open} → r ≡ Here e to → Counted c o e c′ → o′ ≡ openedBy e o → Scans b c′ o′ to
-    scans-on {e} {to} {c′} {o′} k d p =
-        let t = stepping (s .walking) q k in
-        record {
-          walking = t .walking;
-          same =
-              ap₂ (λ (u : Totals) (w : Open). scan (itemsFrom b to) u w) (d .is) p
-              ∙ sym (scan-entry b at (itemsFrom b to) (totalsOf c) o e (here-is k)) ∙ sym (ap (λ (is : List Item). scan is (totalsOf c) o) (t .item)) ∙ s .same;
-          inside = t .inside;
-          small = small-on (s .small) d (t .on);
-        }
-
-    pub scans-less : {e : Entry} {to : ℕ} → r ≡ Here e to → length b - to < length b - at
-    scans-less k = let t = stepping (s .walking) q k in omega (arith, t .on, t .inside)
-
-    pub scans-end : {c′ : Counts} → r ≡ Over → Shut c o c′ → totalsOf c′ ≡ behindHead (read b)
-    unfolding scan
-    scans-end k d = d .is ∙ sym (ap (λ (is : List Item). scan is (totalsOf c) o) (ended (s .walking) q k)) ∙ s .same
-
--- ---- the head
-
--- bytes that hold a map begin with its head
-record Headed (b : List ℕ) (m : Map) : Type 0 where
-  steps : Steps b 0 (entryAt b 0) (behindAt b 0)
-  walk : Here (entryAt b 0) (behindAt b 0) ≡ walkAt b 0
-  first-is : itemOf b (entryAt b 0) ≡ a-head (m .size) (length (m .blocks)) (length (m .recs)) (m .energy)
-  rest-is : itemsFrom b (behindAt b 0) ≡ tail-of m
-
-headed : (b : List ℕ) (m : Map) → read b ≡ holds m → Headed b m
-headed b m e = by-length (decLt 0 (length b))
-  where
-    by-length : Dec (0 < length b) → Headed b m
-    by-length (yes h) =
-        let k = begins b m e in
-        let w = next-here b 0 h refl refl in
-        let s = stepping (k .walking) refl (sym w) in
-        let z : itemOf b (entryAt b 0) ∷ itemsFrom b (behindAt b 0) ≡ items-of m = sym (s .item) ∙ k .all in
-        record { steps = s; walk = w; first-is = cc; rest-is = cc }
-    by-length (no n) = let k = begins b m e in let z : items-of m ≡ [] = sym (k .all) ∙ ended (k .walking) refl (sym (next-over b 0 (omega arith))) in never (cc)
-
-abbrev pub none-counted : Counts
-none-counted = record {
-  terminate = 0;
-  jump = 0;
-  jumpi = 0;
-  «dynamic_jump» = 0;
-  «dynamic_jumpi» = 0;
-  unresolved = 0;
-  one = 0;
-  several = 0;
-  found = 0;
-  nowhere = 0;
-  longest = 0;
-}
-
-module _ {b : List ℕ} (h : Holding b) where
-  behind-some : 0 < behindAt b 0
-  behind-some = headed b (h .held-map) (h .held) .steps .on
-
-  pub scans-begin : {from : ℕ} → from ≡ behindAt b 0 → Scans b none-counted Static from
-  scans-begin {from} q =
-      let k = headed b (h .held-map) (h .held) in
-      let p = behind-some in
-      rw q (record {
-        walking = k .steps .walking;
-        same = ap (λ (is : List Item). scan is nothing-yet Static) (k .rest-is) ∙ scan-is (h .held-map) ∙ sym (ap behindHead (h .held));
-        inside = k .steps .inside;
+module _ {b : List ℕ} {to n m : ℕ} (h : Headed b to n m) where
+  pub pass-start : {c : Counts} → c ≡ noneCounted → Passes b to (record { at = to; place = Blocks 0; blocks = 0; records = 0 }) c Static
+  pass-start e =
+      let p : 0 < to = rw (h .behind) (behind-some b (h .head)) in
+      rw e (record {
+        scans = scan-start b to (rw (h .behind) (behind-in b 0));
+        same = refl;
         small = record { terminate = p; jump = p; jumpi = p; dynamic-jump = p; dynamic-jumpi = p; unresolved = p; one = p; several = p; found = p; nowhere = p };
       })
 
--- ---- the numbers
+  module _ {s : Scan} {c : Counts} {o : Open} (z : Passes b to s c o) where
+    pub pass-within : Within b s
+    pass-within = z .scans .within
 
--- the first step of the walk is the head
-module _ {b : List ℕ} (h : Holding b) {r : Walk} (q : r ≡ walkAt b 0) where
-  pub first-not-over : r ≡ Over → ⊥
-  first-not-over k = let w = headed b (h .held-map) (h .held) .walk in never (cc)
+    pub pass-shuts : length b < 2 ^ 64 → RoomToShut c
+    pass-shuts f =
+        let w = z .scans .within .inside in
+        record { unresolved = omega (arith, z .small .unresolved); one = omega (arith, z .small .one); several = omega (arith, z .small .several) }
 
-  module _ {e : Entry} {to : ℕ} (k : r ≡ Here e to) where
-    pub first-to : to ≡ behindAt b 0
-    first-to = let w = headed b (h .held-map) (h .held) .walk in cc
+    pub pass-roomy : length b < 2 ^ 64 → Roomy c
+    pass-roomy f =
+        let w = z .scans .within .inside in
+        record {
+          terminate = omega (arith, z .small .terminate);
+          jump = omega (arith, z .small .jump);
+          jumpi = omega (arith, z .small .jumpi);
+          dynamic-jump = omega (arith, z .small .dynamic-jump);
+          dynamic-jumpi = omega (arith, z .small .dynamic-jumpi);
+          found = omega (arith, z .small .found);
+          nowhere = omega (arith, z .small .nowhere);
+          to-shut = pass-shuts f;
+        }
 
-    first-item : itemOf b e ≡ a-head (h .held-map .size) (length (h .held-map .blocks)) (length (h .held-map .recs)) (h .held-map .energy)
-    first-item =
-        let w = headed b (h .held-map) (h .held) .walk in
-        let z : e ≡ entryAt b 0 = cc in
-        ap (itemOf b) z ∙ headed b (h .held-map) (h .held) .first-is
+    reads : {r : Reading} → r ≡ restOf b to n m → r ≡ readingOf (read b)
+    reads e = read-head b refl (h .head) (h .behind) e
 
-    pub first-head : ((size n m energy : ℕ) → e ≡ Head size n m energy → ⊥) → ⊥
-    first-head f = by e first-item f
-      where
-        by : (x : Entry) → itemOf b x ≡ a-head (h .held-map .size) (length (h .held-map .blocks)) (length (h .held-map .recs)) (h .held-map .energy) → ((size n m energy : ℕ) → x ≡ Head size n m energy → ⊥) → ⊥
-        by (Head s n m y) i g = g s n m y refl
-        by (Terminate s d y) i g = never (cc)
-        by (Jump s d y) i g = never (cc)
-        by (Jumpi s d x y) i g = never (cc)
-        by (DynamicJump s d n) i g = never (cc)
-        by (DynamicJumpi s d f n) i g = never (cc)
-        by (Way t p n) i g = never (cc)
-        by (Record s t p n) i g = never (cc)
-        by Unknown i g = never (cc)
-        by Wrong i g = never (cc)
-        by Cut i g = never (cc)
+    -- an entry is counted as it is turned; what was counted is dropped where the scan stops
+    module _ (l : s .at < length b) {r : Turn} (t : r ≡ turnOf b s) where
+      pub pass-less : {u : Scan} → r ≡ On u → length b - u .at < length b - s .at
+      pass-less q = scan-less (z .scans) l t q
 
-    pub numbers-told : {size n m energy : ℕ} {c : Counts} → e ≡ Head size n m energy → totalsOf c ≡ behindHead (read b)
-        → 1 ∷ c .terminate ∷ c .jump ∷ c .jumpi ∷ c .«dynamic_jump» ∷ c .«dynamic_jumpi» ∷ c .unresolved ∷ c .one ∷ c .several ∷ c .found ∷ c .nowhere ∷ c .longest ∷ energy ∷ 0 ∷ 0 ∷ []
-        ≡ numbersIn (read b)
-    unfolding sums totals-of
-    numbers-told {size} {n} {m} {energy} {c} z t =
-        let y : a-head size n m energy ≡ a-head (h .held-map .size) (length (h .held-map .blocks)) (length (h .held-map .recs)) (h .held-map .energy) = sym (ap (itemOf b) z) ∙ first-item in
-        let same : energy ≡ h .held-map .energy = cc in
-        ap₂ (λ (u : Totals) (x : ℕ). as-list u x) (t ∙ ap behindHead (h .held)) same ∙ sym (ap numbersIn (h .held))
-      where
-        as-list : Totals → ℕ → List ℕ
-        as-list u x =
-            1 ∷ u .kind-2 ∷ u .kind-3 ∷ u .kind-4 ∷ u .kind-5 ∷ u .kind-6 ∷ u .unresolved ∷ u .with-one ∷ u .with-several ∷ u .records-to ∷ u .records-nowhere ∷ u .longest ∷ x ∷ 0 ∷ 0 ∷ []
+      pub pass-on : {u : Scan} {e : Entry} {c′ : Counts} {o′ : Open} → r ≡ On u → e ≡ entryAt b (s .at) → Counted c o e c′ → o′ ≡ openedBy e o → Passes b to u c′ o′
+      unfolding itemsFrom
+      pass-on {u} {e} {c′} {o′} q x d p =
+          let g = turned-at b s u (sym t ∙ q) in
+          let far : s .at < u .at = omega (arith, pass-less q) in
+          let item : itemsFrom b (s .at) ≡ itemOf b e ∷ itemsFrom b (u .at) = items-on b (s .at) (turned-right b s u (sym t ∙ q)) ∙ rw (x, g) in
+          record {
+            scans = scan-on (z .scans) l t q;
+            same =
+                z .same ∙ ap (λ (is : List Item). scan is (totalsOf c) o) item ∙ scan-entry b (s .at) (itemsFrom b (u .at)) (totalsOf c) o e x
+                ∙ sym (ap₂ (λ (v : Totals) (w : Open). scan (itemsFrom b (u .at)) v w) (d .is) p);
+            small = small-on (z .small) d far;
+          }
+
+      pub pass-bad : {i : ℕ} → r ≡ Stops i → Bad i ≡ passOf (read b)
+      pass-bad {i} q = by-said (read b) (reads (scan-bad (z .scans) l t n m q))
+        where
+          by-said : (x : Said) → refuses i ≡ readingOf x → Bad i ≡ passOf x
+          by-said (holds v) e = let k : _≡_ {A = ℕ} 12 0 = ap (λ (y : Reading). y .number) e in absurd (omega arith)
+          by-said (bad j) e = ap Bad (ap (λ (y : Reading). y .offset) e)
+
+    -- at the end they are the map's
+    module _ (l : length b ≤ s .at) where
+      counted-all : {v : Map} → read b ≡ holds v → countsOf (join (totalsOf c) (shutOf o)) ≡ countsOf (totals-of v)
+      unfolding scan itemsFrom items
+      counted-all {v} e =
+          ap countsOf (sym (z .same ∙ ap (λ (ps : List Piece). scan (items ps) (totalsOf c) o) (from-end b (s .at) l))
+          ∙ ap (λ (i : ℕ). scan (itemsFrom b i) nothing-yet Static) (h .behind) ∙ ap (λ (is : List Item). scan is nothing-yet Static) (rest-is b (h .head) e) ∙ scan-is v)
+
+      pub pass-end : {x : Pass} → x ≡ closedOf s n m c o → x ≡ passOf (read b)
+      pass-end {x} q = q ∙ by-said (read b) refl (lastOf s n m) (reads (scan-last (z .scans) l n m refl))
+        where
+          said : Reading → Pass
+          said y = if (eqb (y .number) 0) (Whole (countsOf (join (totalsOf c) (shutOf o)))) (Bad (y .offset))
+
+          by-said : (y : Said) → read b ≡ y → (r : Reading) → r ≡ readingOf y → said r ≡ passOf y
+          by-said (holds v) e r k = ap said k ∙ if-true (eqb 0 0) _ (Bad 0) refl ∙ ap Whole (counted-all e)
+          by-said (bad j) e r k = ap said k ∙ if-false (eqb 12 0) (Whole (countsOf (join (totalsOf c) (shutOf o)))) (Bad j) refl
+
+-- ---- closed
+
+module _ (s : Scan) (n m : ℕ) (c : Counts) (o : Open) {r : Reading} (e : r ≡ lastOf s n m) where
+  abbrev said : Reading → Pass
+  said x = if (eqb (x .number) 0) (Whole (countsOf (join (totalsOf c) (shutOf o)))) (Bad (x .offset))
+
+  pub closed-bad : (r .number ≡ 0 → ⊥) → Bad (r .offset) ≡ closedOf s n m c o
+  closed-bad h = sym (if-false (eqb (r .number) 0) _ (Bad (r .offset)) (ne-eqb _ 0 h)) ∙ ap said e
+
+  pub closed-whole : r .number ≡ 0 → {d : Counts} → Shut c o d → Whole d ≡ closedOf s n m c o
+  closed-whole h k = ap (λ (t : Totals). Whole (countsOf t)) (k .is) ∙ sym (if-true (eqb (r .number) 0) _ (Bad (r .offset)) (eq-eqb _ 0 h)) ∙ ap said e

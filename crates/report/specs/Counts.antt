@@ -31,6 +31,25 @@ totalsOf c = record {
   energy = 0;
 }
 
+-- and back
+abbrev pub countsOf : Totals → Counts
+countsOf t = record {
+  terminate = t .kind-2;
+  jump = t .kind-3;
+  jumpi = t .kind-4;
+  «dynamic_jump» = t .kind-5;
+  «dynamic_jumpi» = t .kind-6;
+  unresolved = t .unresolved;
+  one = t .with-one;
+  several = t .with-several;
+  found = t .records-to;
+  nowhere = t .records-nowhere;
+  longest = t .longest;
+}
+
+abbrev pub noneCounted : Counts
+noneCounted = countsOf nothing-yet
+
 -- n at one place of the 13, and 0 at the others
 abbrev pub at-place : ℕ → ℕ → Totals
 at-place i n = listed (replicate i 0 ++ n ∷ [])

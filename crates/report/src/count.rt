@@ -1,12 +1,10 @@
 // What an entry adds to the totals of its map.
 // "blocks of each kind, dynamic blocks with no destination (unresolved), one, or several distinct ones, records with and without destination, longest
 // path"
+use layout::MISSING;
 use reader::Entry;
 ghost use mathlib.Core.Path.{_≡_};
-ghost use Rattle.report.specs.Counts.{Shut, Longer, Recorded, Counted, seenBy, openedBy, RoomToShut, Roomy};
-
-// "a missing destination is 0x8000".
-const ABSENT: usize = 0x8000;
+ghost use Rattle.report.specs.Counts.{noneCounted, Shut, Longer, Recorded, Counted, seenBy, openedBy, RoomToShut, Roomy};
 
 // The totals of a map, but for the number of maps and the energy.
 pub struct Counts {
@@ -29,6 +27,25 @@ pub enum Open {
     NoneYet,
     Only(usize),
     Several,
+}
+
+// The totals of no entry.
+pub fn none_counted() -> Counts
+    ensures { λ r. ⌜ r ≡ noneCounted ⌝ }
+{
+    Counts {
+        terminate: 0,
+        jump: 0,
+        jumpi: 0,
+        dynamic_jump: 0,
+        dynamic_jumpi: 0,
+        unresolved: 0,
+        one: 0,
+        several: 0,
+        found: 0,
+        nowhere: 0,
+        longest: 0,
+    }
 }
 
 // The totals once no more 7s of the block at hand can come.
@@ -72,7 +89,7 @@ fn recorded(counts: Counts, to: usize, n: usize) -> Counts
     ensures { λ r. ⌜ Recorded counts to n r ⌝ }
 {
     let mut d = counts;
-    if to == ABSENT {
+    if to == MISSING {
         d.nowhere += 1;
         return longer(d, n);
     }
@@ -120,7 +137,7 @@ pub fn counted(counts: Counts, hand: Open, entry: Entry) -> Counts
 fn seen(hand: Open, to: usize) -> Open
     ensures { λ r. ⌜ r ≡ seenBy to hand ⌝ }
 {
-    if to == ABSENT {
+    if to == MISSING {
         return hand;
     }
     match hand {

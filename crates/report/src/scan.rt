@@ -1,84 +1,91 @@
-// The totals of a stored map, by one pass over its entries.
+// The judgement of a stored map and its totals, in one pass over its entries: the reader's scan, with each entry counted as it is turned.
 // "For a folder of stored maps, fed one after another, release management wants one report"
 use crate::count::Counts;
 use crate::count::Open;
 use crate::count::counted;
+use crate::count::none_counted;
 use crate::count::opened;
 use crate::count::shut;
-use reader::Entry;
-use reader::Walk;
-use reader::first;
-use reader::next;
+use reader::Order;
+use reader::Scan;
+use reader::Turn;
+use reader::entry_at;
+use reader::last;
+use reader::one;
 ghost use mathlib.Core.Path.{_≡_};
 ghost use Rattle.spec.specs.Reader.{read};
-ghost use Rattle.reader.specs.Shapes.{behindAt};
-ghost use Rattle.report.specs.Counts.{totalsOf};
-ghost use Rattle.report.specs.Scanning.{Holding, behindHead, numbersIn};
+ghost use Rattle.report.specs.Counts.{RoomToShut};
+ghost use Rattle.report.specs.Scanning.{Headed, closedOf, passOf, numbersOf};
 
-// The totals of the entries behind the head.
-fn entries(map: &[u8], from: usize) -> Counts
-    requires { ⌜ Holding (now map) ⌝ }
-    requires { ⌜ from ≡ behindAt (now map) 0 ⌝ }
-    ensures { λ r. ⌜ totalsOf r ≡ behindHead (read (now (map .entry))) ⌝ }
+// A map's totals; or it is refused, with the offset of its first bad entry, and what was counted is dropped.
+pub enum Pass {
+    Whole(Counts),
+    Bad(usize),
+}
+
+// At the end: the reader's last judgement, and then the block at hand.
+fn closed(scan: Scan, blocks: usize, records: usize, counts: Counts, hand: Open) -> Pass
+    requires { ⌜ RoomToShut counts ⌝ }
+    ensures { λ r. ⌜ r ≡ closedOf scan blocks records counts hand ⌝ }
 {
-    let mut c = Counts {
-        terminate: 0,
-        jump: 0,
-        jumpi: 0,
-        dynamic_jump: 0,
-        dynamic_jumpi: 0,
-        unresolved: 0,
-        one: 0,
-        several: 0,
-        found: 0,
-        nowhere: 0,
-        longest: 0,
+    let r = last(scan, blocks, records);
+    if r.number != 0 {
+        return Pass::Bad(r.offset);
+    }
+    Pass::Whole(shut(counts, hand))
+}
+
+// The entries behind the head, one a turn, with the head's counts.
+pub fn entries(map: &[u8], from: usize, blocks: usize, records: usize) -> Pass
+    requires { ⌜ Headed (now map) from blocks records ⌝ }
+    ensures { λ r. ⌜ r ≡ passOf (read (now (map .entry))) ⌝ }
+{
+    let mut s = Scan {
+        at: from,
+        place: Order::Blocks { low: 0 },
+        blocks: 0,
+        records: 0,
     };
+    let mut c = none_counted();
     let mut o = Open::Static;
-    let mut at = from;
     loop {
-        match next(map, at) {
-            Walk::Here { entry, behind } => {
+        let at = s.at;
+        if map.len() <= at {
+            return closed(s, blocks, records, c, o);
+        }
+        let entry = entry_at(map, at);
+        match one(map, s) {
+            Turn::On(t) => {
                 c = counted(c, o, entry);
                 o = opened(o, entry);
-                at = behind;
+                s = t;
             }
-            Walk::Over => {
-                return shut(c, o);
+            Turn::Bad(offset) => {
+                return Pass::Bad(offset);
             }
         }
     }
 }
 
-// The totals of a stored map as the numbers of its report; those of its share are not worked out.
-pub fn totals_of(map: &[u8]) -> [usize; 15]
-    requires { ⌜ Holding (now map) ⌝ }
-    ensures { λ r. ⌜ r ≡ numbersIn (read (now (map .entry))) ⌝ }
+// The totals of a map, with its energy, as the numbers of its report; those of its share are not worked out.
+pub fn numbers_of(counts: Counts, energy: usize) -> [usize; 15]
+    ensures { λ r. ⌜ r ≡ numbersOf counts energy ⌝ }
 {
-    match first(map) {
-        Walk::Here { entry, behind } => match entry {
-            Entry::Head { energy, .. } => {
-                let c = entries(map, behind);
-                [
-                    1,
-                    c.terminate,
-                    c.jump,
-                    c.jumpi,
-                    c.dynamic_jump,
-                    c.dynamic_jumpi,
-                    c.unresolved,
-                    c.one,
-                    c.several,
-                    c.found,
-                    c.nowhere,
-                    c.longest,
-                    energy,
-                    0,
-                    0,
-                ]
-            }
-            _ => [0; 15],
-        },
-        Walk::Over => [0; 15],
-    }
+    [
+        1,
+        counts.terminate,
+        counts.jump,
+        counts.jumpi,
+        counts.dynamic_jump,
+        counts.dynamic_jumpi,
+        counts.unresolved,
+        counts.one,
+        counts.several,
+        counts.found,
+        counts.nowhere,
+        counts.longest,
+        energy,
+        0,
+        0,
+    ]
 }
