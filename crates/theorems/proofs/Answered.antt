@@ -98,7 +98,7 @@ final-starts code is (b ∷ bs) recs =
     ap₂ {C = List ℕ} (λ (x : ℕ) (xs : List ℕ). x ∷ xs) (final-keeps recs (node b (run code is (b .start))) refl b (run code is (b .start)) refl .start) (final-starts code is bs recs)
 
 -- what is kept of a rising list rises
-rising-keep : (test : Final → Bool) {lo : ℕ} (fs : List Final) → Rising lo (finals-at fs) → Rising lo (finals-at (keep test fs))
+pub rising-keep : (test : Final → Bool) {lo : ℕ} (fs : List Final) → Rising lo (finals-at fs) → Rising lo (finals-at (keep test fs))
 rising-keep test [] r = r
 rising-keep test {lo} (f ∷ fs) (one-more h r) =
     both (λ (gs : List Final). Rising lo (finals-at gs)) (test f) (λ _. one-more h (rising-keep test fs r)) (λ _. rising-from (omega arith) (rising-keep test fs r))

@@ -1,26 +1,27 @@
--- Document 02, No. 13, of the Rust: calls of `extend_reachable_nodes` "with one list of seeds and then another", and a round's call, which grows the search's
--- own set. Assumes nothing.
-use Prim.Native.Nat.{ℕ, suc, _+_, _≤_}
+-- Document 02, No. 13, of the Rust: calls of `extend_reachable_nodes` "with one list of seeds and then another", from any set; and a round's call, which grows
+-- the search's own set. Assumes nothing.
+use Prim.Native.Nat.{ℕ, zero, suc, _+_, _≤_}
 use native.Mathlib.Omega.{arith}
 use mathlib.Core.Path.{_≡_, refl, sym, ap, subst, _∙_}
 use mathlib.Core.Logic.{_⊎_, inl, inr}
-use mathlib.Core.Bool.{Bool, true, false, or-comm}
+use mathlib.Core.Bool.{Bool, true, false, not, or-comm}
 use mathlib.Core.Option.{Option, some}
 use mathlib.Core.List.{List, [], _∷_, _++_, map, append-nil}
 use lib.Dec.{eqb}
 use lib.ListN.{length}
-use Rattle.spec.specs.Lists.{mem, lastOf, keep}
+use borrow.Author.Tests.{ne-eqb, not-true, not-false}
+use Rattle.spec.specs.Lists.{if, mem, lastOf, keep}
 use Rattle.spec.specs.Reach.{Edge, edge}
 use Rattle.spec.specs.Search.{Node, sides, edges, Rec, dest, dests, reached-by}
 use Rattle.spec.specs.Ending.{Final}
-use Rattle.laws.proofs.Members.{In, here, there, same-test, mem-append, mem-in, in-mem, and-both, and-true, in-only, in-left, in-right, in-cases, in-keep, in-gather, gather-in, in-map, map-in, gather-append}
+use Rattle.laws.proofs.Branch.{both, if-true, if-false, and-then}
+use Rattle.laws.proofs.Members.{In, here, there, same-test, mem-append, mem-in, in-mem, or-right, and-both, and-true, in-only, in-left, in-right, in-cases, in-keep, in-gather, gather-in, in-map, map-in, gather-append}
 use Rattle.laws.proofs.Lists.{Rising}
-use Rattle.theorems.proofs.Answered.{finals-at}
+use Rattle.theorems.proofs.Answered.{finals-at, rising-keep}
 use Rattle.theorems.proofs.Reached.{Closed, Reached, seed, along, closure-sound, closure-complete}
 use Rattle.theorems.proofs.Batches.{_≈_, extend, extend-is, extend-seeds, extend-reached, closure-closed, reached-from}
-use Rattle.theorems.proofs.Extending.{Targets, Extended, extend-reachable-nodes, known-edges, Loose, pushes-of, Extends, extending, extend-each, joined, extending-each}
-
--- ---- in any order
+use Rattle.theorems.proofs.Queue.{pushed, block-at, of-block, while-pops}
+use Rattle.theorems.proofs.Extending.{Targets, Extended, visits, extend-reachable-nodes, known-edges, Loose, pushes-of, Extends, extending, extend-each, joined, Leaves, extending-each}
 
 -- both end, with the same members
 pub record Alike (o p : Option (List ℕ)) : Type 0 where
@@ -30,24 +31,117 @@ pub record Alike (o p : Option (List ℕ)) : Type 0 where
   pub is-other : p ≡ some other
   pub same : one ≈ other
 
+-- ---- the blocks that a call may look at
+
+-- those that do not start in the set: at a start that is in it nothing is looked up
+abbrev pub outside : List ℕ → List Final → List Final
+outside got = keep (λ (f : Final). not (mem (f .block .start) got))
+
+-- a test that is true of more is false of fewer
+not-more : {a b : Bool} → (a ≡ true → b ≡ true) → b ≡ false → a ≡ false
+not-more {a = true} h e = sym (h refl) ∙ e
+not-more {a = false} h e = refl
+
+both-ways : {b : Bool} → b ≡ true → b ≡ false → ⊥
+both-ways on off = let z : _≡_ {A = ℕ} 0 1 = cc in omega arith
+
+block-outside : (got : List ℕ) (a : ℕ) → mem a got ≡ false → (fs : List Final) → block-at a (outside got fs) ≡ block-at a fs
+block-outside got a off [] = refl
+block-outside got a off (f ∷ fs) =
+    let ih = block-outside got a off fs in
+    both (λ (l : List Final). block-at a l ≡ block-at a (f ∷ fs)) (not (mem (f .block .start) got))
+    (λ _. ap (λ (o : Option Final). if (eqb a (f .block .start)) (some f) o) ih)
+    (λ on. ih ∙ sym (if-false _ _ _ (ne-eqb a (f .block .start) (λ e. both-ways (not-false _ on) (subst (λ (x : ℕ). mem x got ≡ false) e off)))))
+
+-- the edges from a block that starts outside lead from no member
+outside-closed : (fs : List Final) (wt : Targets) (got : List ℕ) → Closed (known-edges (outside got fs) wt) got
+outside-closed fs wt got e i on =
+    let g = in-gather (λ (f : Final). map (edge (f .block .start) (f .block .start)) (sides (f .block .kind) ++ wt (f .block .start))) (outside got fs) i in
+    let a = g .0 .block .start in
+    let m = in-map (edge a a) (sides (g .0 .block .kind) ++ wt a) (g .2) in
+    let place : mem a got ≡ true = ap (λ (d : Edge). mem (d .place) got) (sym (m .2)) ∙ and-both (mem (e .place) got) (mem (e .witness) got) on .0 in
+    absurd (both-ways place (not-true _ (in-keep (λ (f : Final). not (mem (f .block .start) got)) fs (g .1) .0)))
+
+fewer-pushes : (wt : Targets) (got : List ℕ) (fs : List Final) → pushes-of (outside got fs) wt ≤ pushes-of fs wt
+fewer-pushes wt got [] = omega arith
+fewer-pushes wt got (f ∷ fs) =
+    let ih = fewer-pushes wt got fs in
+    both (λ (l : List Final). pushes-of l wt ≤ pushes-of (f ∷ fs) wt) (not (mem (f .block .start) got)) (λ _. omega arith) (λ _. omega arith)
+
+-- all that is in the first is in the second
+abbrev Among : List ℕ → List ℕ → Type 0
+Among got set = (a : ℕ) → mem a got ≡ true → mem a set ≡ true
+
+module _ (fs : List Final) (got : List ℕ) (pushes : List ℕ → ℕ → Final → Option (List ℕ)) where
+  -- the loop does not look at the others
+  same-loop : (n : ℕ) (queue set : List ℕ) → Among got set → while-pops fs pushes n queue set ≡ while-pops (outside got fs) pushes n queue set
+  unfolding while-pops
+  same-loop zero queue set h = refl
+  same-loop (suc n) [] set h = refl
+  same-loop (suc n) (c ∷ queue) set h = by-test (mem c set) refl (same-loop n queue set h) (λ ts. same-loop n (pushed ts queue) (c ∷ set) (λ a m. or-right (eqb a c) _ (h a m)))
+    where
+      enters : List Final → Option (List ℕ)
+      enters gs = and-then (of-block (pushes (c ∷ set) c) (block-at c gs)) (λ ts. while-pops gs pushes n (pushed ts queue) (c ∷ set))
+
+      by-test : (b : Bool) → mem c set ≡ b → while-pops fs pushes n queue set ≡ while-pops (outside got fs) pushes n queue set
+          → ((ts : List ℕ) → while-pops fs pushes n (pushed ts queue) (c ∷ set) ≡ while-pops (outside got fs) pushes n (pushed ts queue) (c ∷ set))
+          → if b (while-pops fs pushes n queue set) (enters fs) ≡ if b (while-pops (outside got fs) pushes n queue set) (enters (outside got fs))
+      by-test true e skips later = if-true true _ _ refl ∙ skips ∙ sym (if-true true _ _ refl)
+      by-test false e skips later =
+          if-false false _ _ refl
+          ∙ ap (λ (o : Option Final). and-then (of-block (pushes (c ∷ set) c) o) (λ ts. while-pops fs pushes n (pushed ts queue) (c ∷ set))) (sym (block-outside got c (not-more (h c) e) fs))
+          ∙ (λ i. and-then (of-block (pushes (c ∷ set) c) (block-at c (outside got fs))) (λ ts. later ts i))
+          ∙ sym (if-false false _ _ refl)
+
+-- ---- in any order
+
 closed-loose : (es : List Edge) (got seeds : List ℕ) → Closed es got → Loose es got seeds
 closed-loose es got seeds c e i on = in-mem (e .to) (in-right seeds (mem-in (e .to) got (c e i on)))
 
--- fixed blocks and witness targets, and pops enough for each list of seeds
+-- fixed blocks and witness targets, and pops enough for each list of seeds; any set
 module _ (fs : List Final) (wt : Targets) (rising : Rising 0 (finals-at fs)) (n : ℕ) where
-  abbrev es : List Edge
-  es = known-edges fs wt
-
   abbrev pub Enough : List ℕ → Type 0
   Enough seeds = suc (length seeds + pushes-of fs wt) ≤ n
 
-  module _ (got : List ℕ) (closed : Closed es got) where
+  module _ (got : List ℕ) where
+    abbrev others : List Final
+    others = outside got fs
+
+    abbrev es : List Edge
+    es = known-edges others wt
+
+    rises : Rising 0 (finals-at others)
+    rises = rising-keep _ fs rising
+
+    enough : (seeds : List ℕ) → Enough seeds → suc (length seeds + pushes-of others wt) ≤ n
+    enough seeds h = omega (arith, fewer-pushes wt got fs)
+
+    same-call : (set seeds : List ℕ) → Among got set → extend-reachable-nodes n fs wt set seeds ≡ extend-reachable-nodes n others wt set seeds
+    same-call set seeds h =
+        ap (λ (o : Option (List ℕ)). and-then o (λ s. some (record { reachable = s; grew = not (eqb (length s) (length set)) })))
+        (same-loop fs got (λ s current f. some (visits wt s current f)) n (pushed seeds []) set h)
+
+    same-calls : (set : List ℕ) (bs : List (List ℕ)) → ((b : List ℕ) → In b bs → Enough b) → Among got set
+        → extend-each n fs wt set bs ≡ extend-each n others wt set bs
+    same-calls set [] f h = refl
+    same-calls set (b ∷ bs) f h =
+        let r = extending fs wt rising set b n (f b here) in
+        ap (λ (o : Option Extended). and-then o (λ x. extend-each n fs wt (x .reachable) bs)) (r .is)
+        ∙ same-calls (r .out .reachable) bs (λ c i. f c (there i)) (λ a m. r .keeps a (h a m))
+        ∙ sym (ap (λ (o : Option Extended). and-then o (λ x. extend-each n others wt (x .reachable) bs)) (sym (same-call set b h) ∙ r .is))
+
+    -- Calls one after the other leave the set extended by all their seeds, along the edges of the blocks outside.
+    pub rust-extends : (bs : List (List ℕ)) → ((b : List ℕ) → In b bs → Enough b) → Leaves (known-edges (outside got fs) wt) got bs (extend-each n fs wt got bs)
+    rust-extends bs f =
+        let l = extending-each others wt rises n got bs (λ b i. enough b (f b i)) (closed-loose es got (joined bs) (outside-closed fs wt got)) in
+        record { set = l .set; is = same-calls got bs f (λ a m. m) ∙ l .is; same = l .same }
+
     -- Batches that have the same seeds leave the same set.
     pub batches-alike : (bs cs : List (List ℕ)) → ((b : List ℕ) → In b bs → Enough b) → ((c : List ℕ) → In c cs → Enough c) → joined bs ≈ joined cs
         → Alike (extend-each n fs wt got bs) (extend-each n fs wt got cs)
     batches-alike bs cs f g h =
-        let l = extending-each fs wt rising n got bs f (closed-loose es got (joined bs) closed) in
-        let r = extending-each fs wt rising n got cs g (closed-loose es got (joined cs) closed) in
+        let l = rust-extends bs f in
+        let r = rust-extends cs g in
         record {
           one = l .set;
           other = r .set;
@@ -81,17 +175,17 @@ module _ (fs : List Final) (wt : Targets) (rising : Rising 0 (finals-at fs)) (n 
     -- Seeds already reached change nothing, and false is returned;
     pub rust-reached : (seeds : List ℕ) → Enough seeds → ((s : ℕ) → In s seeds → mem s got ≡ true)
         → extend-reachable-nodes n fs wt got seeds ≡ some (record { reachable = got; grew = false })
-    rust-reached seeds h reached = r .is ∙ ap some (nothing (r .out) (r .stayed) (r .more) inside (r .out .grew) refl)
+    rust-reached seeds h reached = same-call got seeds (λ a m. m) ∙ r .is ∙ ap some (nothing (r .out) (r .stayed) (r .more) inside (r .out .grew) refl)
       where
-        r : Extends es got seeds (extend-reachable-nodes n fs wt got seeds)
-        r = extending fs wt rising got seeds n h
+        r : Extends es got seeds (extend-reachable-nodes n others wt got seeds)
+        r = extending others wt rises got seeds n (enough seeds h)
 
         inside : (a : ℕ) → mem a (r .out .reachable) ≡ true → mem a got ≡ true
-        inside a m = ap (mem a) (sym (extend-reached es got seeds closed reached)) ∙ extend-is es got seeds a ∙ closure-complete es (seeds ++ got) a (r .only a m)
+        inside a m = ap (mem a) (sym (extend-reached es got seeds (outside-closed fs wt got) reached)) ∙ extend-is es got seeds a ∙ closure-complete es (seeds ++ got) a (r .only a m)
 
         nothing : (x : Extended) → (x .grew ≡ false → x .reachable ≡ got) → (x .grew ≡ true → (a : ℕ) × (mem a got ≡ false) × (mem a (x .reachable) ≡ true))
             → ((a : ℕ) → mem a (x .reachable) ≡ true → mem a got ≡ true) → (b : Bool) → x .grew ≡ b → x ≡ record { reachable = got; grew = false }
-        nothing x f g k true e = let w = g e in let m = k (w .0) (w .2) in let off = w .1 in let z : _≡_ {A = ℕ} 0 1 = cc in absurd (omega arith)
+        nothing x f g k true e = let w = g e in absurd (both-ways (k (w .0) (w .2)) (w .1))
         nothing x f g k false e = rw (f e, e) refl
 
     -- nor does an empty list.

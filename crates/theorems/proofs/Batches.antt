@@ -13,7 +13,7 @@ use Rattle.spec.specs.Lists.{mem, gather}
 use Rattle.spec.specs.Reach.{Edge, leads, with, Swept, sweep, spread, closure}
 use Rattle.spec.specs.Search.{Node, edges, Rec, dest, dests, reached-by}
 use Rattle.laws.proofs.Branch.{both, if-true}
-use Rattle.laws.proofs.Members.{In, here, there, same-test, in-only, and-both, mem-append, or-right, or-cases, gather-append}
+use Rattle.laws.proofs.Members.{In, here, there, same-test, and-both, mem-append, or-right, or-cases, gather-append}
 use Rattle.theorems.proofs.Reached.{Reached, seed, along, Closed, closure-sound, closure-complete}
 
 -- seeds are added to a set, those that are in it already not again
@@ -200,17 +200,40 @@ round-extends ns recs new got c h batches e a =
 
 -- batches of 64; the number bounds how many
 abbrev pub batched : ℕ → List ℕ → List (List ℕ)
-batched zero xs = xs ∷ []
+batched zero [] = []
+batched zero (x ∷ xs) = (x ∷ xs) ∷ []
 batched (suc k) [] = []
 batched (suc k) (x ∷ xs) = take 64 (x ∷ xs) ∷ batched k (drop 64 (x ∷ xs))
 
 pub batched-join : (k : ℕ) (xs : List ℕ) → gather (λ (b : List ℕ). b) (batched k xs) ≡ xs
-batched-join zero xs = append-nil xs
+batched-join zero [] = refl
+batched-join zero (x ∷ xs) = append-nil (x ∷ xs)
 batched-join (suc k) [] = refl
 batched-join (suc k) (x ∷ xs) = ap (λ (l : List ℕ). take 64 (x ∷ xs) ++ l) (batched-join k (drop 64 (x ∷ xs))) ∙ take-append-drop 64 (x ∷ xs)
 
 pub batched-small : (k : ℕ) (xs : List ℕ) → length xs ≤ k → (b : List ℕ) → In b (batched k xs) → length b ≤ 64
-batched-small zero xs h b i = omega (arith, ap length (in-only i))
+batched-small zero [] h b i = elim i [ ]
+batched-small zero (x ∷ xs) h b i = absurd (omega arith)
 batched-small (suc k) [] h b i = elim i [ ]
 batched-small (suc k) (x ∷ xs) h b here = omega (arith, length-take 64 (x ∷ xs))
 batched-small (suc k) (x ∷ xs) h b (there i) = batched-small k (drop 64 (x ∷ xs)) (omega (arith, length-drop 64 (x ∷ xs))) b i
+
+-- all but the last have 64
+pub data Full : List (List ℕ) → Type 0 where
+  no-batch : Full []
+  last-batch : {b : List ℕ} → Full (b ∷ [])
+  full-batch : {b c : List ℕ} {bs : List (List ℕ)} → length b ≡ 64 → Full (c ∷ bs) → Full (b ∷ c ∷ bs)
+
+full-rest : (k : ℕ) (b rest : List ℕ) → (1 ≤ length rest → length b ≡ 64) → Full (batched k rest) → Full (b ∷ batched k rest)
+full-rest zero b [] h f = last-batch
+full-rest (suc k) b [] h f = last-batch
+full-rest zero b (x ∷ xs) h f = full-batch (h (omega arith)) f
+full-rest (suc k) b (x ∷ xs) h f = full-batch (h (omega arith)) f
+
+pub batched-full : (k : ℕ) (xs : List ℕ) → length xs ≤ k → Full (batched k xs)
+batched-full zero [] h = no-batch
+batched-full zero (x ∷ xs) h = absurd (omega arith)
+batched-full (suc k) [] h = no-batch
+batched-full (suc k) (x ∷ xs) h =
+    full-rest k (take 64 (x ∷ xs)) (drop 64 (x ∷ xs)) (λ some. omega (arith, length-take 64 (x ∷ xs), length-drop 64 (x ∷ xs)))
+    (batched-full k (drop 64 (x ∷ xs)) (omega (arith, length-drop 64 (x ∷ xs))))
