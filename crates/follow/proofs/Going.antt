@@ -169,7 +169,7 @@ module _ {b : List ℕ} {at : ℕ} (w : Walking b at) {r : Walk} (h : r ≡ walk
     block-other k z = ap finals-in (stepping w h q .item) ∙ subst (SeenIs (itemsFrom b to) (itemOf b e)) (sym k ∙ z) (seen-is b (itemsFrom b to) e)
 
     pub block-begins : {v : Seen} → v ≡ seenOf e → {s x n f g : ℕ} → v ≡ Block-seen s x n f g
-        → Begins b at (record { start = s; end = x; named = record { many = n; first = f; second = g; at = to } })
+        → Begins b at (record { start = s; end = x; named = record { many = n; first = f; second = g; at = to }; own = at })
     unfolding finalsAt outsAt namedBy
     block-begins k z =
         let t = subst (SeenIs (itemsFrom b to) (itemOf b e)) (sym k ∙ z) (seen-is b (itemsFrom b to) e) in
@@ -178,6 +178,9 @@ module _ {b : List ℕ} {at : ℕ} (w : Walking b at) {r : Walk} (h : r ≡ walk
           is = record { start = t .start; end = t .end; named = t .named; few = t .few; walking = stepping w h q .walking };
           here = ap finals-in (stepping w h q .item) ∙ t .first;
           on = stepping w h q .on;
+          own-here = ap finals-in (stepping w h q .item) ∙ t .first;
+          own-walking = w;
+          own-on = stepping w h q .on;
         }
 
   pub block-over : r ≡ Over → finalsAt b at ≡ []
@@ -203,10 +206,10 @@ module _ {b : List ℕ} {from at : ℕ} (i : BlockFrom b from at) {r : Walk} (h 
   block-less q = goes-less (i .walking) h q
 
   pub block-here : {e : Entry} {to : ℕ} → r ≡ Here e to → {v : Seen} → v ≡ seenOf e → {s x n f g : ℕ} → v ≡ Block-seen s x n f g
-      → Begins b from (record { start = s; end = x; named = record { many = n; first = f; second = g; at = to } })
+      → Begins b from (record { start = s; end = x; named = record { many = n; first = f; second = g; at = to }; own = at })
   block-here q k z =
       let t = block-begins (i .walking) h q k z in
-      record { final = t .final; is = t .is; here = i .same ∙ t .here; on = omega arith }
+      record { final = t .final; is = t .is; here = i .same ∙ t .here; on = omega arith; own-here = t .own-here; own-walking = t .own-walking; own-on = t .own-on }
 
   pub block-none : r ≡ Over → finalsAt b from ≡ []
   block-none q = i .same ∙ block-over (i .walking) h q

@@ -14,7 +14,7 @@ use borrow.Author.Tests.{eqb-true, eqb-false}
 use Rattle.spec.specs.Lists.{if, little}
 use Rattle.spec.specs.Ending.{Final}
 use Rattle.spec.specs.Counting.{distinct}
-use Rattle.spec.specs.Follow.{starts-at, starting}
+use Rattle.spec.specs.Follow.{starts-at, outgoing, starting}
 use Rattle.laws.proofs.Branch.{both, if-true, if-false}
 use Rattle.laws.proofs.Lists.{Rising, one-more}
 use Rattle.laws.proofs.Members.{here, in-right}
@@ -26,12 +26,13 @@ use Rattle.lent.proofs.Numbers.{num-zeros}
 use Rattle.lent.proofs.Stored.{kept-num, read-back}
 use Rattle.reader.specs.Walks.{Walking}
 use Rattle.follow.specs.Blocks.{finalsAt, namedBy, Begins, nextBlock}
-use Rattle.follow.specs.Finding.{slotsOf, Ready, Spot, RowIs, Rows, Index, Filled}
+use Rattle.follow.specs.Finding.{slotsOf, Ready, Spot, RowIs, Rows, RowPut, Tells, Table, Index, Filled}
+use Rattle.follow.specs.Edges.{Owned, Linked}
 use Rattle.follow.specs.declared.block.Block.{Block}
 use Rattle.follow.specs.declared.block.Next.{Next}
 use Rattle.follow.specs.declared.block.Next.the-variants.{Block as Block-next, Over as Blocks-over}
 use Rattle.follow.proofs.Going.{inside}
-use Rattle.follow.proofs.Passing.{Passing, pass-ready, pass-on, pass-sum, pass-less, pass-walking, pass-few, its-block, split-here, starting-append, starting-nil, starting-here, starting-later}
+use Rattle.follow.proofs.Passing.{Passing, pass-ready, pass-on, pass-sum, pass-less, pass-walking, pass-few, its-block, split-here, same-slot, starting-append, starting-nil, starting-here, starting-later}
 use Rattle.follow.proofs.Following.{held-rises}
 
 -- ---- the first of blocks that starts at an address
@@ -51,24 +52,59 @@ rising-none (x ∷ xs) f ys (one-more l r) =
     let low = above (xs ++ f ∷ ys) r f (in-right xs here) in
     starting-later (starts-at f) x xs (λ e. omega arith) ∙ rising-none xs f ys r
 
+-- ---- the last block's start
+
+module _ (b : List ℕ) (at : ℕ) {r : Next} (h : nextBlock b at r) {k : Block} (z : r ≡ Block-next k) where
+  pub last-on : Walking b (k .named .at)
+  last-on = subst (nextBlock b at) z h .is .walking
+
+  pub last-less : length b - k .named .at < length b - at
+  last-less = omega (arith, subst (nextBlock b at) z h .on, inside last-on)
+
+-- ---- a row
+
+pub put-row-is : {w w₁ w₂ : List ℕ} {start own slot : ℕ} → Stored 8 w (16 * start) (little 8 (own + 1)) w₁ → Stored 8 w₁ (16 * start + 8) (little 8 slot) w₂ → own + 1 < 2 ^ 64 → slot < 2 ^ 64
+    → RowPut w start own slot w₂
+put-row-is {start} s t l m =
+    record {
+      own-is = kept-num t 8 (16 * start) (λ _. omega arith) ∙ read-back s (omega arith);
+      slot-is = read-back t (omega arith);
+      apart = λ i h. kept-num t 8 i (λ u. omega (arith, h (omega arith))) ∙ kept-num s 8 i (λ u. h (omega arith));
+      kept = t .kept ∙ s .kept;
+    }
+
 -- ---- the loop
 
 pub record Filling (b work : List ℕ) (rows at slot : ℕ) (w : List ℕ) : Type 0 where
   pub passing : Passing b at slot
   pub filled : Rows b (passing .before) w rows
+  pub table : Table b w rows
   pub kept : length w ≡ length work
 
-pub fill-start : {b work : List ℕ} → Ready b → work ≡ replicate (length work) 0 → Filling b work (length work / 16) 0 0 work
-fill-start {b} {work} y z =
+pub fill-start : {b work : List ℕ} {rows : ℕ} → Ready b → work ≡ replicate (length work) 0 → 16 * rows ≤ length work → Filling b work rows 0 0 work
+fill-start {b} {work} {rows} y z l =
     record {
       passing = pass-ready y;
       filled = record {
-        fits = omega arith;
-        row = λ q l. record { empty = λ e. starting-nil q; full = λ n. absurd (n (ap (λ (x : List ℕ). numAt 8 x (16 * q)) z ∙ num-zeros 8 (length work) (16 * q))) };
-        beyond = λ q l. starting-nil q;
+        fits = l;
+        row = λ q _. record { empty = λ e. starting-nil q; full = λ n. absurd (n (nought (16 * q))) };
+        beyond = λ q _. starting-nil q;
       };
+      table = record { fits = l; entry = λ i. record { so = λ slot n e _. absurd (omega (arith, nought (16 * rows + 24 * i))) } };
       kept = refl;
     }
+  where
+    nought : (i : ℕ) → numAt 8 work i ≡ 0
+    nought i = ap (λ (x : List ℕ). numAt 8 x i) z ∙ num-zeros 8 (length work) i
+
+-- no row, no index
+pub fill-none : {b work : List ℕ} → Filled b work work 0
+fill-none = record { index = record { fits = omega arith; built = λ n. absurd (n refl); edges = λ n. absurd (n refl) }; kept = refl }
+
+-- a row in bytes that are the same there
+row-moved : {b : List ℕ} {fs : List Final} {w w′ : List ℕ} {q : ℕ} → RowIs b fs w q
+    → numAt 8 w′ (16 * q) ≡ numAt 8 w (16 * q) → numAt 8 w′ (16 * q + 8) ≡ numAt 8 w (16 * q + 8) → RowIs b fs w′ q
+row-moved r e d = record { empty = λ z. r .empty (sym e ∙ z); full = λ z. rw (e, d) (r .full (λ y. z (e ∙ y))) }
 
 -- a row stays right while blocks come that start elsewhere
 row-later : {b : List ℕ} {fs : List Final} {w w′ : List ℕ} {q : ℕ} (f : Final) → RowIs b fs w q → (q ≡ starts-at f → ⊥)
@@ -94,7 +130,7 @@ row-later {b} {fs} {w} {w′} {q} f r n e d =
 
 module _ {b work : List ℕ} {rows at slot : ℕ} {w : List ℕ} (i : Filling b work rows at slot w) {r : Next} (h : nextBlock b at r) where
   pub fill-ends : r ≡ Blocks-over → Filled b work w rows
-  fill-ends q = record { index = record { built = λ n. subst (λ (fs : List Final). Rows b fs w rows) (sym all) (i .filled) }; kept = i .kept }
+  fill-ends q = record { index = record { fits = i .table .fits; built = λ n. subst (λ (fs : List Final). Rows b fs w rows) (sym all) (i .filled); edges = λ n. i .table }; kept = i .kept }
     where
       nothing : (l : List Final) → l ++ [] ≡ l
       nothing [] = refl
@@ -105,7 +141,7 @@ module _ {b work : List ℕ} {rows at slot : ℕ} {w : List ℕ} (i : Filling b 
 
   module _ {k : Block} (z : r ≡ Block-next k) where
     pub fill-short : rows ≤ k .start → Filled b work w 0
-    fill-short l = record { index = record { built = λ n. absurd (n refl) }; kept = i .kept }
+    fill-short l = record { index = record { fits = omega arith; built = λ n. absurd (n refl); edges = λ n. absurd (n refl) }; kept = i .kept }
 
     pub fill-few : k .named .many ≤ 2
     fill-few = pass-few (i .passing) h z
@@ -116,93 +152,95 @@ module _ {b work : List ℕ} {rows at slot : ℕ} {w : List ℕ} (i : Filling b 
     pub fill-less : length b - k .named .at < length b - at
     fill-less = pass-less (i .passing) h z
 
-    pub fill-next : length b < 2 ^ 64 → Fits w64 (at + 1)
-    fill-next l = omega (arith, its-block (i .passing) h z .on, inside fill-walking)
+    pub fill-owned : Owned b (slot + 1) (k .named)
+    fill-owned =
+        let its = its-block (i .passing) h z in
+        record {
+          slot = slot;
+          key-is = refl;
+          out = λ before f after e n. its .is .named ∙ ap outgoing (same-slot (i .passing .before) before (its .final) f (finalsAt b (k .named .at)) after (sym (split-here (i .passing) h z) ∙ e) (sym (i .passing .count) ∙ n));
+        }
 
     pub fill-one : Ready b → Fits w64 (slot + 1)
     fill-one y = omega (arith, pass-sum (i .passing) h z refl, y .few)
 
+    pub fill-next : length b < 2 ^ 64 → k .own + 1 < 2 ^ 64
+    fill-next l = omega (arith, its-block (i .passing) h z .own-on, inside fill-walking)
+
     module _ (l : k .start < rows) where
-      pub fill-fits : 16 * k .start + 8 ≤ length w
+      pub fill-fits : 16 * k .start + 16 ≤ length w
       fill-fits = omega (arith, i .filled .fits)
 
-      pub fill-fits-2 : {w₁ : List ℕ} → Stored 8 w (16 * k .start) (little 8 (at + 1)) w₁ → 16 * k .start + 8 + 8 ≤ length w₁
-      fill-fits-2 s = omega (arith, i .filled .fits, s .kept)
-
-    module _ {m : ℕ} (e : m ≡ length (distinct (namedBy b (k .named)))) where
-      pub fill-sum : Ready b → Fits w64 (slot + 1 + m)
-      fill-sum y = omega (arith, pass-sum (i .passing) h z e, y .few)
-
-      module _ (l : k .start < rows) (y : Ready b) (small : length b < 2 ^ 64) {w₁ w₂ : List ℕ} (s : Stored 8 w (16 * k .start) (little 8 (at + 1)) w₁)
-          (t : Stored 8 w₁ (16 * k .start + 8) (little 8 slot) w₂) where
-        abbrev first : Begins b at k
-        first = its-block (i .passing) h z
-
-        here-at : numAt 8 w₂ (16 * k .start) ≡ at + 1
-        here-at = kept-num t 8 (16 * k .start) (λ _. omega arith) ∙ read-back s (omega (arith, fill-next small))
-
-        here-slot : numAt 8 w₂ (16 * k .start + 8) ≡ slot
-        here-slot = read-back t (omega (arith, fill-one y))
-
-        none-before : starting (starts-at (first .final)) (i .passing .before) ≡ none
-        none-before = rising-none (i .passing .before) (first .final) (finalsAt b (k .named .at)) (subst (λ (fs : List Final). Rising 0 (finals-at fs)) (split-here (i .passing) h z) (held-rises b (y .map) (y .held)))
-
-        row-new : RowIs b (i .passing .before ++ first .final ∷ []) w₂ (k .start)
-        row-new =
-            record {
-              empty = λ n. absurd (omega (arith, here-at));
-              full = λ _. subst (λ (x : ℕ). Spot b (i .passing .before ++ first .final ∷ []) (k .start) x (numAt 8 w₂ (16 * k .start + 8))) at-is
-                  (record {
-                    before = i .passing .before;
-                    final = first .final;
-                    after = finalsAt b (k .named .at);
-                    is = i .passing .is;
-                    here = first .here;
-                    starts = ap (λ (a : ℕ). starting a (i .passing .before ++ first .final ∷ [])) (first .is .start)
-                        ∙ starting-append (starts-at (first .final)) (i .passing .before) (first .final ∷ []) none-before ∙ starting-here (starts-at (first .final)) (first .final) [] refl;
-                    slot-is = here-slot ∙ i .passing .count;
-                    walking = i .passing .walking;
-                  });
-            }
+      module _ {w₁ : List ℕ} (s : RowPut w (k .start) (k .own) slot w₁) where
+        -- the entries stand behind the rows
+        pub fill-table : Table b w₁ rows
+        fill-table = record { fits = omega (arith, i .table .fits, s .kept); entry = λ j. moved (16 * rows + 24 * j) (omega arith) (i .table .entry j) }
           where
-            at-is : at ≡ numAt 8 w₂ (16 * k .start) - 1
-            at-is = omega (arith, here-at)
+            behind : (x : ℕ) → 16 * rows ≤ x → numAt 8 w₁ x ≡ numAt 8 w x
+            behind x g = s .apart x (λ u. omega arith)
 
-        row-old : (q : ℕ) → q < rows → (q ≡ k .start → ⊥) → RowIs b (i .passing .before ++ first .final ∷ []) w₂ q
-        row-old q g n =
-            row-later (first .final) (i .filled .row q g) (λ d. n (d ∙ sym (first .is .start)))
-            (kept-num t 8 (16 * q) (apart (decLt q (k .start))) ∙ kept-num s 8 (16 * q) (apart-2 (decLt q (k .start))))
-            (kept-num t 8 (16 * q + 8) (apart-3 (decLt q (k .start))) ∙ kept-num s 8 (16 * q + 8) (apart-4 (decLt q (k .start))))
-          where
-            apart : Dec (q < k .start) → 16 * q < 16 * k .start + 8 + 8 → 16 * q + 8 ≤ 16 * k .start + 8
-            apart (yes x) _ = omega arith
-            apart (no x) u = absurd (n (omega arith))
+            moved : (x : ℕ) → 16 * rows ≤ x → Tells b w x → Tells b w₁ x
+            moved x g y =
+                record { so = λ slot n e d. rw (behind (x + 8) (omega arith)) (y .so slot n (sym (behind x g) ∙ e) (sym (behind (x + 16) (omega arith)) ∙ d)) }
 
-            apart-2 : Dec (q < k .start) → 16 * q < 16 * k .start + 8 → 16 * q + 8 ≤ 16 * k .start
-            apart-2 (yes x) _ = omega arith
-            apart-2 (no x) u = absurd (n (omega arith))
+        module _ (y : Ready b) where
+          abbrev first : Begins b at k
+          first = its-block (i .passing) h z
 
-            apart-3 : Dec (q < k .start) → 16 * q + 8 < 16 * k .start + 8 + 8 → 16 * q + 8 + 8 ≤ 16 * k .start + 8
-            apart-3 (yes x) _ = omega arith
-            apart-3 (no x) u = absurd (n (omega arith))
+          none-before : starting (starts-at (first .final)) (i .passing .before) ≡ none
+          none-before = rising-none (i .passing .before) (first .final) (finalsAt b (k .named .at)) (subst (λ (fs : List Final). Rising 0 (finals-at fs)) (split-here (i .passing) h z) (held-rises b (y .map) (y .held)))
 
-            apart-4 : Dec (q < k .start) → 16 * q + 8 < 16 * k .start + 8 → 16 * q + 8 + 8 ≤ 16 * k .start
-            apart-4 (yes x) _ = omega arith
-            apart-4 (no x) u = absurd (n (omega arith))
+          row-new : RowIs b (i .passing .before ++ first .final ∷ []) w₁ (k .start)
+          row-new =
+              record {
+                empty = λ n. absurd (omega (arith, s .own-is));
+                full = λ _. subst (λ (x : ℕ). Spot b (i .passing .before ++ first .final ∷ []) (k .start) x (numAt 8 w₁ (16 * k .start + 8))) at-is
+                    (record {
+                      before = i .passing .before;
+                      final = first .final;
+                      after = finalsAt b (k .named .at);
+                      is = split-here (i .passing) h z ∙ ap (λ (l : List Final). i .passing .before ++ l) (sym (first .own-here));
+                      here = first .own-here;
+                      starts = ap (λ (a : ℕ). starting a (i .passing .before ++ first .final ∷ [])) (first .is .start)
+                          ∙ starting-append (starts-at (first .final)) (i .passing .before) (first .final ∷ []) none-before ∙ starting-here (starts-at (first .final)) (first .final) [] refl;
+                      slot-is = s .slot-is ∙ i .passing .count;
+                      walking = first .own-walking;
+                    });
+              }
+            where
+              at-is : k .own ≡ numAt 8 w₁ (16 * k .start) - 1
+              at-is = omega (arith, s .own-is)
 
-        pub fill-on : Filling b work rows (k .named .at) (slot + 1 + m) w₂
-        fill-on =
-            record {
-              passing = pass-on (i .passing) h z e;
-              filled = record {
-                fits = omega (arith, i .filled .fits, s .kept, t .kept);
-                row = λ q g. by-start q g (eqb q (k .start)) refl;
-                beyond = λ q g. starting-append q (i .passing .before) (first .final ∷ []) (i .filled .beyond q g)
-                    ∙ starting-later q (first .final) [] (λ d. omega (arith, first .is .start)) ∙ starting-nil q;
-              };
-              kept = t .kept ∙ s .kept ∙ i .kept;
-            }
-          where
-            by-start : (q : ℕ) → q < rows → (t : Bool) → eqb q (k .start) ≡ t → RowIs b (i .passing .before ++ first .final ∷ []) w₂ q
-            by-start q g true d = subst (RowIs b (i .passing .before ++ first .final ∷ []) w₂) (sym (eqb-true q (k .start) d)) row-new
-            by-start q g false d = row-old q g (eqb-false q (k .start) d)
+          row-old : (q : ℕ) → q < rows → (q ≡ k .start → ⊥) → RowIs b (i .passing .before ++ first .final ∷ []) w₁ q
+          row-old q g n =
+              row-later (first .final) (i .filled .row q g) (λ d. n (d ∙ sym (first .is .start)))
+              (s .apart (16 * q) (apart (decLt q (k .start)))) (s .apart (16 * q + 8) (apart-2 (decLt q (k .start))))
+            where
+              apart : Dec (q < k .start) → 16 * q < 16 * k .start + 16 → 16 * q + 8 ≤ 16 * k .start
+              apart (yes x) _ = omega arith
+              apart (no x) u = absurd (n (omega arith))
+
+              apart-2 : Dec (q < k .start) → 16 * q + 8 < 16 * k .start + 16 → 16 * q + 8 + 8 ≤ 16 * k .start
+              apart-2 (yes x) _ = omega arith
+              apart-2 (no x) u = absurd (n (omega arith))
+
+          pub fill-on : {m : ℕ} {w₂ : List ℕ} → Linked b w₁ rows (k .named) w₂ m → Filling b work rows (k .named .at) (slot + 1 + m) w₂
+          fill-on g =
+              record {
+                passing = pass-on (i .passing) h z (g .many);
+                filled = record {
+                  fits = g .table .fits;
+                  row = λ q f. row-moved (by-start q f (eqb q (k .start)) refl) (g .rows-kept (16 * q) (omega arith)) (g .rows-kept (16 * q + 8) (omega arith));
+                  beyond = λ q f. starting-append q (i .passing .before) (first .final ∷ []) (i .filled .beyond q f)
+                      ∙ starting-later q (first .final) [] (λ d. omega (arith, first .is .start)) ∙ starting-nil q;
+                };
+                table = g .table;
+                kept = g .kept ∙ s .kept ∙ i .kept;
+              }
+            where
+              by-start : (q : ℕ) → q < rows → (t : Bool) → eqb q (k .start) ≡ t → RowIs b (i .passing .before ++ first .final ∷ []) w₁ q
+              by-start q f true d = subst (RowIs b (i .passing .before ++ first .final ∷ []) w₁) (sym (eqb-true q (k .start) d)) row-new
+              by-start q f false d = row-old q f (eqb-false q (k .start) d)
+
+    pub fill-sum : Ready b → {w₁ w₂ : List ℕ} {m : ℕ} → Linked b w₁ rows (k .named) w₂ m → Fits w64 (slot + 1 + m)
+    fill-sum y g = omega (arith, pass-sum (i .passing) h z (g .many), y .few)

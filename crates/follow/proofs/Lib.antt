@@ -5,5 +5,6 @@ pub mod Moving
 pub mod Tallying
 pub mod Following
 pub mod Indexing
+pub mod Edging
 pub mod Answering
 pub mod Once

@@ -26,6 +26,7 @@ use Rattle.reader.specs.Walks.{Walking}
 use Rattle.follow.specs.Blocks.{finalsAt, namedBy, BlockIs}
 use Rattle.follow.specs.Places.{PlaceOf, NoPlace, Asked, sought}
 use Rattle.follow.specs.Finding.{slotsOf, Ready, Placed, FoundAt, foundIn}
+use Rattle.follow.specs.Edges.{PlaceSo}
 use Rattle.follow.specs.Stepping.{StandsAs, out-there, in-block, Stood, Standing, EdgeOf, MoveAs, no-move, goes-on, begins-with, takes-to, BeginsSo, edgeOf, EdgeSo, onOf, InsideSo, StepsSo}
 use Rattle.follow.specs.declared.block.Block.{Block}
 use Rattle.follow.specs.declared.find.Found.{Found}
@@ -65,13 +66,6 @@ starting-starts q (f ∷ fs) g e =
     both (λ (o : Option Final). o ≡ some g → starts-at g ≡ q) (eqb q (starts-at f))
     (λ on (k : some f ≡ some g). let same : f ≡ g = cc in ap starts-at (sym same) ∙ sym (eqb-true q (starts-at f) on)) (λ _ k. starting-starts q fs g k) e
 
-module _ {b : List ℕ} {k : Block} {slot : ℕ} (d : Stood b k slot) where
-  pub edge-walking : Walking b (k .named .at)
-  edge-walking = d .placed .block .walking
-
-  pub edge-few : k .named .many ≤ 2
-  edge-few = d .placed .block .few
-
 module _ {b : List ℕ} {f : Final} {k : Block} {slot : ℕ} (p : Placed b f k slot) where
   pub slot-low : slot + suc (length (outgoing f)) ≤ slotsOf (finalsAt b 0)
   slot-low =
@@ -79,25 +73,24 @@ module _ {b : List ℕ} {f : Final} {k : Block} {slot : ℕ} (p : Placed b f k s
       let t = slots-first f (p .after) in
       omega (arith, p .slot-is)
 
+pub edge-one : {b : List ℕ} {k : Block} {slot : ℕ} → Ready b → Stood b k slot → Fits w64 (slot + 1)
+edge-one y d = omega (arith, slot-low (d .placed), y .few)
+
 pub place-low : {q n : ℕ} {ds : List ℕ} → PlaceOf q ds n → n < length ds
 place-low {q} p = omega (arith, p .place, ap length (p .is), length-append (p .before) (q ∷ p .behind))
 
-module _ (b : List ℕ) (k : Block) (slot q : ℕ) {r : Place} (h : sought false q (distinct (namedBy b (k .named))) r) where
+module _ (b : List ℕ) (k : Block) (slot q : ℕ) {r : Place} (h : PlaceSo b k slot q r) where
   pub edge-not : {n : ℕ} → r ≡ Not n → EdgeSo b k slot q No
   edge-not e =
       record {
         so = λ f p.
-            let t = subst (sought false q (distinct (namedBy b (k .named)))) e h in
-            let m : mem q (outgoing f) ≡ false = ap (mem q) (sym (p .block .named)) ∙ t .none refl in
+            let m : mem q (outgoing f) ≡ false = subst (sought false q (outgoing f)) e (h .so f p) .none refl in
             subst (λ (v : spec.Move). MoveAs b v No) (sym (if-false (mem q (outgoing f)) _ _ m)) no-move;
       }
 
   module _ {n : ℕ} (e : r ≡ Place-at n) where
     place : {f : Final} → Placed b f k slot → PlaceOf q (outgoing f) n
-    place p = subst (λ (l : List ℕ). PlaceOf q l n) (p .block .named) (subst (sought false q (distinct (namedBy b (k .named)))) e h .there)
-
-    pub edge-one : Ready b → Stood b k slot → Fits w64 (slot + 1)
-    edge-one y d = omega (arith, slot-low (d .placed), y .few)
+    place {f} p = subst (sought false q (outgoing f)) e (h .so f p) .there
 
     pub edge-sum : Ready b → Stood b k slot → Fits w64 (slot + 1 + n)
     edge-sum y d = omega (arith, slot-low (d .placed), y .few, place-low (place (d .placed)))

@@ -42,6 +42,17 @@ pub slots-none : slotsOf [] ≡ 0
 unfolding slotsOf
 slots-none = refl
 
+-- blocks behind equally many counts are the same
+pub same-slot : (xs ys : List Final) (f g : Final) (us vs : List Final) → xs ++ f ∷ us ≡ ys ++ g ∷ vs → slotsOf xs ≡ slotsOf ys → f ≡ g
+same-slot [] [] f g us vs e s = cc
+same-slot [] (y ∷ ys) f g us vs e s = absurd (omega (arith, slots-none, slots-first y ys))
+same-slot (x ∷ xs) [] f g us vs e s = absurd (omega (arith, slots-none, slots-first x xs))
+same-slot (x ∷ xs) (y ∷ ys) f g us vs e s =
+    let one : x ≡ y = cc in
+    let rest : xs ++ f ∷ us ≡ ys ++ g ∷ vs = cc in
+    let wide : length (outgoing x) ≡ length (outgoing y) = ap (λ (z : Final). length (outgoing z)) one in
+    same-slot xs ys f g us vs rest (omega (arith, slots-first x xs, slots-first y ys))
+
 -- ---- the loop's state
 
 pub record Passing (b : List ℕ) (at n : ℕ) : Type 0 where

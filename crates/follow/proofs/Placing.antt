@@ -238,6 +238,25 @@ module _ {b : List ℕ} {c : Named} {all : Bool} {q : ℕ} where
           one-most : f ≤ 1
           one-most = rw adds (both (λ (x : ℕ). x ≤ 1) (mem to (i .prefix)) (λ _. omega arith) (λ _. omega arith))
 
+          -- one that is new comes behind those before it
+          pub seek-new : (f ≡ 0 → ⊥) → PlaceOf to (distinct (namedBy b c)) n
+          seek-new z =
+              let p = parted to (i .prefix) (namedBy b others) not-there in
+              record {
+                before = distinct (i .prefix);
+                behind = p .later;
+                is = ap distinct its ∙ p .is;
+                first = mem-distinct to (i .prefix) not-there;
+                place = i .count;
+              }
+            where
+              by-test : (m : Bool) → f ≡ if m 0 1 → m ≡ false
+              by-test true e = absurd (z (e ∙ if-true true 0 1 refl))
+              by-test false e = refl
+
+              not-there : mem to (i .prefix) ≡ false
+              not-there = by-test (mem to (i .prefix)) adds
+
           pub seek-sum : length b < 2 ^ 64 → Fits w64 (n + f)
           seek-sum l = omega (arith, one-most, i .bound, i .low, inside (i .walking))
 

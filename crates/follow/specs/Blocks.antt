@@ -75,6 +75,9 @@ pub record Begins (b : List ℕ) (at : ℕ) (k : Block) : Type 0 where
   pub is : BlockIs b final k
   pub here : finalsAt b at ≡ final ∷ finalsAt b (k .named .at)
   pub on : at < k .named .at
+  pub own-here : finalsAt b (k .own) ≡ final ∷ finalsAt b (k .named .at)
+  pub own-walking : Walking b (k .own)
+  pub own-on : k .own < k .named .at
 
 abbrev pub nextBlock : List ℕ → ℕ → Next → Type 0
 nextBlock b at (Block-next k) = Begins b at k

@@ -12,6 +12,7 @@ use Rattle.spec.specs.Follow.{outgoing, starting}
 use Rattle.lent.specs.Bytes.{numAt}
 use Rattle.reader.specs.Walks.{Walking}
 use Rattle.follow.specs.Blocks.{finalsAt, BlockIs}
+use Rattle.follow.specs.Places.{PlaceOf}
 use Rattle.follow.specs.declared.block.Block.{Block}
 use Rattle.follow.specs.declared.find.Found.{Found}
 use Rattle.follow.specs.declared.find.Found.the-variants.{At, Nowhere}
@@ -80,9 +81,31 @@ pub record Rows (b : List ℕ) (fs : List Final) (work : List ℕ) (rows : ℕ) 
 abbrev pub Indexed : List ℕ → List ℕ → ℕ → Type 0
 Indexed b work rows = Rows b (finalsAt b 0) work rows
 
--- there are rows, or no index
+-- a row that is put
+pub record RowPut (work : List ℕ) (start own slot : ℕ) (work′ : List ℕ) : Type 0 where
+  pub own-is : numAt 8 work′ (16 * start) ≡ own + 1
+  pub slot-is : numAt 8 work′ (16 * start + 8) ≡ slot
+  pub apart : (i : ℕ) → (i < 16 * start + 16 → i + 8 ≤ 16 * start) → numAt 8 work′ i ≡ numAt 8 work i
+  pub kept : length work′ ≡ length work
+
+-- the place of a destination among those of the block whose count stands at a slot
+pub record EdgePlace (b : List ℕ) (slot q n : ℕ) : Type 0 where
+  pub so : (before : List Final) (f : Final) (after : List Final) → finalsAt b 0 ≡ before ++ f ∷ after → slot ≡ slotsOf before → PlaceOf q (outgoing f) n
+
+-- an entry that is filled tells its edge's place
+pub record Tells (b work : List ℕ) (at : ℕ) : Type 0 where
+  pub so : (slot n : ℕ) → numAt 8 work at ≡ slot + 1 → numAt 8 work (at + 16) ≡ n + 1 → EdgePlace b slot (numAt 8 work (at + 8)) n
+
+-- entries behind the rows
+pub record Table (b work : List ℕ) (rows : ℕ) : Type 0 where
+  pub fits : 16 * rows ≤ length work
+  pub entry : (i : ℕ) → Tells b work (16 * rows + 24 * i)
+
+-- there are rows and entries, or no index
 pub record Index (b work : List ℕ) (rows : ℕ) : Type 0 where
+  pub fits : 16 * rows ≤ length work
   pub built : (rows ≡ 0 → ⊥) → Indexed b work rows
+  pub edges : (rows ≡ 0 → ⊥) → Table b work rows
 
 pub record Filled (b work work′ : List ℕ) (rows : ℕ) : Type 0 where
   pub index : Index b work′ rows

@@ -15,22 +15,17 @@ pub struct Named {
     pub at: usize,
 }
 
-// A block: from its start to its end, and its destinations.
+// A block: from its start to its end, its destinations, and the offset of its own entry.
 pub struct Block {
     pub start: usize,
     pub end: usize,
     pub named: Named,
+    pub own: usize,
 }
 
-// What an entry is to the follower: a block, but for its 7s, or another entry.
+// What an entry is to the follower: a block by its start, its end, how many static sides, the first and the second; or another entry.
 pub enum Seen {
-    Block {
-        start: usize,
-        end: usize,
-        many: usize,
-        first: usize,
-        second: usize,
-    },
+    Block(usize, usize, usize, usize, usize),
     Other,
 }
 
@@ -44,46 +39,16 @@ fn seen_in(e: Entry) -> Seen
     ensures { λ r. ⌜ r ≡ seenOf e ⌝ }
 {
     match e {
-        Entry::Terminate { start, end, .. } => Seen::Block {
-            start,
-            end,
-            many: 0,
-            first: 0,
-            second: 0,
-        },
-        Entry::Jump { start, end, to } => Seen::Block {
-            start,
-            end,
-            many: 1,
-            first: to,
-            second: 0,
-        },
+        Entry::Terminate { start, end, .. } => Seen::Block(start, end, 0, 0, 0),
+        Entry::Jump { start, end, to } => Seen::Block(start, end, 1, to, 0),
         Entry::Jumpi {
             start,
             end,
             yes,
             no,
-        } => Seen::Block {
-            start,
-            end,
-            many: 2,
-            first: yes,
-            second: no,
-        },
-        Entry::DynamicJump { start, end, .. } => Seen::Block {
-            start,
-            end,
-            many: 0,
-            first: 0,
-            second: 0,
-        },
-        Entry::DynamicJumpi { start, end, no, .. } => Seen::Block {
-            start,
-            end,
-            many: 1,
-            first: no,
-            second: 0,
-        },
+        } => Seen::Block(start, end, 2, yes, no),
+        Entry::DynamicJump { start, end, .. } => Seen::Block(start, end, 0, 0, 0),
+        Entry::DynamicJumpi { start, end, no, .. } => Seen::Block(start, end, 1, no, 0),
         Entry::Head { .. } => Seen::Other,
         Entry::Way { .. } => Seen::Other,
         Entry::Record { .. } => Seen::Other,
@@ -102,20 +67,19 @@ pub fn block_from(map: &[u8], from: usize) -> Next
     loop {
         match next(map, at) {
             Walk::Here { entry, behind } => match seen_in(entry) {
-                Seen::Block {
-                    start,
-                    end,
-                    many,
-                    first,
-                    second,
-                } => {
+                Seen::Block(start, end, many, first, second) => {
                     let named = Named {
                         many,
                         first,
                         second,
                         at: behind,
                     };
-                    return Next::Block(Block { start, end, named });
+                    return Next::Block(Block {
+                        start,
+                        end,
+                        named,
+                        own: at,
+                    });
                 }
                 Seen::Other => {
                     at = behind;

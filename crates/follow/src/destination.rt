@@ -1,5 +1,6 @@
 // A block's destinations, one after the other: its static sides, then those of its 7s, "missing ones left out, in the answer's order".
 use crate::block::Named;
+use layout::MISSING;
 use reader::Entry;
 use reader::Walk;
 use reader::next;
@@ -7,9 +8,6 @@ ghost use mathlib.Core.Path.{_≡_};
 ghost use Prim.Native.Nat.{_≤_};
 ghost use Rattle.reader.specs.Walks.{Walking};
 ghost use Rattle.follow.specs.Blocks.{outOf, nextSeven, nextDest};
-
-// What stands for a missing destination in a 7.
-const MISSING: usize = 0x8000;
 
 // An entry as a 7 of the block: with its destination, with none, or no 7.
 pub enum Out {

@@ -38,7 +38,7 @@ fn scan(map: &[u8], q: usize) -> Found
     }
 }
 
-// Reads it off the index: a row of 16 bytes an address, one more than an offset from which the block is the first, and the place of its count.
+// Reads it off the index.
 fn row(map: &[u8], work: &[u8], rows: usize, q: usize) -> Found
     requires { ⌜ Ready (now map) ⌝ }
     requires { ⌜ Indexed (now map) (now work) rows ⌝ }

@@ -2,19 +2,50 @@
 // "walks it block by block"
 use crate::block::Next;
 use crate::block::block_from;
-use crate::place::many;
+use crate::edges::link;
 use lent::put64;
 ghost use mathlib.Core.Path.{_≡_};
+ghost use Prim.Native.Nat.{_+_, _*_, _^_, _≤_, _<_};
 ghost use lib.ListN.{length, replicate};
-ghost use Rattle.follow.specs.Finding.{Ready, Filled};
+ghost use Rattle.follow.specs.Finding.{Ready, RowPut, Filled};
 
-// Writes a row for each block into the zeros of `work`, and gives the number of rows; 0 where a block starts beyond the last.
-pub fn fill(map: &[u8], work: &mut [u8]) -> usize
+// The start of the last block, or 0. Any number would be right: it tells how many rows to try.
+fn last(map: &[u8]) -> usize
+    requires { ⌜ Ready (now map) ⌝ }
+{
+    let mut at = 0;
+    let mut start = 0;
+    loop {
+        match block_from(map, at) {
+            Next::Block(block) => {
+                let c = block.named;
+                start = block.start;
+                at = c.at;
+            }
+            Next::Over => {
+                return start;
+            }
+        }
+    }
+}
+
+// A row of 16 bytes an address: one more than the offset of the block's entry, and the place of its count.
+fn put_row(work: &mut [u8], start: usize, own: usize, slot: usize)
+    requires { ⌜ 16 * start + 16 ≤ length (now work) ⌝ }
+    requires { ⌜ own + 1 < 2 ^ 64 ⌝ }
+    ensures { λ _. ⌜ RowPut (now (work .entry)) start own slot (now (work .exit)) ⌝ }
+{
+    put64(work, 16 * start, own + 1);
+    put64(work, 16 * start + 8, slot);
+}
+
+// Writes a row for each block into zeros, and its edges behind the rows; gives the number of rows, or 0 where a block starts beyond the last.
+fn fill_rows(map: &[u8], work: &mut [u8], rows: usize) -> usize
     requires { ⌜ Ready (now map) ⌝ }
     requires { ⌜ now work ≡ replicate (length (now work)) 0 ⌝ }
+    requires { ⌜ 16 * rows ≤ length (now work) ⌝ }
     ensures { λ r. ⌜ Filled (now (map .entry)) (now (work .entry)) (now (work .exit)) r ⌝ }
 {
-    let rows = work.len() / 16;
     let mut at = 0;
     let mut slot = 0;
     loop {
@@ -25,9 +56,9 @@ pub fn fill(map: &[u8], work: &mut [u8]) -> usize
                     return 0;
                 }
                 let c = block.named;
-                put64(work, 16 * start, at + 1);
-                put64(work, 16 * start + 8, slot);
-                slot = slot + 1 + many(map, c);
+                put_row(work, start, block.own, slot);
+                let key = slot + 1;
+                slot = key + link(map, work, rows, key, c);
                 at = c.at;
             }
             Next::Over => {
@@ -35,4 +66,17 @@ pub fn fill(map: &[u8], work: &mut [u8]) -> usize
             }
         }
     }
+}
+
+// Fills the zeros of `work`: as many rows as the last block asks for, where they fit.
+pub fn fill(map: &[u8], work: &mut [u8]) -> usize
+    requires { ⌜ Ready (now map) ⌝ }
+    requires { ⌜ now work ≡ replicate (length (now work)) 0 ⌝ }
+    ensures { λ r. ⌜ Filled (now (map .entry)) (now (work .entry)) (now (work .exit)) r ⌝ }
+{
+    let start = last(map);
+    if work.len() / 16 <= start {
+        return 0;
+    }
+    fill_rows(map, work, start + 1)
 }

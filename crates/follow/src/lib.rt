@@ -2,6 +2,7 @@
 mod block;
 mod call;
 mod destination;
+mod edges;
 mod find;
 mod index;
 mod place;

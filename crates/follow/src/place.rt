@@ -20,7 +20,7 @@ pub enum Place {
 }
 
 // 1 where d is none of the first n destinations, else 0.
-fn fresh(map: &[u8], c: Named, n: usize, d: usize) -> usize
+pub fn fresh(map: &[u8], c: Named, n: usize, d: usize) -> usize
     requires { ⌜ (Walking (now map) (c .at)) × (c .many ≤ 2) ⌝ }
     ensures { λ r. ⌜ r ≡ freshIn (now (map .entry)) c n d ⌝ }
 {

@@ -1,10 +1,10 @@
 // One step of the log, from where the follower stands.
 // "the first step that isn't in the map"
 use crate::block::Block;
+use crate::edges::place_of;
 use crate::find::Found;
 use crate::find::find;
 use crate::place::Place;
-use crate::place::seek;
 use evm::rows::size_of;
 ghost use mathlib.Core.Path.{_≡_};
 ghost use mathlib.Core.Bool.{_&&_};
@@ -67,17 +67,19 @@ fn edge(map: &[u8], work: &[u8], rows: usize, block: Block, slot: usize, q: usiz
     requires { ⌜ Stood (now map) block slot ⌝ }
     ensures { λ r. ⌜ EdgeSo (now (map .entry)) block slot q r ⌝ }
 {
-    let c = block.named;
-    match seek(map, c, false, q) {
+    match place_of(map, work, rows, block, slot, q) {
         Place::At(n) => match find(map, work, rows, q) {
             Found::At {
                 block: to,
                 slot: next,
-            } => Move::Takes {
-                edge: slot + 1 + n,
-                block: to,
-                slot: next,
-            },
+            } => {
+                let taken = slot + 1 + n;
+                Move::Takes {
+                    edge: taken,
+                    block: to,
+                    slot: next,
+                }
+            }
             Found::Nowhere => Move::No,
         },
         Place::Not(_) => Move::No,

@@ -139,7 +139,9 @@ uint64_t aznifrem_salvage(const uint8_t *archive, size_t archive_len, uint8_t *o
 /* Follows a log of program counters, 8 bytes each, little-endian, through a stored map of a code:
  *
  *   work    anything; where an index of the blocks fits, 16 bytes times one more than the last
- *           block's start, a block is found in one step, else it is looked for
+ *           block's start, a block is found in one step, else it is looked for; what is behind it is
+ *           an index of the edges, with which one is taken in one step: 24 bytes for each of twice
+ *           the counts and 16 more are enough
  *   counts  8 bytes each: for each block its entries, then for each distinct destination of it
  *           how often that edge was taken, in the answer's order
  *

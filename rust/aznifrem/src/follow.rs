@@ -11,6 +11,10 @@ use crate::map::{Block, BlockType, Map};
 /// multiple of 8 bytes, 15 for too few count bytes. On a refusal nothing is touched; else `work` is
 /// all zero bytes, and of `counts` the bytes behind the counts stay.
 ///
+/// `work` may have any length, 0 too, and the answer is the same. With 16 bytes for each address up
+/// to the last block's start it has an index of the blocks, and what is behind that is one of the
+/// edges: of 24 bytes for each of twice the counts and 16 more, every step costs the same.
+///
 /// # Panics
 ///
 /// On a machine that is not x86-64, if the library cannot be reached there: [`NotRelayed`] says why.
@@ -81,10 +85,10 @@ impl Followed {
         let mut counts: Vec<Counts> = held.blocks.values().map(untaken).collect();
         let room: usize = counts.iter().map(|block| 1 + block.edges.len()).sum();
         let mut bytes = vec![0; 8 * room];
-        // An index of the blocks: one is found in a step, however large the map is.
         let rows = held.blocks.keys().next_back().map_or(0, |last| last + 1);
+        let mut work = vec![0; index_bytes(rows, room)];
         let log: Vec<u8> = steps.iter().flat_map(|step| step.to_le_bytes()).collect();
-        let given = exported::aznifrem_follow(map, code, &log, &mut vec![0; 16 * rows], &mut bytes);
+        let given = exported::aznifrem_follow(map, code, &log, &mut work, &mut bytes);
         let given = given.map_err(NotFollowed::NotRelayed)?;
         assert_eq!(
             given & 0xff,
@@ -105,6 +109,12 @@ impl Followed {
             counts,
         })
     }
+}
+
+/// The bytes of `work` with which a step costs the same however large the map is: a row for each
+/// address up to the last block's start, and two entries for each count, so that an edge finds a free one.
+fn index_bytes(rows: usize, counts: usize) -> usize {
+    16 * rows + 24 * (2 * counts + 16)
 }
 
 /// A block's counts before any step.

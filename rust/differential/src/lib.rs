@@ -23,7 +23,7 @@ pub use archives::{Archives, Salvager, check as check_archive, run as salvage_ar
 pub use check::{Checker, Verdict};
 pub use families::{FAMILIES, Family};
 pub use lend::{Given, call as fenced_call, call_json as fenced_call_json};
-pub use logs::{Call, Follower, Logs, check as check_log, ring, run as follow_logs};
+pub use logs::{Call, Follower, Index, Logs, check as check_log, ring, run as follow_logs, shared};
 pub use mismatch::Mismatch;
 pub use port::{JsonPort, Port};
 pub use reports::{ReportPort, Reports, run as run_reports};

@@ -143,6 +143,76 @@ pub fn ring(follower: Follower, blocks: usize, steps: usize, index: bool) -> f64
     seconds
 }
 
+/// A function that so many callers share: first a jump to each of them, then the callers in a ring, each of which the
+/// function returns to from the one before.
+pub fn shared_code(callers: usize) -> Vec<u8> {
+    let two = |address: usize| [(address >> 8) as u8, address as u8];
+    let at = |caller: usize| 5 * callers + 8 * caller;
+    let jump_to = |caller: usize| {
+        let [high, low] = two(at(caller));
+        [0x30, 0x61, high, low, 0x57]
+    };
+    let [high, low] = two(at(callers) + 5);
+    let call = |caller: usize| {
+        let [back, here] = two(at(caller + 1));
+        [0x5b, 0x61, back, here, 0x61, high, low, 0x56]
+    };
+    let mut code: Vec<u8> = (0..callers).flat_map(jump_to).collect();
+    code.extend((0..callers).flat_map(call));
+    let [high, low] = two(at(0));
+    code.extend([0x5b, 0x61, high, low, 0x56, 0x5b, 0x56]);
+    code
+}
+
+/// What is lent for an index.
+#[derive(Clone, Copy, Debug, PartialEq, Eq)]
+pub enum Index {
+    Nothing,
+    Blocks,
+    Edges,
+}
+
+/// Seconds to follow a log of so many steps through a function that so many callers share.
+pub fn shared(follower: Follower, callers: usize, steps: usize, index: Index) -> f64 {
+    let code = shared_code(callers);
+    let map = answer(&agree::ENOUGH, model::HIGHEST_LIMIT, &code);
+    assert_eq!(map.number(), 0, "the map is made");
+    let at = |caller: usize| (5 * callers + 8 * caller) as u64;
+    let function = at(callers) + 5;
+    let call = |caller: usize| {
+        let at = at(caller);
+        [at, at + 1, at + 4, at + 7, function, function + 1]
+    };
+    let last = at(callers);
+    let ring: Vec<u64> = (0..callers)
+        .flat_map(call)
+        .chain([last, last + 1, last + 4])
+        .collect();
+    let first = (0..callers as u64).flat_map(|jump| [0, 1, 4].map(|pc| 5 * jump + pc));
+    let log = first.chain(ring.into_iter().cycle()).take(steps);
+    let log: Vec<u8> = log.flat_map(u64::to_le_bytes).collect();
+    let counts = 6 * callers + 3;
+    let mut work = vec![
+        0;
+        match index {
+            Index::Nothing => 0,
+            Index::Blocks => 16 * code.len(),
+            Index::Edges => 16 * code.len() + 24 * (2 * counts + 16),
+        }
+    ];
+    let begun = std::time::Instant::now();
+    let given = follower(
+        map.written(),
+        &code,
+        &log,
+        &mut work,
+        &mut vec![0; 8 * counts],
+    );
+    let seconds = begun.elapsed().as_secs_f64();
+    assert_eq!(given, 256 * steps as u64, "all steps are in the map");
+    seconds
+}
+
 /// Some stored maps with their codes.
 fn maps(random: &mut Random) -> Vec<(Vec<u8>, Vec<u8>)> {
     let corners = codes::corners::CORNERS;
@@ -151,6 +221,9 @@ fn maps(random: &mut Random) -> Vec<(Vec<u8>, Vec<u8>)> {
         all.extend(from_hex(corners[random.below(corners.len())]).ok());
         all.push(jumpy(random, 60));
         all.push(woven::code(random, 4, 3));
+    }
+    for callers in [2, 9, 40] {
+        all.push(shared_code(random.between(1, callers)));
     }
     let bytes = random.between(200, 900);
     all.push(sized(random, bytes, Style::Plain));
@@ -172,17 +245,24 @@ fn call(random: &mut Random, maps: &[(Vec<u8>, Vec<u8>)]) -> Call {
         .iter()
         .map(|b| 8 + 8 * destinations(b).len())
         .sum();
-    let last = held.blocks.last().map_or(0, |block| block.start + 1);
+    let rows = 16 * held.blocks.last().map_or(0, |block| block.start + 1);
+    let shelf = 24 * 16;
+    let few = 24 * random.below(20) + random.below(24);
     let mut call = Call {
         map: map.clone(),
         code: code.clone(),
         log: vec![],
+        // No index, one of blocks, one with room for a few edges, one with room for all.
         work: random.pick(&[
             0,
             7,
-            16 * last,
-            16 * last + 5,
-            (16 * last).saturating_sub(1),
+            rows.saturating_sub(1),
+            rows,
+            rows + 5,
+            rows + shelf - 1,
+            rows + shelf,
+            rows + shelf + few,
+            rows + shelf + 6 * room,
         ]),
         counts: room + random.below(20),
         sound: false,

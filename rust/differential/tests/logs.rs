@@ -1,6 +1,6 @@
 //! The library's follower on a small part of the logs, and faults that must be found.
 
-use differential::{Follower, follow_logs};
+use differential::{Follower, Index, follow_logs, shared};
 
 #[test]
 fn the_library_follows_as_the_model_does() {
@@ -8,6 +8,15 @@ fn the_library_follows_as_the_model_does() {
     assert_eq!(logs.written_out, Vec::<String>::new());
     assert!(logs.whole > 300 && logs.left > 100, "{logs:?}");
     assert!(logs.refused.iter().all(|&times| times > 10), "{logs:?}");
+}
+
+#[test]
+fn a_function_that_many_share_is_followed_with_any_index() {
+    for callers in [1, 16, 17, 100] {
+        for index in [Index::Nothing, Index::Blocks, Index::Edges] {
+            shared(aznifrem::follow, callers, 2_000, index);
+        }
+    }
 }
 
 fn found(kind: &str, wrong: Follower) {

@@ -3,13 +3,15 @@
 use std::process::ExitCode;
 use std::time::Instant;
 
-use differential::{Logs, follow_logs, ring};
+use differential::{Index, Logs, follow_logs, ring, shared};
 
 const HELP: &str = "\
 logs [OPTIONS]: the proved follower of logs against the model's, on logs that are in the map and on damaged ones.
 
   --logs N      how many logs (default 4000)
   --long N      seconds for logs of N steps through rings of 4, 400 and 4000 blocks, with an index; of N / 1000 without
+  --shared N    seconds for logs of N steps through a function that 4, 400 and 1000 callers share, with an index of
+                the edges; of N / 100 with one of the blocks alone, and of N / 1000 without
   --seed S      where the seeded logs begin (default 1); the same seed, the same logs
 
 Exit: 0 if all is the same, 1 if something differs, 2 if the command is not understood.
@@ -57,6 +59,11 @@ fn run() -> Result<Option<Logs>, String> {
                 long(steps.ok_or_else(value)?);
                 count = 0;
             }
+            "--shared" => {
+                let steps = words.next().and_then(|w| w.parse().ok());
+                through_shared(steps.ok_or_else(value)?);
+                count = 0;
+            }
             _ => return Err(format!("'{word}' is no option")),
         }
     }
@@ -71,6 +78,21 @@ fn long(steps: usize) {
             "{blocks} blocks: {steps} steps in {with:.2} s with an index, {} in {without:.2} s without",
             steps / 1000
         );
+    }
+}
+
+fn through_shared(steps: usize) {
+    for callers in [4, 400, 1000] {
+        let parts = [
+            (steps, Index::Edges),
+            (steps / 100, Index::Blocks),
+            (steps / 1000, Index::Nothing),
+        ];
+        let told = parts.map(|(steps, index)| {
+            let seconds = shared(aznifrem::follow, callers, steps, index);
+            format!("{steps} steps in {seconds:.3} s ({index:?})")
+        });
+        println!("{callers} callers: {}", told.join(", "));
     }
 }
 

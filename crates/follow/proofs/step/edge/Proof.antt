@@ -1,10 +1,10 @@
-use Rattle.follow.proofs.Moving.{edge-walking, edge-few, edge-one, edge-sum, edge-takes, edge-nowhere, edge-not}
+use Rattle.follow.proofs.Moving.{edge-one, edge-sum, edge-takes, edge-nowhere, edge-not}
 use borrow.Author.Needs.{needs}
 use Rattle.follow.proofs.step.edge.Statement.{statement}
 use Rattle.follow.proofs.step.edge.Tie as tie
 
-seek-requires : tie.Need-seek-requires
-seek-requires c κs = search (edge-walking, edge-few)
+place-of-requires : tie.Need-place-of-requires
+place-of-requires c κs = search needs
 
 enum-known-n : tie.Need-enum-known-n
 enum-known-n c = search needs
@@ -15,11 +15,11 @@ find-requires c κs = search needs
 enum-known-to : tie.Need-enum-known-to
 enum-known-to c = search needs
 
-add-t15 : tie.Need-add-t15
-add-t15 c = search edge-one
+add-taken : tie.Need-add-taken
+add-taken c = search edge-one
 
-add-t16 : tie.Need-add-t16
-add-t16 c = search edge-sum
+add-taken-2 : tie.Need-add-taken-2
+add-taken-2 c = search edge-sum
 
 enum-told : tie.Need-enum-told
 enum-told c = search needs
@@ -40,12 +40,12 @@ pub edge-spec : {M : Type 1} → statement M
 edge-spec =
     tie.close
     (tie.spec
-    seek-requires
+    place-of-requires
     enum-known-n
     find-requires
     enum-known-to
-    add-t15
-    add-t16
+    add-taken
+    add-taken-2
     enum-told
     enum-told-2
     returns
