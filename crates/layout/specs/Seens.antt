@@ -1,4 +1,4 @@
--- A remembered row in T, 32 bytes: the path's last block (2 bytes), the symbol, in a cell (9), 1 byte free, the place and the length of the state in S
+-- A remembered row in T, 32 bytes: the path's last block (2 bytes), the symbol, in a cell (9), the mark (1), the place and the length of the state in S
 -- (4 each), the sum (4), the next row of the same bucket (4), as a row's number and 1 more; and the newest row of the bucket that has the row's number (4),
 -- whether or not the row is in use. Assumes nothing.
 use mathlib.Core.List.{List}
@@ -17,8 +17,8 @@ seenPlace i = SEEN * i
 abbrev pub T-SYMBOL : ℕ
 T-SYMBOL = 2
 
-abbrev pub T-GAP : ℕ
-T-GAP = 11
+abbrev pub T-MARK : ℕ
+T-MARK = 11
 
 abbrev pub T-FROM : ℕ
 T-FROM = 12
@@ -46,8 +46,15 @@ placeAt t i = numAt 4 t (seenPlace i + T-FROM)
 abbrev pub cellsAt : List ℕ → ℕ → ℕ
 cellsAt t i = numAt 4 t (seenPlace i + T-CELLS)
 
-abbrev pub stampAt : List ℕ → ℕ → ℕ
-stampAt t i = numAt 4 t (seenPlace i + T-SUM)
+abbrev pub rowSumAt : List ℕ → ℕ → ℕ
+rowSumAt t i = numAt 4 t (seenPlace i + T-SUM)
+
+abbrev pub markAt : List ℕ → ℕ → ℕ
+markAt t i = numAt 1 t (seenPlace i + T-MARK)
+
+-- the sum and the mark, as one number
+unfoldable pub stampAt : List ℕ → ℕ → ℕ
+stampAt t i = rowSumAt t i * 256 + markAt t i
 
 abbrev pub chainAt : List ℕ → ℕ → ℕ
 chainAt t i = numAt 4 t (seenPlace i + T-LINK)

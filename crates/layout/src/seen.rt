@@ -2,8 +2,10 @@
 // The bytes of a row.
 pub const SEEN: usize = 32;
 
-// Where its fields stand: the symbol, in a cell, the place and the length of the state in S, the sum, and the next row of the same bucket.
+// Where its fields stand: the symbol, in a cell, the mark, the place and the length of the state in S, the sum, and the next row of the same bucket.
 pub const SYMBOL: usize = 2;
+
+pub const MARK: usize = 11;
 
 pub const FROM: usize = 12;
 

@@ -2,7 +2,7 @@
 use mathlib.Core.Path.{_≡_, refl, sym, ap, ap₂, _∙_}
 use mathlib.Core.Bool.{Bool, true, false, _&&_}
 use mathlib.Core.List.{List, [], _∷_}
-use Prim.Native.Nat.{ℕ, zero, suc, _+_, _*_, _-_, _^_, _≤_, _<_}
+use Prim.Native.Nat.{ℕ, zero, suc, _+_, _*_, _-_, _%_, _^_, _≤_, _<_}
 use native.Mathlib.Nat.{add-zero, sub-zero}
 use native.Mathlib.Omega.{arith}
 use lib.Dec.{eqb}
@@ -13,7 +13,9 @@ use Rattle.lent.specs.Bytes.{numAt, Holds, Stored}
 use Rattle.lent.proofs.Parts.{part-within, part-prefix}
 use Rattle.lent.proofs.Numbers.{num-within}
 use Rattle.lent.proofs.Stored.{read-all}
-use Rattle.tables.specs.Addrs.{addrs, mixed, sums, pathSum, Summed}
+use Rattle.tables.specs.Addrs.{addrs, pathSum, Summed}
+use Rattle.tables.specs.Sums.{mixed, sums}
+use Rattle.tables.proofs.Sums.{mix-low}
 
 -- ---- addresses
 
@@ -65,25 +67,21 @@ addrs-copied p at np {q} {q′} s = addrs-within q′ p at 0 np (read-all s)
 
 -- ---- sums
 
-pub mix-small : (sum x : ℕ) → mixed sum x < 2 ^ 32
-unfolding mixed
-mix-small sum x = omega arith
-
 module _ (p : List ℕ) (np : ℕ) where
   pub sum-first : sums 0 (addrs p (0 + 0) (np - 0)) ≡ pathSum (addrs p 0 np)
   sum-first = ap (sums 0) (left-all p 0 np)
 
   module _ (sum i : ℕ) (e : sums sum (addrs p (0 + i) (np - i)) ≡ pathSum (addrs p 0 np)) where
-    pub sum-again : {x r : ℕ} → i < np → Holds 2 p (2 * i) x → r ≡ mixed sum x → sums r (addrs p (0 + (i + 1)) (np - (i + 1))) ≡ pathSum (addrs p 0 np)
+    pub sum-again : {x y r : ℕ} → i < np → Holds 2 p (2 * i) x → y ≡ x % 2 ^ 32 → r ≡ mixed 37 sum y → sums r (addrs p (0 + (i + 1)) (np - (i + 1))) ≡ pathSum (addrs p 0 np)
     unfolding sums
-    sum-again {x} {r} h g f =
+    sum-again {x} {y} {r} h g d f =
         let z : 2 * i ≡ 2 * (0 + i) = omega arith in
         let rest : List ℕ = addrs p (0 + (i + 1)) (np - (i + 1)) in
-        ap (λ (v : ℕ). sums v rest) (f ∙ ap (mixed sum) (g .is ∙ ap (numAt 2 p) z)) ∙ sym (ap (sums sum) (left-step p 0 np i h)) ∙ e
+        ap (λ (v : ℕ). sums v rest) (f ∙ ap (mixed 37 sum) d ∙ mix-low 37 sum x ∙ ap (mixed 37 sum) (g .is ∙ ap (numAt 2 p) z)) ∙ sym (ap (sums sum) (left-step p 0 np i h)) ∙ e
 
-    pub sum-done : np ≤ i → sum < 2 ^ 32 → Summed (addrs p 0 np) sum
+    pub sum-done : {r : ℕ} → np ≤ i → r ≡ sum → r < 2 ^ 32 → Summed (addrs p 0 np) r
     unfolding sums
-    sum-done h s = record { is = rw (left-none p 0 np i h) at e; small = s }
+    sum-done h d s = record { is = d ∙ (rw (left-none p 0 np i h) at e); small = s }
 
 -- ---- comparing two
 

@@ -1,3 +1,4 @@
+pub mod Sums
 pub mod Addrs
 pub mod Chains
 pub mod Orders

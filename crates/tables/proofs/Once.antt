@@ -13,7 +13,7 @@ use Rattle.lent.specs.Bytes.{numAt}
 use Rattle.lent.proofs.Once.{Bytes, Same, same-num, same-both, same-as, same-then, same-rows, same-all}
 use Rattle.layout.specs.Fields.{COUNT}
 use Rattle.layout.specs.Parts.{fieldsPlace, listPlace}
-use Rattle.layout.specs.Seens.{SEEN, seenPlace, T-GAP, T-FROM, T-CELLS, T-SUM, T-LINK, T-HEAD, topAt}
+use Rattle.layout.specs.Seens.{SEEN, seenPlace, T-MARK, T-FROM, T-CELLS, T-SUM, T-LINK, T-HEAD, topAt}
 use Rattle.tables.specs.Addrs.{addrs}
 use Rattle.tables.specs.Chains.{newest}
 use Rattle.tables.specs.Tables.{Mem, recs, counted}
@@ -25,7 +25,7 @@ use Rattle.tables.specs.declared.Counts.{Counts}
 use Rattle.tables.specs.declared.Answer.{Answer}
 use Rattle.tables.specs.declared.row.Seen.{Seen}
 use Rattle.tables.proofs.Chains.{keyed, newest-same}
-use Rattle.tables.proofs.Shelves.{shelf-same}
+use Rattle.tables.proofs.Shelves.{tells-stamp, shelf-same}
 use Rattle.tables.proofs.Alike.{AllBytes, AllLong, one-tables, one-more}
 
 pub one-answer : {a b : Answer} → a .code ≡ b .code → a .counts ≡ b .counts → a ≡ b
@@ -70,7 +70,7 @@ module _ {buckets m sum : ℕ} {t u v : List ℕ} {x : Seen} (b : Bytes u) (d : 
   push-shelves =
       each (λ (i : ℕ). shelfAt buckets u i) (λ (i : ℕ). shelfAt buckets v i) m
       (λ i l. shelf-same buckets (p .rows i l) ∙ sym (shelf-same buckets (q .rows i l)))
-      (ap (λ (y : ℕ). y % buckets) (p .tells .stamped ∙ sym (q .tells .stamped)))
+      (ap (λ (y : ℕ). y % buckets) (tells-stamp (p .tells) ∙ sym (tells-stamp (q .tells))))
 
   push-chain : numAt 4 u (seenPlace m + T-LINK) ≡ numAt 4 v (seenPlace m + T-LINK)
   push-chain =
@@ -82,10 +82,10 @@ module _ {buckets m sum : ℕ} {t u v : List ℕ} {x : Seen} (b : Bytes u) (d : 
   push-new : Same u v (seenPlace m) T-HEAD
   push-new =
       let at : (o : ℕ) → numAt 4 u (seenPlace m + o) ≡ numAt 4 v (seenPlace m + o) → Same u v (seenPlace m + o) 4 = λ o e. same-num b d push-long 4 (seenPlace m + o) e in
-      let front : Same u v (seenPlace m) T-FROM = same-then (same-both (seenPlace m) T-GAP (p .seen) (q .seen)) (same-both (seenPlace m + T-GAP) 1 (p .gap) (q .gap)) refl in
+      let front : Same u v (seenPlace m) T-FROM = same-then (same-both (seenPlace m) T-MARK (p .seen) (q .seen)) (same-both (seenPlace m + T-MARK) 1 (p .mark) (q .mark)) refl in
       let places : Same u v (seenPlace m) T-SUM =
       same-then (same-then front (at T-FROM (p .tells .place ∙ sym (q .tells .place))) refl) (at T-CELLS (p .tells .cells ∙ sym (q .tells .cells))) refl in
-      same-then (same-then places (at T-SUM (p .tells .stamped ∙ sym (q .tells .stamped))) refl) (at T-LINK push-chain) refl
+      same-then (same-then places (at T-SUM (p .tells .summed ∙ sym (q .tells .summed))) refl) (at T-LINK push-chain) refl
 
   push-rows : (i : ℕ) → Same u v (seenPlace i) T-HEAD
   push-rows i = go (decLt i m) (decLt m i)

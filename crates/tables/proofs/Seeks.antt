@@ -2,31 +2,61 @@
 use mathlib.Core.Path.{_≡_, refl, sym, ap, ap₂, _∙_}
 use mathlib.Core.Bool.{Bool, true, false, not, _&&_}
 use mathlib.Core.List.{List}
-use Prim.Native.Nat.{ℕ, _+_, _-_, _*_, _%_, _<_}
+use Prim.Native.Nat.{ℕ, _+_, _-_, _*_, _%_, _^_, _<_}
+use native.Mathlib.Omega.{arith}
 use lib.Dec.{eqb}
 use borrow.Author.Tests.{eq-eqb, eqb-true, not-true, not-false}
 use Rattle.spec.specs.Stacks.{cells, eqSym, eqStack}
 use Rattle.spec.specs.Search.{Met}
 use Rattle.laws.proofs.Branch.{and-false}
 use Rattle.laws.proofs.Members.{and-both}
+use lib.ListN.{getD}
 use Rattle.lent.specs.Bytes.{Holds}
-use Rattle.layout.specs.Seens.{seenPlace, T-SYMBOL, T-FROM, T-CELLS, T-SUM, T-LINK, T-HEAD, blockAt, placeAt, cellsAt, stampAt}
+use Rattle.lent.proofs.Numbers.{num-small}
+use Rattle.layout.specs.Seens.{seenPlace, T-SYMBOL, T-MARK, T-FROM, T-CELLS, T-SUM, T-LINK, T-HEAD, blockAt, placeAt, cellsAt, rowSumAt, markAt, stampAt}
 use Rattle.state.specs.Symbols.{symOf}
 use Rattle.state.specs.Cells.{symAt, symsAt, stackAt, stored}
 use Rattle.state.specs.Compared.{TwoStates}
 use Rattle.state.specs.declared.sym.StackSym.{StackSym}
 use Rattle.state.proofs.States.{state-lies, state-syms, lies-count}
-use Rattle.tables.specs.Addrs.{mixed}
 use Rattle.tables.specs.Chains.{any, Left}
-use Rattle.tables.specs.Rows.{shelfAt, weight, symSums, stamp, metAt, seenMet, sameMet, isMet, Stamped, Compares, Finds, SymSummed}
+use Rattle.tables.specs.Rows.{shelfAt, metAt, seenMet, sameMet, isMet, MetRow, Stamped, Compares, Finds}
+use Rattle.tables.specs.Sums.{mixed, weight, symSums, summed, stamp, SumsWith}
+use Rattle.tables.specs.declared.row.Sums.{Sums}
 use Rattle.tables.specs.declared.row.Seen.{Seen}
 use Rattle.tables.proofs.Orders.{left-first, left-none, left-below, left-hit, left-less, left-more}
 use Rattle.tables.proofs.Stamps.{eq-sym-true, eq-stack-true}
+use Rattle.tables.proofs.Sums.{mix-low}
 
-pub stamped : (s : List ℕ) (x : Seen) {a v b r : ℕ} → a ≡ mixed 0 (x .last) → v ≡ weight (symOf (x .symbol)) → b ≡ mixed a v
-    → SymSummed b (symsAt s (9 * x .from) (x .cells)) r → Stamped s x r
-unfolding stamp
-stamped s x e f g h = record { is = h .is ∙ ap (λ (y : ℕ). symSums y (symsAt s (9 * x .from) (x .cells))) (g ∙ rw (e, f)); small = h .small }
+-- what both sums begin with
+module _ (k : ℕ) (x : Seen) {l a v b : ℕ} (d : l ≡ x .last % 2 ^ 32) (e : a ≡ mixed k 0 l) (f : v ≡ weight (symOf (x .symbol))) (g : b ≡ mixed k a v) where
+  begun : b ≡ mixed k (mixed k 0 (x .last)) (weight (symOf (x .symbol)))
+  begun = let h : a ≡ mixed k 0 (x .last) = e ∙ ap (mixed k 0) d ∙ mix-low k 0 (x .last) in g ∙ rw (h, f)
+
+pub stamped : (s : List ℕ) (x : Seen) {l v a b : ℕ} {z y : Sums} {p q r : ℕ} → l ≡ x .last % 2 ^ 32 → v ≡ weight (symOf (x .symbol)) → a ≡ mixed 37 0 l → z .sum ≡ mixed 37 a v
+    → b ≡ mixed 3 0 l → z .mark ≡ mixed 3 b v → SumsWith z (symsAt s (9 * x .from) (x .cells)) y → p ≡ y .sum → p < 2 ^ 32 → q ≡ y .mark → r ≡ p * 256 + q % 256 → Stamped s x r
+unfolding stamp summed
+stamped s x {z = z} {y} {p} {q} {r} d f e g e′ g′ h i small j is =
+    let xs = symsAt s (9 * x .from) (x .cells) in
+    let sum : p ≡ symSums 37 (mixed 37 (mixed 37 0 (x .last)) (weight (symOf (x .symbol)))) xs = i ∙ h .sum ∙ ap (λ (n : ℕ). symSums 37 n xs) (begun 37 x d e f g) in
+    let mark : q ≡ symSums 3 (mixed 3 (mixed 3 0 (x .last)) (weight (symOf (x .symbol)))) xs = j ∙ h .mark ∙ ap (λ (n : ℕ). symSums 3 n xs) (begun 3 x d e′ f g′) in
+    record { is = is ∙ ap₂ (λ (m n : ℕ). m * 256 + n % 256) sum mark; small = omega arith }
+
+pub stamp-read : (t : List ℕ) (i : ℕ) {a b r : ℕ} → Holds 4 t (seenPlace i + T-SUM) a → Holds 1 t (seenPlace i + T-MARK) b → r ≡ a * 256 + b → r ≡ stampAt t i
+unfolding stampAt
+stamp-read t i h g e = e ∙ ap₂ (λ (m n : ℕ). m * 256 + n) (h .is) (g .is)
+
+-- the sum and the mark that stand in a row are those of its cells
+pub record OwnSums (t s : List ℕ) (i : ℕ) : Type 0 where
+  pub sum : rowSumAt t i ≡ summed 37 (blockAt t i) (symAt t (seenPlace i + T-SYMBOL)) (symsAt s (9 * placeAt t i) (cellsAt t i))
+  pub mark : markAt t i ≡ summed 3 (blockAt t i) (symAt t (seenPlace i + T-SYMBOL)) (symsAt s (9 * placeAt t i) (cellsAt t i)) % 256
+
+pub own-sums : {t s : List ℕ} {i : ℕ} → ((k : ℕ) → getD t k 0 < 256) → MetRow t s i → OwnSums t s i
+unfolding stampAt stamp
+own-sums {t} {s} {i} b r =
+    let e = r .stamped in
+    let m : markAt t i < 256 = num-small 1 t (seenPlace i + T-MARK) b in
+    record { sum = omega (arith, e, m); mark = omega (arith, e, m) }
 
 -- ---- comparing with a row
 
@@ -59,8 +89,8 @@ module _ {t s : List ℕ} {i : ℕ} {x : Seen} {sum : ℕ} (c : Compares t s i x
       state-syms s (9 * x .from) (x .cells) (c .state) ∙ ap stored (o .stack) ∙ sym (state-syms s (9 * placeAt t i) (cellsAt t i) (c .row .state)) in
       c .row .stamped ∙ sym (c .stamped .is ∙ rw (o .last, o .symbol, mine))
 
-  pub row-sum : {y : ℕ} → Holds 4 t (seenPlace i + T-SUM) y → (y ≡ sum → ⊥) → false ≡ isMet t s (seenMet s x) i
-  row-sum h d = false-of (isMet t s (seenMet s x) i) (λ e. d (h .is ∙ same-stamp e))
+  pub row-sum : {y : ℕ} → y ≡ stampAt t i → (y ≡ sum → ⊥) → false ≡ isMet t s (seenMet s x) i
+  row-sum h d = false-of (isMet t s (seenMet s x) i) (λ e. d (h ∙ same-stamp e))
 
   pub row-last : {y : ℕ} → Holds 2 t (seenPlace i) y → (y ≡ x .last → ⊥) → false ≡ isMet t s (seenMet s x) i
   unfolding metAt

@@ -1,7 +1,7 @@
 -- The laws of a remembered row more, on its shelf. Assumes nothing.
-use mathlib.Core.Path.{_≡_, sym, ap, _∙_}
+use mathlib.Core.Path.{_≡_, sym, ap, ap₂, _∙_}
 use mathlib.Core.List.{List}
-use Prim.Native.Nat.{ℕ, _+_, _%_, _^_, _≤_, _<_}
+use Prim.Native.Nat.{ℕ, _+_, _*_, _/_, _%_, _^_, _≤_, _<_}
 use native.Mathlib.Nat.{add-zero}
 use native.Mathlib.Numerals.{add-one}
 use native.Mathlib.Decide.{decLt}
@@ -13,7 +13,7 @@ use Rattle.lent.specs.Bytes.{numAt, Holds, Stored}
 use Rattle.lent.proofs.Parts.{part-prefix, part-suffix}
 use Rattle.lent.proofs.Numbers.{number-little, num-prefix, num-suffix}
 use Rattle.lent.proofs.Stored.{kept-take, kept-drop, kept-part, kept-num, read-num, read-all, read-back, stored-join}
-use Rattle.layout.specs.Seens.{seenPlace, T-SYMBOL, T-GAP, T-FROM, T-CELLS, T-SUM, T-LINK, T-HEAD, blockAt, chainAt, topAt}
+use Rattle.layout.specs.Seens.{seenPlace, T-SYMBOL, T-MARK, T-FROM, T-CELLS, T-SUM, T-LINK, T-HEAD, blockAt, stampAt, chainAt, topAt}
 use Rattle.state.specs.Symbols.{symOf}
 use Rattle.state.specs.Cells.{symAt, Put}
 use Rattle.tables.specs.Rows.{shelfAt, Tells, SameTold, SeenPut, placeBytes, Tellable, RowPut, Pushes, Pushed}
@@ -40,13 +40,13 @@ place-stored at from cells sum link a b c d =
     let g : at + T-LINK ≡ at + T-FROM + 12 = omega arith in
     stored-join (stored-join (stored-join a (rw e at b)) (rw f at c)) (rw g at d)
 
-module _ (i : ℕ) (x : Seen) (sum link : ℕ) {t t₁ t₂ : List ℕ} (h : Tellable x sum link) (a : SeenPut t (seenPlace i) (x .last) (symOf (x .symbol)) t₁)
-    (b : Stored 16 t₁ (seenPlace i + T-FROM) (placeBytes (x .from) (x .cells) sum link) t₂) where
+module _ (i : ℕ) (x : Seen) (sum link : ℕ) {t t₁ t₂ t₃ : List ℕ} (h : Tellable x sum link) (a : SeenPut t (seenPlace i) (x .last) (symOf (x .symbol)) t₁)
+    (m : Stored 1 t₁ (seenPlace i + T-MARK) (little 1 (sum % 256)) t₂) (b : Stored 16 t₂ (seenPlace i + T-FROM) (placeBytes (x .from) (x .cells) (sum / 256) link) t₃) where
   block-read : blockAt t₁ i ≡ x .last
   unfolding numAt
   block-read = ap (numAt 2 t₁) (sym (add-zero (seenPlace i))) ∙ read-num (a .stored) 2 0 (omega arith) ∙ number-little 2 (x .last) (h .last)
 
-  told : Tells t₂ i x sum link
+  told : Tells t₃ i x sum link
   unfolding placeBytes numAt
   told =
       let p : seenPlace i + T-FROM + 0 ≡ seenPlace i + T-FROM = omega arith in
@@ -54,24 +54,34 @@ module _ (i : ℕ) (x : Seen) (sum link : ℕ) {t t₁ t₂ : List ℕ} (h : Tel
       let d : seenPlace i + T-FROM + 8 ≡ seenPlace i + T-SUM = omega arith in
       let l : seenPlace i + T-FROM + 12 ≡ seenPlace i + T-LINK = omega arith in
       record {
-        block = kept-num b 2 (seenPlace i) (λ g. omega arith) ∙ block-read;
-        symbol = sym-kept b (seenPlace i + T-SYMBOL) (λ g. omega arith) ∙ a .reads;
-        place = ap (numAt 4 t₂) (sym p) ∙ read-num b 4 0 (omega arith) ∙ number-little 4 (x .from) (h .from);
-        cells = ap (numAt 4 t₂) (sym c) ∙ read-num b 4 4 (omega arith) ∙ number-little 4 (x .cells) (h .cells);
-        stamped = ap (numAt 4 t₂) (sym d) ∙ read-num b 4 8 (omega arith) ∙ number-little 4 sum (h .stamped);
-        chain = ap (numAt 4 t₂) (sym l) ∙ read-num b 4 12 (omega arith) ∙ number-little 4 link (h .chain);
+        block = kept-num b 2 (seenPlace i) (λ g. omega arith) ∙ kept-num m 2 (seenPlace i) (λ g. omega arith) ∙ block-read;
+        symbol = sym-kept b (seenPlace i + T-SYMBOL) (λ g. omega arith) ∙ sym-kept m (seenPlace i + T-SYMBOL) (λ g. omega arith) ∙ a .reads;
+        place = ap (numAt 4 t₃) (sym p) ∙ read-num b 4 0 (omega arith) ∙ number-little 4 (x .from) (h .from);
+        cells = ap (numAt 4 t₃) (sym c) ∙ read-num b 4 4 (omega arith) ∙ number-little 4 (x .cells) (h .cells);
+        summed = ap (numAt 4 t₃) (sym d) ∙ read-num b 4 8 (omega arith) ∙ number-little 4 (sum / 256) (omega (arith, h .stamped));
+        marked = kept-num b 1 (seenPlace i + T-MARK) (λ g. omega arith) ∙ read-back m (omega arith);
+        chain = ap (numAt 4 t₃) (sym l) ∙ read-num b 4 12 (omega arith) ∙ number-little 4 link (h .chain);
       }
 
-  pub row-put : RowPut t i x sum link t₂
+  pub row-put : RowPut t i x sum link t₃
   row-put =
       record {
         tells = told;
-        seen = kept-part b 11 (seenPlace i) (λ g. omega arith) ∙ read-all (a .stored);
-        front = kept-take b (seenPlace i) (omega arith) ∙ kept-take (a .stored) (seenPlace i) (omega arith);
-        gap = kept-part b 1 (seenPlace i + T-GAP) (λ g. omega arith) ∙ kept-part (a .stored) 1 (seenPlace i + T-GAP) (λ g. omega arith);
-        back = kept-drop b (seenPlace i + T-HEAD) (omega arith) ∙ kept-drop (a .stored) (seenPlace i + T-HEAD) (omega arith);
-        long = b .kept ∙ a .stored .kept;
+        seen = kept-part b 11 (seenPlace i) (λ g. omega arith) ∙ kept-part m 11 (seenPlace i) (λ g. omega arith) ∙ read-all (a .stored);
+        front = kept-take b (seenPlace i) (omega arith) ∙ kept-take m (seenPlace i) (omega arith) ∙ kept-take (a .stored) (seenPlace i) (omega arith);
+        mark = kept-part b 1 (seenPlace i + T-MARK) (λ g. omega arith) ∙ read-all m;
+        back = kept-drop b (seenPlace i + T-HEAD) (omega arith) ∙ kept-drop m (seenPlace i + T-HEAD) (omega arith) ∙ kept-drop (a .stored) (seenPlace i + T-HEAD) (omega arith);
+        long = b .kept ∙ m .kept ∙ a .stored .kept;
       }
+
+-- the sum and the mark are one number
+pub told-stamp : {t t′ : List ℕ} {i : ℕ} → SameTold t t′ i → stampAt t′ i ≡ stampAt t i
+unfolding stampAt
+told-stamp s = ap₂ (λ (a b : ℕ). a * 256 + b) (s .summed) (s .marked)
+
+pub tells-stamp : {t : List ℕ} {i : ℕ} {x : Seen} {sum link : ℕ} → Tells t i x sum link → stampAt t i ≡ sum
+unfolding stampAt
+tells-stamp s = ap₂ (λ (a b : ℕ). a * 256 + b) (s .summed) (s .marked) ∙ omega arith
 
 -- ---- what a row leaves of the others
 
@@ -86,7 +96,8 @@ told-then p q =
       symbol = q .symbol ∙ p .symbol;
       place = q .place ∙ p .place;
       cells = q .cells ∙ p .cells;
-      stamped = q .stamped ∙ p .stamped;
+      summed = q .summed ∙ p .summed;
+      marked = q .marked ∙ p .marked;
       chain = q .chain ∙ p .chain;
     }
 
@@ -99,7 +110,8 @@ module _ (h v : ℕ) {t t′ : List ℕ} (s : Stored 4 t (seenPlace h + T-HEAD) 
         symbol = sym-kept s (seenPlace i + T-SYMBOL) (λ g. omega arith);
         place = kept-num s 4 (seenPlace i + T-FROM) (λ g. omega arith);
         cells = kept-num s 4 (seenPlace i + T-CELLS) (λ g. omega arith);
-        stamped = kept-num s 4 (seenPlace i + T-SUM) (λ g. omega arith);
+        summed = kept-num s 4 (seenPlace i + T-SUM) (λ g. omega arith);
+        marked = kept-num s 1 (seenPlace i + T-MARK) (λ g. omega arith);
         chain = kept-num s 4 (seenPlace i + T-LINK) (λ g. omega arith);
       }
 
@@ -111,7 +123,7 @@ module _ (h v : ℕ) {t t′ : List ℕ} (s : Stored 4 t (seenPlace h + T-HEAD) 
 
 pub shelf-same : (buckets : ℕ) {t t′ : List ℕ} {i : ℕ} → SameTold t t′ i → shelfAt buckets t′ i ≡ shelfAt buckets t i
 unfolding shelfAt
-shelf-same buckets s = ap (λ (v : ℕ). v % buckets) (s .stamped)
+shelf-same buckets s = ap (λ (v : ℕ). v % buckets) (told-stamp s)
 
 -- ---- on its shelf
 
@@ -124,7 +136,8 @@ module _ {buckets : ℕ} {t : List ℕ} {m : ℕ} {x : Seen} {sum : ℕ} (p : Pu
           symbol = sym-prefix t₁ t (seenPlace m) (seenPlace i + T-SYMBOL) (r .front) (omega arith);
           place = num-prefix t₁ t (seenPlace m) (r .front) 4 (seenPlace i + T-FROM) (omega arith);
           cells = num-prefix t₁ t (seenPlace m) (r .front) 4 (seenPlace i + T-CELLS) (omega arith);
-          stamped = num-prefix t₁ t (seenPlace m) (r .front) 4 (seenPlace i + T-SUM) (omega arith);
+          summed = num-prefix t₁ t (seenPlace m) (r .front) 4 (seenPlace i + T-SUM) (omega arith);
+          marked = num-prefix t₁ t (seenPlace m) (r .front) 1 (seenPlace i + T-MARK) (omega arith);
           chain = num-prefix t₁ t (seenPlace m) (r .front) 4 (seenPlace i + T-LINK) (omega arith);
         }
 
@@ -139,7 +152,8 @@ module _ {buckets : ℕ} {t : List ℕ} {m : ℕ} {x : Seen} {sum : ℕ} (p : Pu
           symbol = o .symbol ∙ r .tells .symbol;
           place = o .place ∙ r .tells .place;
           cells = o .cells ∙ r .tells .cells;
-          stamped = o .stamped ∙ r .tells .stamped;
+          summed = o .summed ∙ r .tells .summed;
+          marked = o .marked ∙ r .tells .marked;
           chain = o .chain ∙ r .tells .chain;
         }
 
@@ -152,7 +166,7 @@ module _ {buckets : ℕ} {t : List ℕ} {m : ℕ} {x : Seen} {sum : ℕ} (p : Pu
 
     shelf : shelfAt buckets t₂ m ≡ h
     unfolding shelfAt
-    shelf = ap (λ (v : ℕ). v % buckets) (now-tells .stamped) ∙ sym e
+    shelf = ap (λ (v : ℕ). v % buckets) (tells-stamp now-tells) ∙ sym e
 
     apart : (k : ℕ) → (k ≡ shelfAt buckets t₂ m → ⊥) → k ≡ h → ⊥
     apart k d z = d (z ∙ sym shelf)
@@ -175,7 +189,7 @@ module _ {buckets : ℕ} {t : List ℕ} {m : ℕ} {x : Seen} {sum : ℕ} (p : Pu
           tells = now-tells;
           rows = rows-told;
           seen = kept-part s 11 (seenPlace m) (λ q. omega arith) ∙ r .seen;
-          gap = kept-part s 1 (seenPlace m + T-GAP) (λ q. omega arith) ∙ r .gap;
+          mark = kept-part s 1 (seenPlace m + T-MARK) (λ q. omega arith) ∙ r .mark;
           older = λ i l. kept-part s 28 (seenPlace i) (λ q. omega arith) ∙ part-prefix t₁ t (seenPlace m) (r .front) 28 (seenPlace i) (omega arith);
           later = λ i l. kept-part s 28 (seenPlace i) (λ q. omega arith) ∙ part-suffix t₁ t (seenPlace m + T-HEAD) (r .back) 28 (seenPlace i) (omega arith);
           tops = λ k l. head-other h (m + 1) s k (λ z. omega arith) ∙ top-before k;

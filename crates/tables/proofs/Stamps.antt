@@ -2,7 +2,7 @@
 use mathlib.Core.Path.{_≡_, refl, sym, ap, ap₂, _∙_}
 use mathlib.Core.Bool.{true, false}
 use mathlib.Core.List.{List, [], _∷_}
-use Prim.Native.Nat.{ℕ, zero, suc, _+_, _*_, _-_, _^_, _≤_, _<_}
+use Prim.Native.Nat.{ℕ, zero, suc, _+_, _*_, _-_, _≤_, _<_}
 use native.Mathlib.Nat.{add-zero, sub-zero}
 use native.Mathlib.Omega.{arith}
 use lib.Dec.{eqb}
@@ -13,8 +13,8 @@ use Rattle.state.specs.Symbols.{symOf}
 use Rattle.state.specs.Cells.{tag, value, symAt, symsAt}
 use Rattle.state.specs.declared.sym.StackSym.{StackSym}
 use Rattle.state.proofs.Comparing.{eq-parts}
-use Rattle.tables.specs.Addrs.{mixed}
-use Rattle.tables.specs.Rows.{weight, symSums, SymSummed}
+use Rattle.tables.specs.Sums.{mixed, weight, symSums, SumsWith}
+use Rattle.tables.specs.declared.row.Sums.{Sums}
 
 -- ---- the symbols that are left from the i-th on
 
@@ -43,22 +43,26 @@ module _ (s : List ℕ) (from n : ℕ) where
 
 -- ---- sums
 
-module _ (s : List ℕ) (from n sum : ℕ) where
-  pub cells-first : symSums sum (symsAt s (9 * (from + 0)) (n - 0)) ≡ symSums sum (symsAt s (9 * from) n)
-  cells-first = ap (symSums sum) (left-all s from n)
+module _ (k : ℕ) (s : List ℕ) (from n sum : ℕ) where
+  pub cells-first : symSums k sum (symsAt s (9 * (from + 0)) (n - 0)) ≡ symSums k sum (symsAt s (9 * from) n)
+  cells-first = ap (symSums k sum) (left-all s from n)
 
-  module _ (acc i : ℕ) (e : symSums acc (symsAt s (9 * (from + i)) (n - i)) ≡ symSums sum (symsAt s (9 * from) n)) where
-    pub cells-again : (x : StackSym) {v r : ℕ} → i < n → symOf x ≡ symAt s (9 * (from + i)) → v ≡ weight (symOf x) → r ≡ mixed acc v
-        → symSums r (symsAt s (9 * (from + (i + 1))) (n - (i + 1))) ≡ symSums sum (symsAt s (9 * from) n)
+  module _ (acc i : ℕ) (e : symSums k acc (symsAt s (9 * (from + i)) (n - i)) ≡ symSums k sum (symsAt s (9 * from) n)) where
+    pub cells-again : (x : StackSym) {v r : ℕ} → i < n → symOf x ≡ symAt s (9 * (from + i)) → v ≡ weight (symOf x) → r ≡ mixed k acc v
+        → symSums k r (symsAt s (9 * (from + (i + 1))) (n - (i + 1))) ≡ symSums k sum (symsAt s (9 * from) n)
     unfolding symSums
     cells-again x h g f d =
-        ap (λ (y : ℕ). symSums y (symsAt s (9 * (from + (i + 1))) (n - (i + 1)))) (d ∙ ap (mixed acc) (f ∙ ap weight g))
-        ∙ sym (ap (symSums acc) (left-step s from n i h))
+        ap (λ (y : ℕ). symSums k y (symsAt s (9 * (from + (i + 1))) (n - (i + 1)))) (d ∙ ap (mixed k acc) (f ∙ ap weight g))
+        ∙ sym (ap (symSums k acc) (left-step s from n i h))
         ∙ e
 
-    pub cells-done : n ≤ i → acc < 2 ^ 32 → SymSummed sum (symsAt s (9 * from) n) acc
+    cells-done : n ≤ i → acc ≡ symSums k sum (symsAt s (9 * from) n)
     unfolding symSums
-    cells-done h g = record { is = rw (left-none s from n i h) at e; small = g }
+    cells-done h = rw (left-none s from n i h) at e
+
+pub both-done : (s : List ℕ) (from n i : ℕ) (a b : Sums) → n ≤ i → symSums 37 (b .sum) (symsAt s (9 * (from + i)) (n - i)) ≡ symSums 37 (a .sum) (symsAt s (9 * from) n)
+    → symSums 3 (b .mark) (symsAt s (9 * (from + i)) (n - i)) ≡ symSums 3 (a .mark) (symsAt s (9 * from) n) → SumsWith a (symsAt s (9 * from) n) b
+both-done s from n i a b h e f = record { sum = cells-done 37 s from n (a .sum) (b .sum) i e h; mark = cells-done 3 s from n (a .mark) (b .mark) i f h }
 
 -- ---- comparing two symbols
 

@@ -14,20 +14,21 @@ use Rattle.spec.specs.Search.{Met}
 use Rattle.lent.specs.Bytes.{Holds, Stored}
 use Rattle.lent.proofs.Parts.{part-prefix}
 use Rattle.lent.proofs.Stored.{read-back}
-use Rattle.layout.specs.Seens.{seenPlace, T-SYMBOL, T-SUM, T-HEAD, blockAt, placeAt, cellsAt, topAt}
+use Rattle.layout.specs.Seens.{seenPlace, T-SYMBOL, T-HEAD, blockAt, placeAt, cellsAt, stampAt, topAt}
 use Rattle.state.specs.Cells.{symAt, stackAt, Lies}
 use Rattle.state.proofs.Syms.{syms-within}
 use Rattle.state.proofs.States.{state-lies, lies-within, lies-count}
 use Rattle.tables.specs.Chains.{newest, any}
 use Rattle.tables.specs.Recording.{shortOf}
-use Rattle.tables.specs.Rows.{shelfAt, stamp, metAt, metOf, seenMet, sameMet, isMet, usedOf, MetRow, Shelves, Stamped, Finds, Pushes, Pushed}
+use Rattle.tables.specs.Rows.{shelfAt, metAt, metOf, seenMet, sameMet, isMet, usedOf, MetRow, Shelves, Stamped, Finds, Pushes, Pushed}
+use Rattle.tables.specs.Sums.{stamp}
 use Rattle.tables.specs.Mets.{Remembers, Packs, Fresh, Memorizes, remembering, Memorized, Heads, Begins, Emptied, Wiped, Forgetting}
 use Rattle.tables.specs.declared.Rooms.{Rooms}
 use Rattle.tables.specs.declared.Counts.{Counts}
 use Rattle.tables.specs.declared.row.Seen.{Seen}
 use Rattle.tables.proofs.Chains.{keyed, newest-here, newest-other}
 use Rattle.tables.proofs.Orders.{below}
-use Rattle.tables.proofs.Shelves.{told-then, head-told, head-part, head-other}
+use Rattle.tables.proofs.Shelves.{told-stamp, tells-stamp, told-then, head-told, head-part, head-other}
 
 -- ---- found, or not
 
@@ -102,7 +103,7 @@ module _ {buckets : ℕ} {k : Rooms} {t s : List ℕ} {c : Counts} {x : Seen} wh
             record {
               inT = omega (arith, r .inT, p .long);
               state = rw (o .place, o .cells) (r .state);
-              stamped = o .stamped ∙ r .stamped ∙ sym (rw (o .block, o .symbol, o .place, o .cells));
+              stamped = told-stamp o ∙ r .stamped ∙ sym (rw (o .block, o .symbol, o .place, o .cells));
             }
 
         row-new : MetRow t′ s (c .rows)
@@ -111,7 +112,7 @@ module _ {buckets : ℕ} {k : Rooms} {t s : List ℕ} {c : Counts} {x : Seen} wh
             record {
               inT = omega (arith, row-pushes .inT, p .long);
               state = rw (o .place, o .cells) (h .fresh .state);
-              stamped = o .stamped ∙ h .stamped .is ∙ sym (rw (o .block, o .symbol, o .place, o .cells));
+              stamped = tells-stamp o ∙ h .stamped .is ∙ sym (rw (o .block, o .symbol, o .place, o .cells));
             }
 
         rows-all : (i : ℕ) → (i < c .rows) ⊎ (i ≡ c .rows) → MetRow t′ s i
@@ -167,7 +168,7 @@ module _ {buckets : ℕ} {k : Rooms} {t s : List ℕ} {c : Counts} {x : Seen} wh
 heads-none : (buckets : ℕ) (t : List ℕ) → Heads buckets t t
 heads-none buckets t =
     record {
-      told = λ i. record { block = refl; symbol = refl; place = refl; cells = refl; stamped = refl; chain = refl };
+      told = λ i. record { block = refl; symbol = refl; place = refl; cells = refl; summed = refl; marked = refl; chain = refl };
       parts = λ n i o l. refl;
       tops = λ h l. refl;
       long = refl;
@@ -222,7 +223,7 @@ module _ {buckets : ℕ} {t : List ℕ} where
     forgets-some l = c .some (λ z. omega arith)
 
     module _ {i : ℕ} {t₁ : List ℕ} (o : Forgetting buckets t m i t₁) where
-      pub forgets-more : {v h : ℕ} {t₂ : List ℕ} → i < m → Holds 4 t₁ (seenPlace i + T-SUM) v → h ≡ v % buckets → h < buckets → Stored 4 t₁ (seenPlace h + T-HEAD) (little 4 0) t₂
+      pub forgets-more : {v h : ℕ} {t₂ : List ℕ} → i < m → v ≡ stampAt t₁ i → h ≡ v % buckets → h < buckets → Stored 4 t₁ (seenPlace h + T-HEAD) (little 4 0) t₂
           → Forgetting buckets t m (i + 1) t₂
       unfolding shelfAt
       forgets-more {v} {h} {t₂} l g e b s =
@@ -234,7 +235,7 @@ module _ {buckets : ℕ} {t : List ℕ} where
           }
         where
           mine : shelfAt buckets t i ≡ h
-          mine = ap (λ (y : ℕ). y % buckets) (sym (o .heads .told i .stamped) ∙ sym (g .is)) ∙ sym e
+          mine = ap (λ (y : ℕ). y % buckets) (sym (told-stamp (o .heads .told i)) ∙ sym g) ∙ sym e
 
           other : (k : ℕ) → (k ≡ h → ⊥) → newest (shelfAt buckets t) k (suc i) ≡ newest (shelfAt buckets t) k i
           other k d = newest-other (shelfAt buckets t) k i (λ z. d (sym z ∙ mine))

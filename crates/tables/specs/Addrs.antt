@@ -1,22 +1,15 @@
 -- Paths in a lent buffer: addresses of two bytes each, and their sum. Assumes nothing.
 use mathlib.Core.Path.{_≡_}
-use Prim.Native.Nat.{ℕ, zero, suc, _+_, _*_, _%_, _^_, _≤_, _<_}
+use Prim.Native.Nat.{ℕ, zero, suc, _+_, _*_, _^_, _≤_, _<_}
 use mathlib.Core.List.{List, [], _∷_}
 use lib.ListN.{length}
 use Rattle.lent.specs.Bytes.{numAt}
+use Rattle.tables.specs.Sums.{sums}
 
 -- n addresses from the address `at` on
 unfoldable pub addrs : List ℕ → ℕ → ℕ → List ℕ
 addrs b at zero = []
 addrs b at (suc n) = numAt 2 b (2 * at) ∷ addrs b (at + 1) n
-
--- a sum with one number more, kept to 32 bits
-unfoldable pub mixed : ℕ → ℕ → ℕ
-mixed sum x = (sum * 31 + x) % 2 ^ 32
-
-unfoldable pub sums : ℕ → List ℕ → ℕ
-sums sum [] = sum
-sums sum (x ∷ xs) = sums (mixed sum x) xs
 
 -- the sum of a path
 abbrev pub pathSum : List ℕ → ℕ

@@ -1,6 +1,6 @@
 -- The remembered rows, in the buffers T and S. Assumes nothing.
 use mathlib.Core.Path.{_≡_}
-use Prim.Native.Nat.{ℕ, zero, suc, _+_, _*_, _%_, _^_, _≤_, _<_}
+use Prim.Native.Nat.{ℕ, zero, suc, _+_, _*_, _/_, _%_, _^_, _≤_, _<_}
 use mathlib.Core.Bool.{Bool, _&&_}
 use mathlib.Core.List.{List, [], _∷_, _++_}
 use lib.Dec.{eqb}
@@ -9,27 +9,15 @@ use Rattle.spec.specs.Lists.{little}
 use Rattle.spec.specs.Stacks.{Sym, eqSym, eqStack}
 use Rattle.spec.specs.Search.{Met}
 use Rattle.lent.specs.Bytes.{Stored}
-use Rattle.layout.specs.Seens.{SEEN, seenPlace, T-SYMBOL, T-GAP, T-HEAD, blockAt, placeAt, cellsAt, stampAt, chainAt, topAt}
+use Rattle.layout.specs.Seens.{SEEN, seenPlace, T-SYMBOL, T-MARK, T-HEAD, blockAt, placeAt, cellsAt, rowSumAt, markAt, stampAt, chainAt, topAt}
 use Rattle.state.specs.Symbols.{symOf}
-use Rattle.state.specs.Cells.{tag, value, cell, symAt, symsAt, stackAt, State}
-use Rattle.tables.specs.Addrs.{mixed}
+use Rattle.state.specs.Cells.{cell, symAt, symsAt, stackAt, State}
+use Rattle.tables.specs.Sums.{stamp}
 use Rattle.tables.specs.Chains.{Chained}
 use Rattle.tables.specs.declared.row.Seen.{Seen}
 
 unfoldable pub shelfAt : ℕ → List ℕ → ℕ → ℕ
 shelfAt buckets t i = stampAt t i % buckets
-
--- ---- the sum of a last block, a symbol and a state's symbols
-
-abbrev pub weight : Sym → ℕ
-weight x = value x % 2 ^ 32 * 4 + tag x
-
-unfoldable pub symSums : ℕ → List Sym → ℕ
-symSums sum [] = sum
-symSums sum (x ∷ xs) = symSums (mixed sum (weight x)) xs
-
-unfoldable pub stamp : ℕ → Sym → List Sym → ℕ
-stamp last x xs = symSums (mixed (mixed 0 last) (weight x)) xs
 
 -- ---- the rows: the state lies at the bottom of S
 
@@ -77,7 +65,7 @@ pub record Shelves (buckets : ℕ) (t : List ℕ) (m : ℕ) : Type 0 where
 -- what is looked up stands in S, and has the sum
 pub record Stamped (s : List ℕ) (x : Seen) (sum : ℕ) : Type 0 where
   pub is : sum ≡ stampOf s x
-  pub small : sum < 2 ^ 32
+  pub small : sum < 2 ^ 40
 
 pub record Compares (t s : List ℕ) (i : ℕ) (x : Seen) (sum : ℕ) : Type 0 where
   pub state : State s (9 * x .from) (x .cells)
@@ -91,11 +79,6 @@ pub record Finds (t s : List ℕ) (buckets m : ℕ) (x : Seen) (sum : ℕ) : Typ
   pub some : 1 ≤ buckets
   pub shelves : Shelves buckets t m
 
--- r is the sum with the symbols
-pub record SymSummed (sum : ℕ) (xs : List Sym) (r : ℕ) : Type 0 where
-  pub is : r ≡ symSums sum xs
-  pub small : r < 2 ^ 32
-
 -- ---- a row more
 
 -- row i says what is seen, with its sum and its link
@@ -104,7 +87,8 @@ pub record Tells (t : List ℕ) (i : ℕ) (x : Seen) (sum link : ℕ) : Type 0 w
   pub symbol : symAt t (seenPlace i + T-SYMBOL) ≡ symOf (x .symbol)
   pub place : placeAt t i ≡ x .from
   pub cells : cellsAt t i ≡ x .cells
-  pub stamped : stampAt t i ≡ sum
+  pub summed : rowSumAt t i ≡ sum / 256
+  pub marked : markAt t i ≡ sum % 256
   pub chain : chainAt t i ≡ link
 
 -- every field of row i is as it was; the head that stands there may differ
@@ -113,7 +97,8 @@ pub record SameTold (t t′ : List ℕ) (i : ℕ) : Type 0 where
   pub symbol : symAt t′ (seenPlace i + T-SYMBOL) ≡ symAt t (seenPlace i + T-SYMBOL)
   pub place : placeAt t′ i ≡ placeAt t i
   pub cells : cellsAt t′ i ≡ cellsAt t i
-  pub stamped : stampAt t′ i ≡ stampAt t i
+  pub summed : rowSumAt t′ i ≡ rowSumAt t i
+  pub marked : markAt t′ i ≡ markAt t i
   pub chain : chainAt t′ i ≡ chainAt t i
 
 -- the last block and the symbol stored, and the rest
@@ -130,14 +115,14 @@ pub record Tellable (x : Seen) (sum link : ℕ) : Type 0 where
   pub last : x .last < 2 ^ 16
   pub from : x .from < 2 ^ 32
   pub cells : x .cells < 2 ^ 32
-  pub stamped : sum < 2 ^ 32
+  pub stamped : sum < 2 ^ 40
   pub chain : link < 2 ^ 32
 
 pub record RowPut (t : List ℕ) (i : ℕ) (x : Seen) (sum link : ℕ) (t′ : List ℕ) : Type 0 where
   pub tells : Tells t′ i x sum link
   pub seen : take 11 (drop (seenPlace i) t′) ≡ little 2 (x .last) ++ cell (symOf (x .symbol))
   pub front : take (seenPlace i) t′ ≡ take (seenPlace i) t
-  pub gap : take 1 (drop (seenPlace i + T-GAP) t′) ≡ take 1 (drop (seenPlace i + T-GAP) t)
+  pub mark : take 1 (drop (seenPlace i + T-MARK) t′) ≡ little 1 (sum % 256)
   pub back : drop (seenPlace i + T-HEAD) t′ ≡ drop (seenPlace i + T-HEAD) t
   pub long : length t′ ≡ length t
 
@@ -150,7 +135,7 @@ pub record Pushes (buckets : ℕ) (t : List ℕ) (m : ℕ) (x : Seen) (sum : ℕ
   pub last : x .last < 2 ^ 16
   pub from : x .from < 2 ^ 32
   pub cells : x .cells < 2 ^ 32
-  pub stamped : sum < 2 ^ 32
+  pub stamped : sum < 2 ^ 40
 
 -- now it is there; the other rows, and what stands beside and after them, but for the head of its shelf, are as they were
 pub record Pushed (buckets : ℕ) (t : List ℕ) (m : ℕ) (x : Seen) (sum : ℕ) (t′ : List ℕ) : Type 0 where
@@ -158,7 +143,7 @@ pub record Pushed (buckets : ℕ) (t : List ℕ) (m : ℕ) (x : Seen) (sum : ℕ
   pub link : ℕ
   pub tells : Tells t′ m x sum link
   pub seen : take 11 (drop (seenPlace m) t′) ≡ little 2 (x .last) ++ cell (symOf (x .symbol))
-  pub gap : take 1 (drop (seenPlace m + T-GAP) t′) ≡ take 1 (drop (seenPlace m + T-GAP) t)
+  pub mark : take 1 (drop (seenPlace m + T-MARK) t′) ≡ little 1 (sum % 256)
   pub rows : (i : ℕ) → i < m → SameTold t t′ i
   pub older : (i : ℕ) → i < m → take 28 (drop (seenPlace i) t′) ≡ take 28 (drop (seenPlace i) t)
   pub later : (i : ℕ) → m < i → take 28 (drop (seenPlace i) t′) ≡ take 28 (drop (seenPlace i) t)

@@ -7,6 +7,7 @@ mod record;
 mod recording;
 pub mod row;
 mod shelf;
+mod sum;
 
 pub use record::end_before;
 pub use recording::record_entry;

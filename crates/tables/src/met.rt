@@ -6,10 +6,9 @@ use crate::Rooms;
 use crate::record::bucket_of;
 use crate::row::Seen;
 use crate::shelf::push_row;
+use crate::shelf::stamp_at;
 use layout::seen::HEAD;
 use layout::seen::SEEN;
-use layout::seen::SUM;
-use lent::get32;
 use lent::put32;
 ghost use mathlib.Core.Path.{_≡_};
 ghost use Prim.Native.Nat.{_+_, _<_, _^_};
@@ -70,7 +69,7 @@ pub fn forget(t: &mut [u8], buckets: usize, m: usize)
 {
     let mut i = 0;
     while i < m {
-        let h = bucket_of(get32(t, SEEN * i + SUM), buckets);
+        let h = bucket_of(stamp_at(t, i), buckets);
         put32(t, SEEN * h + HEAD, 0);
         i += 1;
     }

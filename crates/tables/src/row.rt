@@ -1,13 +1,16 @@
 // Looking a remembered row up: along the chain of its bucket.
 // "If last block, state and symbol were met in this turn"
-use crate::path::mix;
 use crate::record::bucket_of;
+use crate::shelf::stamp_at;
+use crate::sum::blend;
+use crate::sum::low;
+use crate::sum::mix;
+use crate::sum::wide;
 use layout::seen::CELLS;
 use layout::seen::FROM;
 use layout::seen::HEAD;
 use layout::seen::LINK;
 use layout::seen::SEEN;
-use layout::seen::SUM;
 use layout::seen::SYMBOL;
 use lent::get16;
 use lent::get32;
@@ -18,6 +21,7 @@ use state::cell::OTHER;
 use state::cell::get_cell;
 use state::same::same_state;
 use state::sym::StackSym;
+use std::num::wrapping_add_u32;
 ghost use mathlib.Core.Path.{_≡_};
 ghost use Prim.Native.Nat.{_+_, _*_, _≤_, _<_, _^_};
 ghost use lib.ListN.{length};
@@ -25,7 +29,8 @@ ghost use Rattle.spec.specs.Stacks.{eqSym};
 ghost use Rattle.state.specs.Symbols.{symOf};
 ghost use Rattle.state.specs.Cells.{tag, value, symsAt, State};
 ghost use Rattle.tables.specs.Chains.{any};
-ghost use Rattle.tables.specs.Rows.{weight, seenMet, isMet, SymSummed, Stamped, Compares, Finds};
+ghost use Rattle.tables.specs.Rows.{seenMet, isMet, Stamped, Compares, Finds};
+ghost use Rattle.tables.specs.Sums.{weight, SumsWith};
 
 // What is remembered: the path's last block, the symbol read there, and the place and the length of the state in S, in cells.
 pub struct Seen {
@@ -33,6 +38,12 @@ pub struct Seen {
     pub symbol: StackSym,
     pub from: usize,
     pub cells: usize,
+}
+
+// The two sums of a row, worked out together.
+struct Sums {
+    sum: u32,
+    mark: u32,
 }
 
 // A symbol's tag.
@@ -60,10 +71,10 @@ fn value_of(x: StackSym) -> usize
 }
 
 // What a symbol adds to a sum.
-fn weigh(x: StackSym) -> usize
-    ensures { λ r. ⌜ (r ≡ weight (symOf x)) × (r < 2 ^ 40) ⌝ }
+fn weigh(x: StackSym) -> u32
+    ensures { λ r. ⌜ r ≡ weight (symOf x) ⌝ }
 {
-    value_of(x) % 0x1_0000_0000 * 4 + tag_of(x)
+    wrapping_add_u32(low(value_of(x)), low(tag_of(x) * 1000000))
 }
 
 // Whether two symbols are the same.
@@ -76,28 +87,35 @@ fn same_symbol(x: StackSym, y: StackSym) -> bool
     value_of(x) == value_of(y)
 }
 
-// A sum with the n symbols in the cells of S from the cell `from` on.
-fn sum_cells(s: &[u8], from: usize, n: usize, sum: usize) -> usize
-    requires { ⌜ (9 * (from + n) ≤ length (now s)) × (sum < 2 ^ 32) ⌝ }
-    ensures { λ r. ⌜ SymSummed sum (symsAt (now (s .entry)) (9 * from) n) r ⌝ }
+// Both sums with the n symbols in the cells of S from the cell `from` on.
+fn sum_cells(s: &[u8], from: usize, n: usize, a: Sums) -> Sums
+    requires { ⌜ 9 * (from + n) ≤ length (now s) ⌝ }
+    ensures { λ r. ⌜ SumsWith a (symsAt (now (s .entry)) (9 * from) n) r ⌝ }
 {
-    let mut acc = sum;
+    let mut sum = a.sum;
+    let mut mark = a.mark;
     let mut i = 0;
     while i < n {
-        acc = mix(acc, weigh(get_cell(s, 9 * (from + i))));
+        let x = weigh(get_cell(s, 9 * (from + i)));
+        sum = mix(sum, x);
+        mark = blend(mark, x);
         i += 1;
     }
-    acc
+    Sums { sum, mark }
 }
 
-// The sum of what is looked up.
+// The sum of what is looked up, and its mark in the lowest byte.
 pub fn stamp_of(s: &[u8], x: Seen) -> usize
     requires { ⌜ (State (now s) (9 * x .from) (x .cells)) × (x .last < 2 ^ 16) ⌝ }
     ensures { λ r. ⌜ Stamped (now (s .entry)) x r ⌝ }
 {
     let symbol = x.symbol;
-    let sum = mix(mix(0, x.last), weigh(symbol));
-    sum_cells(s, x.from, x.cells, sum)
+    let last = low(x.last);
+    let weight = weigh(symbol);
+    let sum = mix(mix(0, last), weight);
+    let mark = blend(blend(0, last), weight);
+    let a = sum_cells(s, x.from, x.cells, Sums { sum, mark });
+    wide(a.sum) * 256 + wide(a.mark) % 256
 }
 
 // Whether row i remembers x, whose sum is given.
@@ -106,7 +124,7 @@ fn is_row(t: &[u8], s: &[u8], i: usize, x: Seen, sum: usize) -> bool
     ensures { λ r. ⌜ r ≡ isMet (now (t .entry)) (now (s .entry)) (seenMet (now (s .entry)) x) i ⌝ }
 {
     let symbol = x.symbol;
-    if get32(t, SEEN * i + SUM) != sum {
+    if stamp_at(t, i) != sum {
         return false;
     }
     if get16(t, SEEN * i) != x.last {

@@ -6,20 +6,32 @@ use layout::seen::CELLS;
 use layout::seen::FROM;
 use layout::seen::HEAD;
 use layout::seen::LINK;
+use layout::seen::MARK;
 use layout::seen::SEEN;
 use layout::seen::SUM;
 use layout::seen::SYMBOL;
+use lent::get8;
 use lent::get32;
+use lent::put8;
 use lent::put16;
 use lent::put32;
 use state::cell::put_cell;
 use state::sym::StackSym;
+ghost use mathlib.Core.Path.{_≡_};
 ghost use Prim.Native.Nat.{_+_, _*_, _≤_, _<_, _^_};
 ghost use lib.ListN.{length};
 ghost use Rattle.lent.specs.Bytes.{Stored};
-ghost use Rattle.layout.specs.Seens.{SEEN, seenPlace, T-FROM};
+ghost use Rattle.layout.specs.Seens.{SEEN, seenPlace, T-FROM, stampAt};
 ghost use Rattle.state.specs.Symbols.{symOf};
 ghost use Rattle.tables.specs.Rows.{placeBytes, SeenPut, Tellable, RowPut, Pushes, Pushed};
+
+// The sum and the mark that are stored with row i.
+pub fn stamp_at(t: &[u8], i: usize) -> usize
+    requires { ⌜ seenPlace i + SEEN ≤ length (now t) ⌝ }
+    ensures { λ r. ⌜ r ≡ stampAt (now (t .entry)) i ⌝ }
+{
+    get32(t, SEEN * i + SUM) * 256 + get8(t, SEEN * i + MARK)
+}
 
 // Stores a last block and its symbol.
 fn put_seen(t: &mut [u8], at: usize, last: usize, symbol: StackSym)
@@ -48,7 +60,8 @@ fn put_met(t: &mut [u8], i: usize, x: Seen, sum: usize, link: usize)
 {
     let symbol = x.symbol;
     put_seen(t, SEEN * i, x.last, symbol);
-    put_place(t, SEEN * i, x.from, x.cells, sum, link);
+    put8(t, SEEN * i + MARK, sum % 256);
+    put_place(t, SEEN * i, x.from, x.cells, sum / 256, link);
 }
 
 // Stores row m and puts it at the head of its bucket.

@@ -29,7 +29,7 @@ const fn case(family: &'static str, size: usize) -> Case {
     Case { family, size }
 }
 
-pub const CASES: [Case; 10] = [
+pub const CASES: [Case; 12] = [
     case("diamonds", 8),
     case("diamonds", 12),
     case("diamonds", 15),
@@ -40,6 +40,8 @@ pub const CASES: [Case; 10] = [
     case("doubling", 14),
     case("doubling", 20),
     case("row of calls", 3_000),
+    case("sharing", 8),
+    case("sharing", 12),
 ];
 
 impl Case {
@@ -48,6 +50,7 @@ impl Case {
             "diamonds" => worst::diamonds(self.size),
             "fan" => worst::fan(self.size),
             "doubling" => worst::doubling(self.size),
+            "sharing" => worst::sharing(self.size),
             _ => worst::row(self.size),
         }
     }

@@ -6,6 +6,7 @@ pub mod corners;
 pub mod exhaustive;
 pub mod random;
 pub mod solidity;
+pub mod sum;
 pub mod worst;
 pub mod woven;
 

@@ -31,8 +31,6 @@ forget-spec =
     Inv-loop
     μ-loop
     loop-holds
-    (λ c. search needs)
-    (λ c. search needs)
     (λ c κs. search needs)
     bucket-of-requires
     (λ c. search needs)

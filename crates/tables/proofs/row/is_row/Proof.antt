@@ -26,8 +26,6 @@ pub is-row-spec : {M : Type 1} → statement M
 is-row-spec =
     tie.close
     (tie.spec
-    (λ c. search needs)
-    (λ c. search needs)
     (λ c κs. search needs)
     returns
     (λ c. search needs)

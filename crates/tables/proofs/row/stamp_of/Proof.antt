@@ -1,4 +1,4 @@
--- `stamp_of`: last block, symbol, then the state's symbols. Assumes nothing.
+-- `stamp_of`: last block, symbol, then the state's symbols, in both sums. Assumes nothing.
 use borrow.Author.Needs.{needs}
 use Rattle.tables.proofs.Seeks.{stamped}
 use Rattle.tables.proofs.row.stamp_of.Statement.{statement}
@@ -9,4 +9,17 @@ returns c = search stamped
 
 pub stamp-of-spec : {M : Type 1} → statement M
 stamp-of-spec =
-    tie.close (tie.spec (λ c κs. search needs) (λ c κs. search needs) (λ c κs. search needs) (λ c κs. search needs) returns)
+    tie.close
+    (tie.spec
+    (λ c κs. search needs)
+    (λ c κs. search needs)
+    (λ c κs. search needs)
+    (λ c κs. search needs)
+    (λ c κs. search needs)
+    (λ c κs. search needs)
+    (λ c κs. search needs)
+    (λ c κs. search needs)
+    (λ c. search needs)
+    (λ c κs. search needs)
+    (λ c. search needs)
+    returns)
