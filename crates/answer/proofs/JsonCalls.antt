@@ -1,10 +1,11 @@
--- Demand 3 for any two calls with a text buffer, which counts among the lent ones: what they give is the documents' answers, and of these it is proved.
+-- Demand 3 for any two calls in one mode with a text buffer, which counts among the lent ones: what they give is the documents' answers, and of these it is proved.
 -- Assumes nothing.
 use mathlib.Core.Path.{_≡_, refl, ap, _∙_}
 use mathlib.Core.Logic.{_⊎_}
 use Prim.Native.Nat.{ℕ, _≤_, _<_}
 use mathlib.Core.List.{List, _++_}
 use lib.ListN.{length, drop}
+use Rattle.spec.specs.Opcodes.{in-mode}
 use Rattle.spec.specs.Search.{Rec}
 use Rattle.spec.specs.Entries.{Map, bytes}
 use Rattle.spec.specs.Json as json
@@ -18,16 +19,16 @@ use Rattle.answer.specs.Contracts.{lentOf, MappedBoth}
 use Rattle.answer.specs.declared.both.Both.{Both}
 
 -- a call that gave a map: its bytes and its text are counted, and stand in output and text buffer before what was there
-pub record GaveBoth (limit : ℕ) (code : List ℕ) (m : Mem) (out text out′ text′ : List ℕ) (a : Both) (x : Map) : Type 0 where
-  pub is : json-answer (lentOf m out) (length text) limit code ≡ answered x
+pub record GaveBoth (limit mode : ℕ) (code : List ℕ) (m : Mem) (out text out′ text′ : List ℕ) (a : Both) (x : Map) : Type 0 where
+  pub is : json-answer (in-mode mode) (lentOf m out) (length text) limit code ≡ answered x
   pub number : a .number ≡ 0
   pub count : a .written ≡ length (bytes x)
   pub shows : a .texted ≡ length (json.text x)
   pub out-is : out′ ≡ bytes x ++ drop (length (bytes x)) out
   pub text-is : text′ ≡ json.text x ++ drop (length (json.text x)) text
 
-module _ {limit : ℕ} {code : List ℕ} {m m′ : Mem} {out text out′ text′ : List ℕ} {a : Both} (c : MappedBoth limit code m out text m′ out′ text′ a) where
-  pub gave-both : (x : Map) → json-answer (lentOf m out) (length text) limit code ≡ answered x → GaveBoth limit code m out text out′ text′ a x
+module _ {limit mode : ℕ} {code : List ℕ} {m m′ : Mem} {out text out′ text′ : List ℕ} {a : Both} (c : MappedBoth limit mode code m out text m′ out′ text′ a) where
+  pub gave-both : (x : Map) → json-answer (in-mode mode) (lentOf m out) (length text) limit code ≡ answered x → GaveBoth limit mode code m out text out′ text′ a x
   gave-both x e = record {
     is = e;
     number = c .tells .number ∙ ap numberOf e;
@@ -38,21 +39,21 @@ module _ {limit : ℕ} {code : List ℕ} {m m′ : Mem} {out text out′ text′
   }
 
   -- bytes were written, so there is a map
-  pub wrote-both : (a .written ≡ 0 → ⊥) → (x : Map) × GaveBoth limit code m out text out′ text′ a x
-  wrote-both n = by (json-answer (lentOf m out) (length text) limit code) refl
+  pub wrote-both : (a .written ≡ 0 → ⊥) → (x : Map) × GaveBoth limit mode code m out text out′ text′ a x
+  wrote-both n = by (json-answer (in-mode mode) (lentOf m out) (length text) limit code) refl
     where
-      by : (y : spec.Answer) → json-answer (lentOf m out) (length text) limit code ≡ y → (x : Map) × GaveBoth limit code m out text out′ text′ a x
+      by : (y : spec.Answer) → json-answer (in-mode mode) (lentOf m out) (length text) limit code ≡ y → (x : Map) × GaveBoth limit mode code m out text out′ text′ a x
       by (refused k) e = absurd (n (c .tells .count ∙ ap (λ (y : spec.Answer). length (written y)) e))
       by (answered x) e = (x, gave-both x e)
 
-module _ {low high : ℕ} (rises : low ≤ high) {code : List ℕ} {m m′ k k′ : Mem} {out text out′ text′ to note to′ note′ : List ℕ} {a b : Both}
-    (c : MappedBoth low code m out text m′ out′ text′ a) (d : MappedBoth high code k to note k′ to′ note′ b) where
+module _ {low high mode : ℕ} (rises : low ≤ high) {code : List ℕ} {m m′ k k′ : Mem} {out text out′ text′ to note to′ note′ : List ℕ} {a b : Both}
+    (c : MappedBoth low mode code m out text m′ out′ text′ a) (d : MappedBoth high mode code k to note k′ to′ note′ b) where
   -- "the first run's record of found jumps is a beginning of the second's", whatever the rooms
-  pub both-begin : {x y : Map} → GaveBoth low code m out text out′ text′ a x → GaveBoth high code k to note to′ note′ b y → (new : List Rec) × (y .recs ≡ x .recs ++ new)
-  both-begin {x} {y} g h = json-begins (lentOf m out) (lentOf k to) (length text) (length note) low high rises code x y (g .is) (h .is)
+  pub both-begin : {x y : Map} → GaveBoth low mode code m out text out′ text′ a x → GaveBoth high mode code k to note to′ note′ b y → (new : List Rec) × (y .recs ≡ x .recs ++ new)
+  both-begin {x} {y} g h = json-begins (in-mode mode) (lentOf m out) (lentOf k to) (length text) (length note) low high rises code x y (g .is) (h .is)
 
   -- a run that was not cut short by its limit gives the same map, and so the same text, with no smaller limit and buffers
-  pub both-again : high ≤ 500000 → Lends (lentOf m out) (lentOf k to) → length text ≤ length note → {x : Map} → GaveBoth low code m out text out′ text′ a x
-      → (low ≡ high) ⊎ (x .energy < low) → GaveBoth high code k to note to′ note′ b x
+  pub both-again : high ≤ 500000 → Lends (lentOf m out) (lentOf k to) → length text ≤ length note → {x : Map} → GaveBoth low mode code m out text out′ text′ a x
+      → (low ≡ high) ⊎ (x .energy < low) → GaveBoth high mode code k to note to′ note′ b x
   both-again top h l {x} g e =
-      gave-both d x (json-again (lentOf m out) (lentOf k to) h (length text) (length note) l low high rises top code x (g .is) e)
+      gave-both d x (json-again (in-mode mode) (lentOf m out) (lentOf k to) h (length text) (length note) l low high rises top code x (g .is) e)

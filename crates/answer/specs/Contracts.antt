@@ -4,6 +4,7 @@ use Prim.Native.Nat.{ℕ, _≤_, _^_, _<_}
 use mathlib.Core.List.{List}
 use lib.Dec.{ltb}
 use lib.ListN.{length, replicate}
+use Rattle.spec.specs.Opcodes.{in-mode}
 use Rattle.spec.specs.Lists.{if}
 use Rattle.spec.specs.Rooms.{Lent, shortage, longest, work-need}
 use Rattle.spec.specs.Search.{Rec}
@@ -26,30 +27,31 @@ pub record Lends (limit : ℕ) (code w : List ℕ) : Type 0 where
   pub limited : limit ≤ 500000
   pub lent : work-need (length code) ≤ length w
 
--- "1, 2, 3 are tested in that order": the first that applies, 0 if none does
-abbrev pub earlyOf : ℕ → ℕ → ℕ → ℕ
-earlyOf n limit w = if (ltb longest n) 1 (if (ltb 500000 limit) 2 (if (ltb w (work-need n)) 3 0))
+-- "1, 2, 3 are tested in that order", "13, mode neither 0 nor 1, tested after 2": the first that applies, 0 if none does
+abbrev pub earlyOf : ℕ → ℕ → ℕ → ℕ → ℕ
+earlyOf n limit mode w = if (ltb longest n) 1 (if (ltb 500000 limit) 2 (if (ltb 1 mode) 13 (if (ltb w (work-need n)) 3 0)))
 
 -- ---- the map in the rooms
 
 -- W, R and Q hold the map that document 01 gives
-pub record Leaves (limit : ℕ) (code w r q : List ℕ) (m energy : ℕ) : Type 0 where
+pub record Leaves (limit mode : ℕ) (code w r q : List ℕ) (m energy : ℕ) : Type 0 where
   pub recs : List Rec
-  pub ends : Ends w r q (length code) m code recs
-  pub is : mapOf code recs energy ≡ mapped code (searched limit code)
+  pub ends : Ends w r q (length code) m mode code recs
+  pub is : mapOf mode code recs energy ≡ mapped (in-mode mode) code (searched (in-mode mode) limit code)
   pub short : length code ≤ longest
   pub small : energy < 2 ^ 32
 
 -- the number of the first shortage, whatever the output's length; or 0, and the map is left
-pub record Finds (limit : ℕ) (code : List ℕ) (m : Mem) (w r q : List ℕ) (d : Found) : Type 0 where
-  pub number : (out : List ℕ) → d .number ≡ shortage (lentOf m out) (searched limit code .needs)
-  pub leaves : d .number ≡ 0 → Leaves limit code w r q (d .records) (d .energy)
+pub record Finds (limit mode : ℕ) (code : List ℕ) (m : Mem) (w r q : List ℕ) (d : Found) : Type 0 where
+  pub number : (out : List ℕ) → d .number ≡ shortage (lentOf m out) (searched (in-mode mode) limit code .needs)
+  pub leaves : d .number ≡ 0 → Leaves limit mode code w r q (d .records) (d .energy)
 
 -- ---- the entry
 
--- the answer that is left once 1, 2 and 3 are tested
-abbrev pub rest : Lent → ℕ → List ℕ → spec.Answer
-rest l limit code = within-rooms (within-out l (mapped code (searched limit code))) (shortage l (searched limit code .needs))
+-- the answer that is left once 1, 2, 13 and 3 are tested
+abbrev pub rest : Lent → ℕ → ℕ → List ℕ → spec.Answer
+rest l limit mode code =
+    within-rooms (within-out l (mapped (in-mode mode) code (searched (in-mode mode) limit code))) (shortage l (searched (in-mode mode) limit code .needs))
 
 -- the number and the count are the answer's, and the output holds its bytes and then its own old ones
 pub record Tells (x : spec.Answer) (out out′ : List ℕ) (a : Answer) : Type 0 where
@@ -57,8 +59,8 @@ pub record Tells (x : spec.Answer) (out out′ : List ℕ) (a : Answer) : Type 0
   pub count : a .written ≡ length (written x)
   pub out-is : out′ ≡ output-after x out
 
-abbrev pub Ran : ℕ → List ℕ → Mem → List ℕ → List ℕ → Answer → Type 0
-Ran limit code m out out′ a = Tells (rest (lentOf m out) limit code) out out′ a
+abbrev pub Ran : ℕ → ℕ → List ℕ → Mem → List ℕ → List ℕ → Answer → Type 0
+Ran limit mode code m out out′ a = Tells (rest (lentOf m out) limit mode code) out out′ a
 
 -- every byte of the rooms is 0
 pub record Wiped (m m′ : Mem) : Type 0 where
@@ -70,14 +72,14 @@ pub record Wiped (m m′ : Mem) : Type 0 where
   pub q : m′ .q ≡ replicate (length (m .q)) 0
 
 -- all that document 01 says of a call
-pub record Mapped (limit : ℕ) (code : List ℕ) (m : Mem) (out : List ℕ) (m′ : Mem) (out′ : List ℕ) (a : Answer) : Type 0 where
-  pub tells : Tells (answer (lentOf m out) limit code) out out′ a
-  pub w : m′ .w ≡ room-after (answer (lentOf m out) limit code) (m .w)
-  pub p : m′ .p ≡ room-after (answer (lentOf m out) limit code) (m .p)
-  pub s : m′ .s ≡ room-after (answer (lentOf m out) limit code) (m .s)
-  pub t : m′ .t ≡ room-after (answer (lentOf m out) limit code) (m .t)
-  pub r : m′ .r ≡ room-after (answer (lentOf m out) limit code) (m .r)
-  pub q : m′ .q ≡ room-after (answer (lentOf m out) limit code) (m .q)
+pub record Mapped (limit mode : ℕ) (code : List ℕ) (m : Mem) (out : List ℕ) (m′ : Mem) (out′ : List ℕ) (a : Answer) : Type 0 where
+  pub tells : Tells (answer (in-mode mode) (lentOf m out) limit code) out out′ a
+  pub w : m′ .w ≡ room-after (answer (in-mode mode) (lentOf m out) limit code) (m .w)
+  pub p : m′ .p ≡ room-after (answer (in-mode mode) (lentOf m out) limit code) (m .p)
+  pub s : m′ .s ≡ room-after (answer (in-mode mode) (lentOf m out) limit code) (m .s)
+  pub t : m′ .t ≡ room-after (answer (in-mode mode) (lentOf m out) limit code) (m .t)
+  pub r : m′ .r ≡ room-after (answer (in-mode mode) (lentOf m out) limit code) (m .r)
+  pub q : m′ .q ≡ room-after (answer (in-mode mode) (lentOf m out) limit code) (m .q)
 
 -- ---- with the text
 
@@ -91,18 +93,18 @@ pub record TellsBoth (x : spec.Answer) (out out′ text text′ : List ℕ) (a :
 
 -- 9 and 11 tested, and the rest written, for the map that W, R and Q hold
 pub record PutBoth (w r q : List ℕ) (n m energy : ℕ) (out out′ text text′ : List ℕ) (a : Both) : Type 0 where
-  pub answer : (code : List ℕ) (recs : List Rec) → Ends w r q n m code recs → (l : Lent) → length out ≡ l .out
-      → TellsBoth (within-text (length text) (within-out l (mapOf code recs energy))) out out′ text text′ a
+  pub answer : (mode : ℕ) (code : List ℕ) (recs : List Rec) → Ends w r q n m mode code recs → (l : Lent) → length out ≡ l .out
+      → TellsBoth (within-text (length text) (within-out l (mapOf mode code recs energy))) out out′ text text′ a
 
-abbrev pub RanBoth : ℕ → List ℕ → Mem → List ℕ → List ℕ → List ℕ → List ℕ → Both → Type 0
-RanBoth limit code m out out′ text text′ a = TellsBoth (within-text (length text) (rest (lentOf m out) limit code)) out out′ text text′ a
+abbrev pub RanBoth : ℕ → ℕ → List ℕ → Mem → List ℕ → List ℕ → List ℕ → List ℕ → Both → Type 0
+RanBoth limit mode code m out out′ text text′ a = TellsBoth (within-text (length text) (rest (lentOf m out) limit mode code)) out out′ text text′ a
 
 -- all that documents 01 and 02 say of a call with a text buffer
-pub record MappedBoth (limit : ℕ) (code : List ℕ) (m : Mem) (out text : List ℕ) (m′ : Mem) (out′ text′ : List ℕ) (a : Both) : Type 0 where
-  pub tells : TellsBoth (json-answer (lentOf m out) (length text) limit code) out out′ text text′ a
-  pub w : m′ .w ≡ room-after (json-answer (lentOf m out) (length text) limit code) (m .w)
-  pub p : m′ .p ≡ room-after (json-answer (lentOf m out) (length text) limit code) (m .p)
-  pub s : m′ .s ≡ room-after (json-answer (lentOf m out) (length text) limit code) (m .s)
-  pub t : m′ .t ≡ room-after (json-answer (lentOf m out) (length text) limit code) (m .t)
-  pub r : m′ .r ≡ room-after (json-answer (lentOf m out) (length text) limit code) (m .r)
-  pub q : m′ .q ≡ room-after (json-answer (lentOf m out) (length text) limit code) (m .q)
+pub record MappedBoth (limit mode : ℕ) (code : List ℕ) (m : Mem) (out text : List ℕ) (m′ : Mem) (out′ text′ : List ℕ) (a : Both) : Type 0 where
+  pub tells : TellsBoth (json-answer (in-mode mode) (lentOf m out) (length text) limit code) out out′ text text′ a
+  pub w : m′ .w ≡ room-after (json-answer (in-mode mode) (lentOf m out) (length text) limit code) (m .w)
+  pub p : m′ .p ≡ room-after (json-answer (in-mode mode) (lentOf m out) (length text) limit code) (m .p)
+  pub s : m′ .s ≡ room-after (json-answer (in-mode mode) (lentOf m out) (length text) limit code) (m .s)
+  pub t : m′ .t ≡ room-after (json-answer (in-mode mode) (lentOf m out) (length text) limit code) (m .t)
+  pub r : m′ .r ≡ room-after (json-answer (in-mode mode) (lentOf m out) (length text) limit code) (m .r)
+  pub q : m′ .q ≡ room-after (json-answer (in-mode mode) (lentOf m out) (length text) limit code) (m .q)

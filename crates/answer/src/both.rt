@@ -1,5 +1,6 @@
 // The answer, and the JSON text of its blocks beside it.
 use crate::early::early;
+use crate::early::mode_of;
 use crate::find::find;
 use crate::map::wipe_rooms;
 use entries::entries_size;
@@ -7,8 +8,10 @@ use entries::write_entries;
 use json::text_size;
 use json::write_text;
 use lent::units;
+use state::mode::Mode;
 ghost use mathlib.Core.Path.{_≡_};
 ghost use Rattle.layout.specs.Buffers.{buffers};
+ghost use Rattle.state.specs.Modes.{modeOf};
 ghost use Rattle.entries.specs.Contracts.{Writes};
 ghost use Rattle.answer.specs.Contracts.{Lends, PutBoth, RanBoth, MappedBoth};
 
@@ -55,6 +58,7 @@ fn put_both(
 // The map of a code that is taken, with no room wiped yet.
 fn run_both(
     limit: usize,
+    mode: Mode,
     code: &[u8],
     w: &mut [u8],
     p: &mut [u8],
@@ -66,10 +70,10 @@ fn run_both(
     text: &mut [u8],
 ) -> Both
     requires { ⌜ Lends limit (now code) (now w) ⌝ }
-    ensures { λ a. ⌜ RanBoth limit (now (code .entry)) (buffers (now (w .entry)) (now (p .entry)) (now (s .entry)) (now (t .entry)) (now (r .entry)) (now (q .entry)))
+    ensures { λ a. ⌜ RanBoth limit (modeOf mode) (now (code .entry)) (buffers (now (w .entry)) (now (p .entry)) (now (s .entry)) (now (t .entry)) (now (r .entry)) (now (q .entry)))
         (now (out .entry)) (now (out .exit)) (now (text .entry)) (now (text .exit)) a ⌝ }
 {
-    let d = find(limit, code, w, p, s, t, r, q);
+    let d = find(limit, mode, code, w, p, s, t, r, q);
     if d.number != 0 {
         return refused_both(d.number);
     }
@@ -79,6 +83,7 @@ fn run_both(
 // "A call that does what the entry does and also fills a text buffer": as `map_code`, with an eighth lent buffer.
 pub fn map_json(
     limit: usize,
+    mode: usize,
     code: &[u8],
     w: &mut [u8],
     p: &mut [u8],
@@ -89,15 +94,15 @@ pub fn map_json(
     out: &mut [u8],
     text: &mut [u8],
 ) -> Both
-    ensures { λ a. ⌜ MappedBoth limit (now (code .entry)) (buffers (now (w .entry)) (now (p .entry)) (now (s .entry)) (now (t .entry)) (now (r .entry)) (now (q .entry)))
+    ensures { λ a. ⌜ MappedBoth limit mode (now (code .entry)) (buffers (now (w .entry)) (now (p .entry)) (now (s .entry)) (now (t .entry)) (now (r .entry)) (now (q .entry)))
         (now (out .entry)) (now (text .entry)) (buffers (now (w .exit)) (now (p .exit)) (now (s .exit)) (now (t .exit)) (now (r .exit)) (now (q .exit)))
         (now (out .exit)) (now (text .exit)) a ⌝ }
 {
-    let number = early(code.len(), limit, w.len());
+    let number = early(code.len(), limit, mode, w.len());
     if number != 0 {
         return refused_both(number);
     }
-    let a = run_both(limit, code, w, p, s, t, r, q, out, text);
+    let a = run_both(limit, mode_of(mode), code, w, p, s, t, r, q, out, text);
     wipe_rooms(w, p, s, t, r, q);
     a
 }

@@ -18,10 +18,10 @@ one-answered {bs} {out} {u} {v} {a} {e} p q = go (decLt (units (length out) 1) (
 
 pub one-written : {w r q out u v : List ℕ} {n m energy a e : ℕ} → Writes w r q n m energy → Written w r q n m energy out u a → Written w r q n m energy out v e
     → (a ≡ e) × (u ≡ v)
-one-written h f g = one-answered (f .answer (h .code) (h .recs) (h .ends)) (g .answer (h .code) (h .recs) (h .ends))
+one-written h f g = one-answered (f .answer (h .mode) (h .code) (h .recs) (h .ends)) (g .answer (h .mode) (h .code) (h .recs) (h .ends))
 
 pub one-size : {w r q : List ℕ} {n m energy j k : ℕ} → Writes w r q n m energy → Sized w r q n m energy j → Sized w r q n m energy k → j ≡ k
-one-size h s t = s .is (h .code) (h .recs) (h .ends) ∙ sym (t .is (h .code) (h .recs) (h .ends))
+one-size h s t = s .is (h .mode) (h .code) (h .recs) (h .ends) ∙ sym (t .is (h .mode) (h .code) (h .recs) (h .ends))
 
 pub one-begin : {r : List ℕ} {i d e : ℕ} → Ended r i d → Ended r i e → d ≡ e
 one-begin p q = p .is ∙ sym (q .is)

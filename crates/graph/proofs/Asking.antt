@@ -22,7 +22,7 @@ use Rattle.graph.proofs.Sides.{block-sides}
 
 -- ---- the records, one by one
 
-module _ {code s : List ℕ} {room n m : ℕ} {w r q : List ℕ} (f : Fits code s room n m w r q) (i : ℕ) (h : i < m) where
+module _ {mode : ℕ} {code s : List ℕ} {room n m : ℕ} {w r q : List ℕ} (f : Fits mode code s room n m w r q) (i : ℕ) (h : i < m) where
   lies : Lies n (recAt r q s room i)
   lies = f .lie (recAt r q s room i) (rec-in r q s room m i h)
 
@@ -58,7 +58,7 @@ rewrites-asked g t = record {
   };
 }
 
-module _ {code s : List ℕ} {room n m : ℕ} {w r q w₁ r₁ : List ℕ} (f : Fits code s room n m w r q) (t : Settled n m w r w₁) (e : Rewrote m w₁ r q r₁) where
+module _ {mode : ℕ} {code s : List ℕ} {room n m : ℕ} {w r q w₁ r₁ : List ℕ} (f : Fits mode code s room n m w r q) (t : Settled n m w r w₁) (e : Rewrote m w₁ r q r₁) where
   pub row-of : (i : ℕ) → i < m → RowOf w₁ r₁ i (recAt r q s room i)
   unfolding recAt
   row-of i h = record {

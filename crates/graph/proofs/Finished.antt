@@ -4,6 +4,7 @@ use mathlib.Core.List.{List, map}
 use Prim.Native.Nat.{ℕ, zero, suc, _+_, _≤_, _<_}
 use native.Mathlib.Omega.{arith}
 use lib.ListN.{length, take, drop}
+use Rattle.spec.specs.Opcodes.{in-mode}
 use Rattle.spec.specs.Blocks.{blocks}
 use Rattle.spec.specs.Stacks.{Stack}
 use Rattle.spec.specs.Search.{Rec, found}
@@ -33,16 +34,16 @@ use Rattle.graph.proofs.Recs.{rec-in, in-rec, rec-at, rec-destination}
 use Rattle.graph.proofs.Edges.{RowOf, same-edges}
 use Rattle.graph.proofs.Asking.{start-lies, rec-last, row-of}
 
-module _ {code s : List ℕ} {room m : ℕ} {w r q w₁ r₁ w₂ r₂ : List ℕ} (f : Fits code s room (length code) m w r q) (t : Settled (length code) m w r w₁)
+module _ {mode : ℕ} {code s : List ℕ} {room m : ℕ} {w r q w₁ r₁ w₂ r₂ : List ℕ} (f : Fits mode code s room (length code) m w r q) (t : Settled (length code) m w r w₁)
     (e : Rewrote m w₁ r q r₁) (p : Pruned (length code) m w₁ r₁ w₂ r₂) where
   all : List Rec
   all = recsOf r q s room m
 
-  merged-blocks : blocksAt w₁ (length code) ≡ map (λ (x : Final). x .block) (finals (prepared code) all)
+  merged-blocks : blocksAt w₁ (length code) ≡ map (λ (x : Final). x .block) (finals (prepared (in-mode mode) code) all)
   unfolding all
   merged-blocks =
       t .blocks ∙ ap (map (mergedBlock (length code) (λ (a : ℕ). noteOf r a m))) (f .blocks)
-      ∙ sym (finals-blocks (length code) (f .lent .short) (recsOf r q s room m) (λ (a : ℕ). noteOf r a m) (λ a. note-of r q s room a m) (λ x u i. f .lie x i .to u) (prepared code))
+      ∙ sym (finals-blocks (length code) (f .lent .short) (recsOf r q s room m) (λ (a : ℕ). noteOf r a m) (λ a. note-of r q s room a m) (λ x u i. f .lie x i .to u) (prepared (in-mode mode) code))
 
   -- a field before the links, and the end of a path after them
   front : (i : ℕ) → i < m → (o : ℕ) → o ≤ E-OWN → numAt 2 r₂ (recordPlace i + o) ≡ numAt 2 r₁ (recordPlace i + o)
@@ -78,7 +79,7 @@ module _ {code s : List ℕ} {room m : ℕ} {w r q w₁ r₁ w₂ r₂ : List �
   unfolding all
   recs-found x j = let g = in-rec r q s room m j in (g .0, g .1, subst (RowOf w₁ r₁ (g .0)) (sym (g .2)) (row-of f t e (g .0) (g .1)))
 
-  finish : Finished code (recsOf r q s room m) w₂ r₂ q
+  finish : Finished mode code (recsOf r q s room m) w₂ r₂ q
   unfolding all
   finish =
       let long : length (recsOf r q s room m) ≡ m = recs-length r q s room m in
@@ -86,8 +87,8 @@ module _ {code s : List ℕ} {room m : ℕ} {w r q w₁ r₁ w₂ r₂ : List �
         blocks = blocks-prefix w₂ w₁ (length code) (p .rows) ∙ merged-blocks;
         rows = λ i h x rest d. subst (EdgeOf (length code) w₂ r₂ q i) (sym (rec-at r q s room m i (rw long at h) d)) (edge-of i (rw long at h));
         kept = λ a h. p .reached a
-            ∙ pruning-edges w₁ r₁ (length code) m (finals (prepared code) all) merged-blocks
-            (same-edges w₁ r₁ (length code) m (prepared code) all (f .lent .short) merged-blocks (λ x i. (f .lie x i .start, f .lie x i .to)) rows-found recs-found) a;
+            ∙ pruning-edges w₁ r₁ (length code) m (finals (prepared (in-mode mode) code) all) merged-blocks
+            (same-edges w₁ r₁ (length code) m (prepared (in-mode mode) code) all (f .lent .short) merged-blocks (λ x i. (f .lie x i .start, f .lie x i .to)) rows-found recs-found) a;
         places = rw long (chains-kept r₂ w₂ r₂ (p .places) (λ i h. front i h 0 (omega arith)) (λ x h. refl) (λ i h. refl));
         lent = record { short = f .lent .short; room = omega (arith, f .lent .room, t .long, p .long) };
         few = rw long (omega (arith, f .few));
@@ -123,8 +124,8 @@ module _ {n m : ℕ} {w r q w₁ r₁ w₂ r₂ : List ℕ} (a : Graphs n m w r 
 
 pub graphed : {n m : ℕ} {w r q w₁ r₁ w₂ r₂ : List ℕ} → Graphs n m w r q → Settled n m w r w₁ → Rewrote m w₁ r q r₁ → Pruned n m w₁ r₁ w₂ r₂ → Graphed n m w r q w₂ r₂
 graphed {n} {m} {w} {r} {q} {w₁} {r₁} {w₂} {r₂} a t e p = record {
-  finished = λ code s room f.
-      subst (λ (k : ℕ). Fits code s room k m w r q → Settled k m w r w₁ → Pruned k m w₁ r₁ w₂ r₂ → Finished code (recsOf r q s room m) w₂ r₂ q) (f .size)
+  finished = λ mode code s room f.
+      subst (λ (k : ℕ). Fits mode code s room k m w r q → Settled k m w r w₁ → Pruned k m w₁ r₁ w₂ r₂ → Finished mode code (recsOf r q s room m) w₂ r₂ q) (f .size)
       (λ g u v. finish g u e v) f t p;
   rows = merged-row a t e p;
   fresh = p .fresh;

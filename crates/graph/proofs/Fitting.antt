@@ -6,12 +6,14 @@ use native.Mathlib.Omega.{arith}
 use lib.Dec.{eqb}
 use lib.ListN.{length}
 use borrow.Author.Tests.{eq-eqb}
+use Rattle.spec.specs.Opcodes.{in-mode}
 use Rattle.spec.specs.Search.{Node, Rec, dest, search}
 use Rattle.spec.specs.Answer.{prepared}
 use Rattle.spec.specs.Entries.{absent}
 use Rattle.laws.proofs.Branch.{if-true}
 use Rattle.laws.proofs.Members.{In}
 use Rattle.layout.specs.Records.{toAt}
+use Rattle.theorems.proofs.Counts.{lawful}
 use Rattle.theorems.proofs.Passing.{record-passes}
 use Rattle.initial.specs.Rows.{blocksAt}
 use Rattle.tables.specs.Records.{recAt}
@@ -31,10 +33,10 @@ goes-within n room r q s i (leads-nowhere e k) t j =
     elim (subst (In t) (dest-at r q s room i ∙ if-true (eqb (toAt r i) absent) [] (toAt r i ∷ []) (eq-eqb (toAt r i) absent e)) j) [ ]
 goes-within n room r q s i (leads h k) t j = omega (arith, dest-is (recAt r q s room i .to) j, rec-destination r q s room i)
 
-pub search-fits : (limit : ℕ) (code : List ℕ) {n buckets : ℕ} {k : Rooms} {c : Counts} {w r q s : List ℕ} → Tables n buckets k (mem w r q s) c → length code ≡ n
-    → blocksAt w n ≡ map (λ (x : Node). x .block) (prepared code) → Room n w → recs k (mem w r q s) c ≡ search limit (prepared code) .recs
-    → Fits code s (k .s) n (c .records) w r q
-search-fits limit code {n} {k} {c} {r} {q} {s} t z b l e = record {
+pub search-fits : (mode limit : ℕ) (code : List ℕ) {n buckets : ℕ} {k : Rooms} {c : Counts} {w r q s : List ℕ} → Tables n buckets k (mem w r q s) c → length code ≡ n
+    → blocksAt w n ≡ map (λ (x : Node). x .block) (prepared (in-mode mode) code) → Room n w → recs k (mem w r q s) c ≡ search limit (prepared (in-mode mode) code) .recs
+    → Fits mode code s (k .s) n (c .records) w r q
+search-fits mode limit code {n} {k} {c} {r} {q} {s} t z b l e = record {
   size = z;
   blocks = b;
   lent = l;
@@ -42,7 +44,7 @@ search-fits limit code {n} {k} {c} {r} {q} {s} t z b l e = record {
   rows = t .rows;
   lie = λ x i.
       let g = in-rec r q s (k .s) (c .records) i in
-      let p = record-passes limit code x (subst (In x) e i) in
+      let p = record-passes (in-mode mode) lawful limit code x (subst (In x) e i) in
       record {
         start = omega (arith, p .start, z);
         to = λ u j. goes-within n (k .s) r q s (g .0) (t .goes (g .0) (g .1)) u (subst (λ (y : Rec). In u (dest (y .to))) (g .2) j);

@@ -32,8 +32,8 @@ module _ {n m : ℕ} {w r q v s u t : List ℕ} (a : Graphs n m w r q) (p : Grap
   reached : (x : ℕ) → x ≤ n → mem x (flagged v n) ≡ mem x (flagged u n)
   reached x h =
       let l : x ≤ length (a .code) = omega (arith, a .fits .size) in
-      let one = p .finished (a .code) (a .states) (a .room) (a .fits) .kept x l in
-      let two = f .finished (a .code) (a .states) (a .room) (a .fits) .kept x l in
+      let one = p .finished (a .mode) (a .code) (a .states) (a .room) (a .fits) .kept x l in
+      let two = f .finished (a .mode) (a .code) (a .states) (a .room) (a .fits) .kept x l in
       rw (a .fits .size) at (one ∙ sym two)
 
   marked : (x : ℕ) → x ≤ n → _≡_ {A = ℕ} (if (mem x (flagged v n)) 1 0) (if (mem x (flagged u n)) 1 0)

@@ -3,6 +3,7 @@ use mathlib.Core.Path.{_≡_}
 use mathlib.Core.List.{List, [], _∷_, map}
 use Prim.Native.Nat.{ℕ, suc, _+_, _-_, _*_, _^_, _≤_, _<_}
 use lib.ListN.{length, drop}
+use Rattle.spec.specs.Opcodes.{in-mode}
 use Rattle.spec.specs.Lists.{mem, lastOf}
 use Rattle.spec.specs.Reach.{closure}
 use Rattle.spec.specs.Stacks.{Stack}
@@ -32,10 +33,10 @@ pub record EdgeOf (n : ℕ) (w r q : List ℕ) (i : ℕ) (x : Rec) : Type 0 wher
   pub lands : (t : ℕ) (s : Stack) → x .to ≡ found t s → t ≤ n
 
 -- what `graph` leaves: the finals of document 01, and its records
-pub record Finished (code : List ℕ) (recs : List Rec) (w r q : List ℕ) : Type 0 where
-  pub blocks : blocksAt w (length code) ≡ map (λ (f : Final). f .block) (finals (prepared code) recs)
+pub record Finished (mode : ℕ) (code : List ℕ) (recs : List Rec) (w r q : List ℕ) : Type 0 where
+  pub blocks : blocksAt w (length code) ≡ map (λ (f : Final). f .block) (finals (prepared (in-mode mode) code) recs)
   pub rows : (i : ℕ) → i < length recs → (x : Rec) (rest : List Rec) → drop i recs ≡ x ∷ rest → EdgeOf (length code) w r q i x
-  pub kept : (a : ℕ) → a ≤ length code → mem a (flagged w (length code)) ≡ mem a (closure (final-edges (finals (prepared code) recs)) (0 ∷ []))
+  pub kept : (a : ℕ) → a ≤ length code → mem a (flagged w (length code)) ≡ mem a (closure (final-edges (finals (prepared (in-mode mode) code) recs)) (0 ∷ []))
   pub places : Chains (length code) (length recs) 0 r w r 0
   pub lent : Room (length code) w
   pub few : length recs ≤ 2 ^ 30

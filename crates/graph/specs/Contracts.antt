@@ -3,6 +3,7 @@ use mathlib.Core.Path.{_≡_}
 use mathlib.Core.List.{List, map}
 use Prim.Native.Nat.{ℕ, _+_, _-_, _*_, _^_, _≤_, _<_}
 use lib.ListN.{length, take, drop, replicate}
+use Rattle.spec.specs.Opcodes.{in-mode}
 use Rattle.spec.specs.Search.{Node, Rec, dest}
 use Rattle.spec.specs.Answer.{prepared}
 use Rattle.laws.specs.Lists.{In}
@@ -123,25 +124,26 @@ pub record Lies (n : ℕ) (x : Rec) : Type 0 where
   pub some : 0 < length (x .path)
   pub path : (a : ℕ) → In a (x .path) → a ≤ n
 
--- the blocks of the code stand in W, and the m records in R and Q
-pub record Fits (code s : List ℕ) (room n m : ℕ) (w r q : List ℕ) : Type 0 where
+-- the blocks of the code, prepared in a mode, stand in W, and the m records in R and Q
+pub record Fits (mode : ℕ) (code s : List ℕ) (room n m : ℕ) (w r q : List ℕ) : Type 0 where
   pub size : length code ≡ n
-  pub blocks : blocksAt w n ≡ map (λ (x : Node). x .block) (prepared code)
+  pub blocks : blocksAt w n ≡ map (λ (x : Node). x .block) (prepared (in-mode mode) code)
   pub lent : Room n w
   pub few : m ≤ 2 ^ 30
   pub rows : (i : ℕ) → i < m → Row r q i
   pub lie : (x : Rec) → In x (recsOf r q s room m) → Lies n x
 
--- so for some code, and states in some S that are not asked for
+-- so for some code and mode, and states in some S that are not asked for
 pub record Graphs (n m : ℕ) (w r q : List ℕ) : Type 0 where
+  pub mode : ℕ
   pub code : List ℕ
   pub states : List ℕ
   pub room : ℕ
-  pub fits : Fits code states room n m w r q
+  pub fits : Fits mode code states room n m w r q
 
 -- and for each such, all is finished. Of W the worklist is scratch; all else, and every byte of R, is said.
 pub record Graphed (n m : ℕ) (w r q w′ r′ : List ℕ) : Type 0 where
-  pub finished : (code s : List ℕ) (room : ℕ) → Fits code s room n m w r q → Finished code (recsOf r q s room m) w′ r′ q
+  pub finished : (mode : ℕ) (code s : List ℕ) (room : ℕ) → Fits mode code s room n m w r q → Finished mode code (recsOf r q s room m) w′ r′ q
   pub rows : (a : ℕ) → a ≤ n → take ROW (drop (rowPlace a) w′) ≡ mergedRow n (noteOf r a m) w a
   pub fresh : Fresh n w′
   pub edges : (i : ℕ) → i < m → EdgeFrom w′ r q i r′

@@ -17,13 +17,13 @@ use Rattle.initial.specs.declared.turn.Cut.the-variants.{Ends, Unknown, 
 -- ---- the others, which no key of the decision fits
 
 module _ (x : ℕ) (rest : (((Unit {0} × (x ≡ 0x5B → ⊥)) × (x ≡ 0x57 → ⊥)) × (x ≡ 0x56 → ⊥)) × ((x ≡ 0x00) ⊎ ((x ≡ 0xF3) ⊎ (x ≡ 0xFF)) → ⊥)) where
-  pub cut-fails : 0xFD ≤ x → x < 256 → Ends false ≡ cutOf (cut x)
+  pub cut-fails : 0xFD ≤ x → x < 256 → Ends false ≡ cutOf (cut row x)
   unfolding if
   cut-fails h g =
       let n : x ≡ 0xFF → ⊥ = λ e. rest .1 (inr (inr e)) in
       ⊎-elim (λ (e : x ≡ 0xFE). rw e) (λ (k : x < 0xFE). let e : x ≡ 0xFD = omega arith in rw e) (eq-or-lt-of-le (omega arith))
 
-  cut-rest : x < 0xFD → cut x ≡ if (row x .known) spec.OTHER spec.UNKNOWN
+  cut-rest : x < 0xFD → cut row x ≡ if (row x .known) spec.OTHER spec.UNKNOWN
   cut-rest h =
       rw (
         ne-eqb x 0x5B (rest .0 .0 .0 .1),
@@ -37,13 +37,13 @@ module _ (x : ℕ) (rest : (((Unit {0} × (x ≡ 0x5B → ⊥)) × (x ≡ 0x57 �
       )
       (if-false false _ _ refl ∙ if-false false _ _ refl ∙ if-false false _ _ refl ∙ if-false false _ _ refl ∙ if-false false _ _ refl)
 
-  pub cut-other : {k : Bool} → x < 0xFD → k ≡ row x .known → k ≡ true → Other ≡ cutOf (cut x)
+  pub cut-other : {k : Bool} → x < 0xFD → k ≡ row x .known → k ≡ true → Other ≡ cutOf (cut row x)
   cut-other h e t = sym (ap cutOf (cut-rest h ∙ if-true _ _ _ (sym e ∙ t)))
 
-  pub cut-unknown : {k : Bool} → x < 0xFD → k ≡ row x .known → k ≡ false → Unknown ≡ cutOf (cut x)
+  pub cut-unknown : {k : Bool} → x < 0xFD → k ≡ row x .known → k ≡ false → Unknown ≡ cutOf (cut row x)
   cut-unknown h e t = sym (ap cutOf (cut-rest h ∙ if-false _ _ _ (sym e ∙ t)))
 
-pub cut-success : (x : ℕ) → (x ≡ 0x00) ⊎ ((x ≡ 0xF3) ⊎ (x ≡ 0xFF)) → Ends true ≡ cutOf (cut x)
+pub cut-success : (x : ℕ) → (x ≡ 0x00) ⊎ ((x ≡ 0xF3) ⊎ (x ≡ 0xFF)) → Ends true ≡ cutOf (cut row x)
 unfolding if
 cut-success x (inl e) = rw e
 cut-success x (inr (inl e)) = rw e

@@ -37,7 +37,7 @@ use Rattle.initial.proofs.Turning.{ahead-ended}
 
 -- what an instruction is to the cutting, case by case
 by-cut : (F : spec.Cut → Type 0) (b : ℕ) → F JUMPDEST → (b ≡ 0x57 → F JUMPI) → (b ≡ 0x56 → F JUMP) → ((success : Bool) → F (ENDS success)) → F OTHER → F UNKNOWN
-    → F (cut b)
+    → F (cut row b)
 by-cut F b dest jumpi jumps ends other unknown =
     both F (eqb b 0x5B) (λ _. dest)
     (λ _. both F (eqb b 0x57) (λ e. jumpi (eqb-true _ _ e))
@@ -47,24 +47,24 @@ by-cut F b dest jumpi jumps ends other unknown =
     (λ _. both F (row b .known) (λ _. other) (λ _. unknown))))))
 
 push-idle : (id start prev : ℕ) (push : Option ℕ) (pc : ℕ) (on : spec.Mode → List Block) (b : ℕ) → (b < 0x60 → none ≡ push)
-    → closes id start prev none pc on (cut b) ≡ closes id start prev push pc on (cut b)
+    → closes id start prev none pc on (cut row b) ≡ closes id start prev push pc on (cut row b)
 push-idle id start prev push pc on b low =
     by-cut (λ (c : spec.Cut). closes id start prev none pc on c ≡ closes id start prev push pc on c) b refl
     (λ e. rw (← low (omega arith))) (λ e. rw (← low (omega arith))) (λ _. refl) refl refl
 
 module _ (code : List ℕ) where
-  first-push : cuts (walk (drop 0 code) 0 0) (opened 0 0) 0 none ≡ cuts (walk (drop 0 code) 0 0) (opened 0 0) 0 (pushedAt code 0)
+  first-push : cuts row (walk (drop 0 code) 0 0) (opened 0 0) 0 none ≡ cuts row (walk (drop 0 code) 0 0) (opened 0 0) 0 (pushedAt code 0)
   unfolding cuts
   first-push = go (decLe (next code 0) (length code))
     where
-      go : Dec (next code 0 ≤ length code) → cuts (walk (drop 0 code) 0 0) (opened 0 0) 0 none ≡ cuts (walk (drop 0 code) 0 0) (opened 0 0) 0 (pushedAt code 0)
+      go : Dec (next code 0 ≤ length code) → cuts row (walk (drop 0 code) 0 0) (opened 0 0) 0 none ≡ cuts row (walk (drop 0 code) 0 0) (opened 0 0) 0 (pushedAt code 0)
       go (yes h) = rw (walk-whole code 0 h) (push-idle 0 0 0 (pushedAt code 0) 0 _ (getD code 0 0) (λ l. sym (push-low code 0 l)))
       go (no h) = rw (walk-end code 0 (omega arith))
 
 cutting-some : (code : List ℕ) → (length code ≡ 0 → ⊥) → map clipped (cutting code) ≡ ahead code 0 (Opened 0) 0
 unfolding cutting ahead
 cutting-some [] h = absurd (h refl)
-cutting-some (b ∷ code) h = ap (map clipped) (ap (λ (is : List Ins). cuts is (opened 0 0) 0 none) (instructions-walk (b ∷ code)) ∙ first-push (b ∷ code))
+cutting-some (b ∷ code) h = ap (map clipped) (ap (λ (is : List Ins). cuts row is (opened 0 0) 0 none) (instructions-walk (b ∷ code)) ∙ first-push (b ∷ code))
 
 cutting-none : (code : List ℕ) → length code ≡ 0 → cutting code ≡ []
 unfolding cutting

@@ -7,6 +7,7 @@ use native.Mathlib.Omega.{arith}
 use native.Mathlib.Decide.{decLe}
 use lib.ListN.{length}
 use Rattle.spec.specs.Lists.{if, mem}
+use Rattle.spec.specs.Opcodes.{row}
 use Rattle.spec.specs.Walk.{instructions}
 use Rattle.spec.specs.Blocks.{Kind, terminate, jump, jumpi, dynamic-jump, dynamic-jumpi, Block, with-kind, lands, checked, starts, check-all, blocks}
 use Rattle.laws.proofs.Branch.{if-false}
@@ -58,7 +59,7 @@ clip-starts (b ∷ bs) = ap {B = List ℕ} (λ (ns : List ℕ). b .start ∷ ns)
 clip-all : (code : List ℕ) (bs : List Block) (n : ℕ) → n < 0xFFFF → ((t : ℕ) → mem t (starts bs) ≡ true → t ≤ n) → check-all code (map clipped bs) ≡ check-all code bs
 clip-all code bs n h g = rw (clip-starts bs) (clip-map code (starts bs) n h g bs)
 
-blocks-checked : (code : List ℕ) → check-all code (cutting code) ≡ blocks code (instructions code)
+blocks-checked : (code : List ℕ) → check-all code (cutting code) ≡ blocks row code (instructions code)
 unfolding cutting blocks
 blocks-checked [] = refl
 blocks-checked (b ∷ code) = refl

@@ -9,6 +9,7 @@ use native.Mathlib.Decide.{decLt}
 use lib.Dec.{eqb}
 use lib.ListN.{length}
 use borrow.Author.Tests.{eqb-false}
+use Rattle.spec.specs.Opcodes.{row}
 use Rattle.spec.specs.Blocks.{Block, cut}
 use Rattle.laws.proofs.Branch.{both}
 use Rattle.layout.specs.Parts.{rowPlace}
@@ -116,7 +117,7 @@ module _ {code w : List ℕ} {mode : Mode} {prev pc op : ℕ} (r : Ready code w 
   pub turn-ended : mode ≡ Ended → Turned code w mode prev pc op w Ended
   turn-ended o = goes-on (rw o (simp ahead-ended)) (rw o (record { past = omega arith; low = omega arith }))
 
-  module _ {start : ℕ} {c : Cut} {t : Turn} (o : mode ≡ Opened start) (d : c ≡ cutOf (cut op)) (e : t ≡ turnOf start prev (pushedAt code prev) pc c) where
+  module _ {start : ℕ} {c : Cut} {t : Turn} (o : mode ≡ Opened start) (d : c ≡ cutOf (cut row op)) (e : t ≡ turnOf start prev (pushedAt code prev) pc c) where
     turn-fine : Fine start (after pc op) t
     turn-fine = rw e (fine start prev (pushedAt code prev) pc (after pc op) (rw o at (r .rows .low)) (r .rows .back) (omega arith) (omega (arith, i .whole, r .rows .short)) c)
 

@@ -10,7 +10,7 @@ use lib.Dec.{eqb}
 use lib.ListN.{getD, drop}
 use borrow.Author.Tests.{eq-eqb, ne-eqb}
 use Rattle.spec.specs.Lists.{if}
-use Rattle.spec.specs.Opcodes.{argument}
+use Rattle.spec.specs.Opcodes.{argument, row}
 use Rattle.spec.specs.Walk.{ins, walk}
 use Rattle.spec.specs.Blocks as spec
 use Rattle.spec.specs.Blocks.{Block, JUMPDEST, JUMPI, JUMP, UNKNOWN, OTHER, ENDS, cut, closes, cuts}
@@ -51,9 +51,9 @@ module _ (code : List ℕ) (pc op : ℕ) (i : Stands code pc op) (prev : ℕ) wh
 
   pub ahead-open : (start : ℕ) → pc ≤ 0xFFFF
       → ahead code pc (Opened start) prev
-      ≡ closed start (turnOf start prev (pushedAt code prev) pc (cutOf (cut op))) ++ ahead code (pc + suc (argument op)) (then (turnOf start prev (pushedAt code prev) pc (cutOf (cut op)))) pc
+      ≡ closed start (turnOf start prev (pushedAt code prev) pc (cutOf (cut row op))) ++ ahead code (pc + suc (argument op)) (then (turnOf start prev (pushedAt code prev) pc (cutOf (cut row op)))) pc
   unfolding ahead cuts pushedAt
-  ahead-open start h = rw (first, i .byte) (closes-turn start prev (pushedAt code prev) pc _ (cut (getD code pc 0)) h .same)
+  ahead-open start h = rw (first, i .byte) (closes-turn start prev (pushedAt code prev) pc _ (cut row (getD code pc 0)) h .same)
 
   pub ahead-found : op ≡ 0x5B → ahead code pc Waiting prev ≡ ahead code (pc + suc (argument op)) (Opened pc) pc
   unfolding ahead cuts pushedAt

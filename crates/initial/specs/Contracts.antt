@@ -4,7 +4,7 @@ use mathlib.Core.List.{List, [], _∷_, _++_, map}
 use mathlib.Core.Option.{none}
 use Prim.Native.Nat.{ℕ, suc, _+_, _≤_, _<_}
 use lib.ListN.{length, getD, take, drop}
-use Rattle.spec.specs.Opcodes.{argument}
+use Rattle.spec.specs.Opcodes.{argument, row}
 use Rattle.spec.specs.Walk.{instructions}
 use Rattle.spec.specs.Blocks.{Block, with-kind, opened, cuts, checked, starts, blocks}
 use Rattle.spec.specs.Rooms.{longest, work-need}
@@ -90,7 +90,7 @@ last m prev = map clipped (rest [] m prev none)
 -- the code's blocks before the checks
 unfoldable pub cutting : List ℕ → List Block
 cutting [] = []
-cutting (b ∷ code) = cuts (instructions (b ∷ code)) (opened 0 0) 0 none
+cutting (b ∷ code) = cuts row (instructions (b ∷ code)) (opened 0 0) 0 none
 
 -- ---- the checks afterwards
 
@@ -115,6 +115,6 @@ pub record CheckedRow (code w : List ℕ) (a : ℕ) (w′ : List ℕ) : Type 0 w
 
 -- the rows hold the code's blocks and nothing else, and nothing past the rows changed
 pub record Initial (code w w′ : List ℕ) : Type 0 where
-  pub same : blocksAt w′ (length code) ≡ blocks code (instructions code)
+  pub same : blocksAt w′ (length code) ≡ blocks row code (instructions code)
   pub laid : Laid w′ (length code)
   pub beyond : Beyond (length code) w w′

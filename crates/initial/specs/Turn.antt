@@ -6,6 +6,7 @@ use Prim.Native.Nat.{ℕ, _+_, min}
 use lib.Dec.{eqb}
 use lib.ListN.{getD, drop}
 use Rattle.spec.specs.Lists.{if}
+use Rattle.spec.specs.Opcodes.{row}
 use Rattle.spec.specs.Walk.{Ins, ins, walk}
 use Rattle.spec.specs.Blocks as spec
 use Rattle.spec.specs.Blocks.{Kind, terminate, jump, jumpi, dynamic-jump, dynamic-jumpi, Block, block, with-kind, opened, waiting, pushed, jumping, branching, JUMPDEST, JUMPI, JUMP, UNKNOWN, OTHER, ENDS, cuts}
@@ -76,7 +77,7 @@ resume on Ended = []
 
 -- the blocks that are still to be cut, of these instructions
 abbrev pub rest : List Ins → Mode → ℕ → Option ℕ → List Block
-rest is m prev push = resume (λ (n : spec.Mode). cuts is n prev push) m
+rest is m prev push = resume (λ (n : spec.Mode). cuts row is n prev push) m
 
 -- those of the code from a place on, as the rows have them
 unfoldable pub ahead : List ℕ → ℕ → Mode → ℕ → List Block

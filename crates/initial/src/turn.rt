@@ -10,6 +10,7 @@ use layout::row::JUMP;
 use layout::row::SUCCESS;
 use layout::row::TERMINATE;
 ghost use mathlib.Core.Path.{_≡_};
+ghost use Rattle.spec.specs.Opcodes.{row};
 ghost use Rattle.spec.specs.Blocks.{cut, terminate};
 ghost use Rattle.initial.specs.Rows.{typeOf};
 ghost use Rattle.initial.specs.Turn.{pushedAt, cutOf, turnOf};
@@ -46,7 +47,7 @@ pub enum Turn {
 
 // What the instruction is.
 pub fn cut_of(op: u8) -> Cut
-    ensures { λ r. ⌜ r ≡ cutOf (cut op) ⌝ }
+    ensures { λ r. ⌜ r ≡ cutOf (cut row op) ⌝ }
 {
     match op {
         op::JUMPDEST => Cut::Jumpdest,

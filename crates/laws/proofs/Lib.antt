@@ -1,3 +1,4 @@
 pub mod Branch
 pub mod Lists
 pub mod Members
+pub mod Modes

@@ -9,6 +9,7 @@ use lib.Dec.{ltb}
 use lib.ListN.{length, take, length-take}
 use lib.Seq.{take-all}
 use borrow.Author.Tests.{ltb-true, ltb-false, lt-ltb, le-ltb}
+use Rattle.spec.specs.Opcodes.{in-mode}
 use Rattle.spec.specs.Lists.{little}
 use Rattle.spec.specs.Answer.{answer}
 use Rattle.spec.specs.Program.{digit, pair, decoded, prints, says-refused, decimal, lends, runs-on, program}
@@ -27,7 +28,7 @@ module _ (text : List ℕ) where
   unfolding program
   refused-over {code} e h = ap runs-on e ∙ if-true _ _ _ (lt-ltb 512 (length code) h)
 
-  pub answered-some : {code : List ℕ} → decoded text ≡ some code → length code ≤ 512 → program text ≡ prints (answer lends 500000 code)
+  pub answered-some : {code : List ℕ} → decoded text ≡ some code → length code ≤ 512 → program text ≡ prints (answer (in-mode 0) lends 500000 code)
   unfolding program
   answered-some {code} e h = ap runs-on e ∙ if-false _ _ _ (le-ltb 512 (length code) h)
 

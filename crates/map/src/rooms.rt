@@ -4,6 +4,7 @@ use crate::lines::put_answer;
 use answer::map_code;
 ghost use Prim.Native.Nat.{_≤_};
 ghost use lib.ListN.{length};
+ghost use Rattle.spec.specs.Opcodes.{in-mode};
 ghost use Rattle.spec.specs.Answer.{answer};
 ghost use Rattle.spec.specs.Program.{lends, prints};
 ghost use Rattle.lent.specs.Bytes.{Stored};
@@ -23,9 +24,9 @@ fn put_map(
     out: &mut [u8],
 ) -> usize
     requires { ⌜ Lends (buffers (now w) (now p) (now s) (now t) (now r) (now q)) (now raw) (now out) ⌝ }
-    ensures { λ end. ⌜ Stored end (now (out .entry)) 0 (prints (answer lends 500000 (now (code .entry)))) (now (out .exit)) ⌝ }
+    ensures { λ end. ⌜ Stored end (now (out .entry)) 0 (prints (answer (in-mode 0) lends 500000 (now (code .entry)))) (now (out .exit)) ⌝ }
 {
-    let a = map_code(500000, code, w, p, s, t, r, q, raw);
+    let a = map_code(500000, 0, code, w, p, s, t, r, q, raw);
     let number = a.number;
     let written = a.written;
     put_answer(number, written, raw, out)
@@ -34,7 +35,7 @@ fn put_map(
 // The same, in rooms of its own.
 pub fn put_code(code: &[u8], out: &mut [u8]) -> usize
     requires { ⌜ 98304 ≤ length (now out) ⌝ }
-    ensures { λ end. ⌜ Stored end (now (out .entry)) 0 (prints (answer lends 500000 (now (code .entry)))) (now (out .exit)) ⌝ }
+    ensures { λ end. ⌜ Stored end (now (out .entry)) 0 (prints (answer (in-mode 0) lends 500000 (now (code .entry)))) (now (out .exit)) ⌝ }
 {
     let mut w = [0u8; 33024];
     let mut p = [0u8; 32768];

@@ -7,12 +7,12 @@ use lib.Dec.{eqb, leb, ltb}
 use lib.ListN.{length, getD, drop, replicate}
 use borrow.Author.Tests.{leb-true}
 use Rattle.spec.specs.Lists.{within}
-use Rattle.spec.specs.Opcodes.{row}
+use Rattle.spec.specs.Opcodes.{row, in-mode}
 use Rattle.spec.specs.Walk.{Ins, instructions, from}
-use Rattle.spec.specs.Stacks.{Sym, before, constant, jumpdest, other, known-value, from-value, is, mask, anded, summed, Stack, entry, reads, read, span, pops, push, pushes, swap, trade, Does, pushes-value, pushes-pc, dups, swaps, ands, adds, jumps, jumpis, lands, halts, plain, does, act, Ran, after, runs, joins, settle, trims, trim, run}
+use Rattle.spec.specs.Stacks.{Sym, before, constant, jumpdest, other, known-value, from-value, is, mask, anded, summed, Stack, entry, reads, read, span, pops, push, pushes, swap, trade, Does, pushes-value, pushes-pc, dups, swaps, ands, adds, jumps, jumpis, lands, halts, plain, does, act, Ran, after, runs, joins, settle, trims, trim, run, first-known}
 use Rattle.laws.proofs.Branch.{both}
 use Rattle.laws.proofs.Members.{and-both}
-use Rattle.theorems.proofs.Counts.{few}
+use Rattle.theorems.proofs.Counts.{lawful}
 use Rattle.theorems.proofs.Walking.{Walked, stops, steps, walked}
 use Rattle.state.specs.Cells.{depth, deepest, reach}
 use Rattle.state.proofs.Reach.{reach-is}
@@ -96,7 +96,7 @@ Near lands = Unit {0}
 Near halts = Unit {0}
 Near plain = Unit {0}
 
-module _ (code : List ℕ) {k : ℕ} {s : Stack} (o : Sound k s) where
+module _ (mode : ℕ) (code : List ℕ) {k : ℕ} {s : Stack} (o : Sound k s) where
   abbrev Next : Stack → Type 0
   Next t = Sound (suc k) t
 
@@ -145,10 +145,10 @@ module _ (code : List ℕ) {k : ℕ} {s : Stack} (o : Sound k s) where
       pushes-next (suc (suc i)) (omega arith)
       (and-more (read-fits (suc i) (omega arith)) (all-append (span-fits 1 i (omega arith)) (and-more (read-fits 0 (omega arith)) no-more)))
 
-  trade-next : (i : Ins) → Next (trade i s)
-  trade-next i = pushes-next (row (i .op) .taken) (few (i .op)) (all-others (row (i .op) .given) (i .pc))
+  trade-next : (i : Ins) → Next (trade row i s)
+  trade-next i = pushes-next (row (i .op) .taken) (lawful .few (i .op)) (all-others (row (i .op) .given) (i .pc))
 
-  act-next : (i : Ins) (d : Does) → Near d → Next (act code i d s)
+  act-next : (i : Ins) (d : Does) → Near d → Next (act row code i d s)
   unfolding act
   act-next i pushes-value h = push-next _ (value-fits code (17 * suc k + 17) (i .arg))
   act-next i pushes-pc h = push-next _ (value-fits code (17 * suc k + 17) (i .pc))
@@ -162,10 +162,10 @@ module _ (code : List ℕ) {k : ℕ} {s : Stack} (o : Sound k s) where
   act-next i halts h = trade-next i
   act-next i plain h = trade-next i
 
-near : (b : ℕ) → Near (does b)
+near : (mode b : ℕ) → Near (does mode b)
 unfolding does
-near b =
-    both Near (within 0x60 0x63 b) (λ _. tt)
+near mode b =
+    both Near (within (first-known mode) 0x63 b) (λ _. tt)
     (λ _. both Near (eqb b 0x58) (λ _. tt)
     (λ _. both Near (within 0x80 0x8F b) (λ e. omega (arith, leb-true b 0x8F (and-both (leb 0x80 b) (leb b 0x8F) e .1)))
     (λ _. both Near (within 0x90 0x9F b) (λ e. omega (arith, leb-true b 0x9F (and-both (leb 0x90 b) (leb b 0x9F) e .1)))
@@ -187,11 +187,11 @@ record Ends (m : ℕ) (r : Ran) : Type 0 where
   goes : Goes (17 * m + 17) (r .goes)
   stack : Sound m (r .stack)
 
-module _ (code : List ℕ) (start : ℕ) where
+module _ (mode : ℕ) (code : List ℕ) (start : ℕ) where
   leaps : {k : ℕ} {s t : Stack} → Sound k s → Sound (suc k) t → (m : ℕ) → suc k ≤ m
       → Ends m (record { stack = t; goes = some (read s 0) })
   leaps {k} {s} o p m h =
-      record { goes = fits-more (17 * k + 17) (17 * m + 17) (omega arith) (read s 0) (read-now code o 0 (omega arith)); stack = sound-more h p }
+      record { goes = fits-more (17 * k + 17) (17 * m + 17) (omega arith) (read s 0) (read-now mode code o 0 (omega arith)); stack = sound-more h p }
 
   after-ends : {k : ℕ} {s t : Stack} → Sound k s → Sound (suc k) t → (m : ℕ) → suc k ≤ m
       → (i : Ins) (on : Ran) → Ends m on → (d : Does) → Ends m (after start i s t on d)
@@ -207,11 +207,12 @@ module _ (code : List ℕ) (start : ℕ) where
   after-ends o p m h i on e halts = record { goes = tt; stack = sound-more h p }
   after-ends o p m h i on e plain = e
 
-  runs-ends : (is : List Ins) {k : ℕ} {s : Stack} → Sound k s → (m : ℕ) → k + length is ≤ m → Ends m (runs code start is s)
+  runs-ends : (is : List Ins) {k : ℕ} {s : Stack} → Sound k s → (m : ℕ) → k + length is ≤ m → Ends m (runs (in-mode mode) code start is s)
   runs-ends [] o m h = record { goes = tt; stack = sound-more (omega arith) o }
   runs-ends (i ∷ is) o m h =
-      let p = act-next code o i (does (i .op)) (near (i .op)) in
-      after-ends o p m (omega arith) i _ (runs-ends is p m (omega arith)) (does (i .op))
+      let d = does mode (i .op) in
+      let p = act-next mode code o i d (near mode (i .op)) in
+      after-ends o p m (omega arith) i _ (runs-ends is p m (omega arith)) d
 
 -- no walk has more instructions than the code has bytes
 walk-short : {code : List ℕ} {at : ℕ} {is : List Ins} → Walked code at is → at ≤ length code → at + length is ≤ length code
@@ -241,19 +242,19 @@ sound-trims {base = base} (and-more {x} {xs} f a) h = sound-settle x (trims xs b
 
 -- ---- the whole run, from any place
 
-module _ (code : List ℕ) (start : ℕ) where
-  ran : Ends (length code) (runs code start (from start (instructions code)) entry)
+module _ (mode : ℕ) (code : List ℕ) (start : ℕ) where
+  ran : Ends (length code) (runs (in-mode mode) code start (from start (instructions code)) entry)
   ran =
       let few = walk-short (walked code) (omega arith) in
-      runs-ends code start (from start (instructions code)) begun (length code) (omega (arith, from-short start (instructions code)))
+      runs-ends mode code start (from start (instructions code)) begun (length code) (omega (arith, from-short start (instructions code)))
 
-  own : Sound (length code) (run code (instructions code) start .stack)
+  own : Sound (length code) (run (in-mode mode) code (instructions code) start .stack)
   unfolding run trim
   own = let o = ran .stack in sound-trims (o .all) (o .low)
 
-  pub run-goes : Goes (17 * length code + 17) (run code (instructions code) start .goes)
+  pub run-goes : Goes (17 * length code + 17) (run (in-mode mode) code (instructions code) start .goes)
   unfolding run
   run-goes = ran .goes
 
-  pub run-deep : reach (run code (instructions code) start .stack) ≤ 17 * length code + 17
-  run-deep = let o = own in omega (arith, reach-is (run code (instructions code) start .stack), all-deep (o .all), o .low)
+  pub run-deep : reach (run (in-mode mode) code (instructions code) start .stack) ≤ 17 * length code + 17
+  run-deep = let o = own in omega (arith, reach-is (run (in-mode mode) code (instructions code) start .stack), all-deep (o .all), o .low)

@@ -6,6 +6,7 @@ use Prim.Native.Nat.{ℕ, _+_, _-_, _*_, _≤_, _<_}
 use native.Mathlib.Omega.{arith}
 use lib.Dec.{ltb}
 use borrow.Author.Tests.{eq-eqb, ne-eqb, lt-ltb, le-ltb}
+use Rattle.spec.specs.Opcodes.{in-mode}
 use Rattle.spec.specs.Lists.{little}
 use Rattle.spec.specs.Walk.{instructions}
 use Rattle.spec.specs.Stacks.{run}
@@ -133,16 +134,16 @@ module _ {code w : List ℕ} {end a : ℕ} (s : Settles code w end a) {t : Block
   tag-is : t .kind ≡ tagAt w a
   tag-is = ap (λ (b : BlockType). b .kind) (y .is)
 
-  pub settle-static : (head : ℕ) → t .kind < 5 → Settled code w end a head w head
+  pub settle-static : {mode : ℕ} (head : ℕ) → t .kind < 5 → Settled mode code w end a head w head
   unfolding goesAt place
-  settle-static head h =
-      let e = if-true (ltb (tagAt w a) 5) none (run code (instructions code) a .goes) (lt-ltb (tagAt w a) 5 (omega (arith, tag-is))) in
+  settle-static {mode} head h =
+      let e = if-true (ltb (tagAt w a) 5) none (run (in-mode mode) code (instructions code) a .goes) (lt-ltb (tagAt w a) 5 (omega (arith, tag-is))) in
       record { after = w; ran = record { front = refl; back = refl; kept = refl }; is = rw e; first = rw e; kept = refl }
 
   pub settle-runs : 5 ≤ t .kind → Runs code a w end
   settle-runs h = record { stands = s .stands (omega (arith, tag-is)); short = s .short; inside = s .inside; room = omega (arith, s .room) }
 
-  module _ {w₁ : List ℕ} {o : Own} (h : 5 ≤ t .kind) (d : Owned code a w end w₁ o) where
+  module _ {mode : ℕ} {w₁ : List ℕ} {o : Own} (h : 5 ≤ t .kind) (d : Owned mode code a w end w₁ o) where
     ran-in : Ran code w end w₁
     ran-in =
         record {
@@ -151,17 +152,17 @@ module _ {code w : List ℕ} {end a : ℕ} (s : Settles code w end a) {t : Block
           kept = d .inside .kept;
         }
 
-    goes-is : goesAt code w a ≡ goesOf (o .goes)
+    goes-is : goesAt mode code w a ≡ goesOf (o .goes)
     unfolding goesAt
     goes-is = if-false _ _ _ (le-ltb (tagAt w a) 5 (omega (arith, tag-is))) ∙ sym (d .goes)
 
-    pub settle-nowhere : (head : ℕ) → o .goes ≡ Nowhere → Settled code w end a head w₁ head
+    pub settle-nowhere : (head : ℕ) → o .goes ≡ Nowhere → Settled mode code w end a head w₁ head
     unfolding place
     settle-nowhere head e =
-        let g : goesAt code w a ≡ none = goes-is ∙ ap goesOf e in
+        let g : goesAt mode code w a ≡ none = goes-is ∙ ap goesOf e in
         record { after = w₁; ran = ran-in; is = rw g; first = rw g; kept = d .inside .kept }
 
-    pub settle-placed : (head : ℕ) {x : StackSym} {w₂ : List ℕ} {r : ℕ} → o .goes ≡ To x → Placed w₁ a t (some (symOf x)) head w₂ r → Settled code w end a head w₂ r
+    pub settle-placed : (head : ℕ) {x : StackSym} {w₂ : List ℕ} {r : ℕ} → o .goes ≡ To x → Placed w₁ a t (some (symOf x)) head w₂ r → Settled mode code w end a head w₂ r
     settle-placed head {x} e p =
-        let g : goesAt code w a ≡ some (symOf x) = goes-is ∙ ap goesOf e in
+        let g : goesAt mode code w a ≡ some (symOf x) = goes-is ∙ ap goesOf e in
         record { after = w₁; ran = ran-in; is = rw (g, ← y .is) (p .is); first = rw g (p .first); kept = p .kept ∙ d .inside .kept }

@@ -27,9 +27,9 @@ first-taker no-taker = refl
 first-taker (next-taker h t) = refl
 
 -- the link, and all outside the part for runs
-pub one-prepared : {code w v u : List ℕ} {end r s : ℕ} → Lent code w end → Prepared code w end v r → Prepared code w end u s
+pub one-prepared : {mode : ℕ} {code w v u : List ℕ} {end r s : ℕ} → Lent code w end → Prepared mode code w end v r → Prepared mode code w end u s
     → (r ≡ s) × Outside (end - roomOf code) (roomOf code) v u
-one-prepared {code} {w} {v} {u} {end} lent p q =
+one-prepared {mode} {code} {w} {v} {u} {end} lent p q =
     let n : ℕ = length code + 1 in
     let rows : Same v u 0 (rowPlace n) = same-rows 0 20 n (λ a h. same-as (same-both (rowPlace a) 20 (p .row a (omega arith)) (q .row a (omega arith))) (omega arith) refl) in
     let between : Same v u (rowPlace n) (end - roomOf code - rowPlace n) = same-both (rowPlace n) (end - roomOf code - rowPlace n) (p .beside .between) (q .beside .between) in

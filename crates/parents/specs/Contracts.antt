@@ -4,6 +4,7 @@ use mathlib.Core.List.{List, map}
 use mathlib.Core.Option.{Option}
 use Prim.Native.Nat.{ℕ, _+_, _-_, _^_, _≤_, _<_}
 use lib.ListN.{length, take, drop}
+use Rattle.spec.specs.Opcodes.{row, in-mode}
 use Rattle.spec.specs.Walk.{walk, instructions, from}
 use Rattle.spec.specs.Blocks.{blocks}
 use Rattle.spec.specs.Stacks.{Sym}
@@ -23,7 +24,7 @@ use Rattle.parents.specs.Writes.{place, headPast, goesAt}
 
 pub record Lent (code w : List ℕ) (end : ℕ) : Type 0 where
   pub short : length code ≤ longest
-  pub same : blocksAt w (length code) ≡ blocks code (instructions code)
+  pub same : blocksAt w (length code) ≡ blocks row code (instructions code)
   pub laid : Laid w (length code)
   pub room : rowsEnd (length code) + roomOf code ≤ end
   pub inside : end ≤ length w
@@ -66,11 +67,11 @@ pub record Ran (code w : List ℕ) (end : ℕ) (w′ : List ℕ) : Type 0 where
   pub back : drop end w′ ≡ drop end w
   pub kept : length w′ ≡ length w
 
-pub record Settled (code w : List ℕ) (end a head : ℕ) (w′ : List ℕ) (r : ℕ) : Type 0 where
+pub record Settled (mode : ℕ) (code w : List ℕ) (end a head : ℕ) (w′ : List ℕ) (r : ℕ) : Type 0 where
   pub after : List ℕ
   pub ran : Ran code w end after
-  pub is : w′ ≡ place after a (typeAt w a) (goesAt code w a) head
-  pub first : r ≡ headPast a (goesAt code w a) head
+  pub is : w′ ≡ place after a (typeAt w a) (goesAt mode code w a) head
+  pub first : r ≡ headPast a (goesAt mode code w a) head
   pub kept : length w′ ≡ length w
 
 pub record Placed (w : List ℕ) (a : ℕ) (t : BlockType) (goes : Option Sym) (head : ℕ) (w′ : List ℕ) (r : ℕ) : Type 0 where
@@ -81,15 +82,15 @@ pub record Placed (w : List ℕ) (a : ℕ) (t : BlockType) (goes : Option Sym) (
 -- ---- the whole
 
 -- what the rows say of the code: its blocks after the first stage, those that take turns, from the link `head` on, and the direct parents of each address
-pub record Known (code w : List ℕ) (head : ℕ) : Type 0 where
-  pub blocks : blocksAt w (length code) ≡ map (λ (x : Node). x .block) (prepared code)
-  pub takers : Takers w (length code) head (map turnOf (takers (prepared code)))
-  pub parents : (t : ℕ) → t ≤ length code → Parents w (length code) t (firstAt w t) (map fromOf (directTo t (prepared code)))
+pub record Known (mode : ℕ) (code w : List ℕ) (head : ℕ) : Type 0 where
+  pub blocks : blocksAt w (length code) ≡ map (λ (x : Node). x .block) (prepared (in-mode mode) code)
+  pub takers : Takers w (length code) head (map turnOf (takers (prepared (in-mode mode) code)))
+  pub parents : (t : ℕ) → t ≤ length code → Parents w (length code) t (firstAt w t) (map fromOf (directTo t (prepared (in-mode mode) code)))
 
 -- the blocks of the code are prepared for the search: every byte of the rows, and what they say; r is the link to the first block that takes turns
-pub record Prepared (code w : List ℕ) (end : ℕ) (w′ : List ℕ) (r : ℕ) : Type 0 where
-  pub row : (a : ℕ) → a ≤ length code → take ROW (drop (rowPlace a) w′) ≡ rowFor code w a
-  pub known : Known code w′ r
+pub record Prepared (mode : ℕ) (code w : List ℕ) (end : ℕ) (w′ : List ℕ) (r : ℕ) : Type 0 where
+  pub row : (a : ℕ) → a ≤ length code → take ROW (drop (rowPlace a) w′) ≡ rowFor mode code w a
+  pub known : Known mode code w′ r
   pub beside : Beside code w end w′
 
 -- ---- the readers

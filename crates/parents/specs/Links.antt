@@ -3,6 +3,7 @@
 use mathlib.Core.Path.{_≡_}
 use mathlib.Core.List.{List, [], _∷_}
 use Prim.Native.Nat.{ℕ, _+_, _≤_}
+use Rattle.spec.specs.Opcodes.{in-mode}
 use Rattle.spec.specs.Lists.{lastOf, keep}
 use Rattle.spec.specs.Search.{Node, Taker, Parent, direct, parent}
 use Rattle.layout.specs.Rows.{positionAt, takerAt, nextOf}
@@ -43,8 +44,8 @@ abbrev pub fromOf : Parent → ℕ
 fromOf p = lastOf (p .path)
 
 -- a parent of t by its start, with its block's own stack
-abbrev pub parentOf : List ℕ → ℕ → ℕ → Parent
-parentOf code t a = parent t (a ∷ []) (run code (instructions code) a .stack)
+abbrev pub parentOf : ℕ → List ℕ → ℕ → ℕ → Parent
+parentOf mode code t a = parent t (a ∷ []) (run (in-mode mode) code (instructions code) a .stack)
 
 -- the walk of the code comes to the start, as a run of the block asks
 abbrev pub Comes : List ℕ → ℕ → Type 0

@@ -3,6 +3,7 @@ use mathlib.Core.List.{List, [], _∷_, _++_}
 use Prim.Native.Nat.{ℕ, suc, _+_, _-_}
 use lib.Dec.{eqb}
 use lib.ListN.{length, replicate}
+use Rattle.spec.specs.Opcodes.{in-mode}
 use Rattle.spec.specs.Lists.{if, little}
 use Rattle.spec.specs.Walk.{instructions}
 use Rattle.spec.specs.Blocks.{Kind, terminate, jump, jumpi, dynamic-jump, dynamic-jumpi}
@@ -78,11 +79,11 @@ linksOf [] later = replicate LINKS 0
 linksOf (r ∷ rs) later = linkBytes (toPast (r .block .kind) later) (otherPast (r .block .kind) later) (takerPast (turnsOf r) later)
 
 -- the blocks of W's rows, each with its own run: at an address, and from one on
-abbrev pub nodesHere : List ℕ → List ℕ → ℕ → List Node
-nodesHere code w a = nodes code (instructions code) (rowBlocks w a)
+abbrev pub nodesHere : ℕ → List ℕ → List ℕ → ℕ → List Node
+nodesHere mode code w a = nodes (in-mode mode) code (instructions code) (rowBlocks w a)
 
-abbrev pub nodesFrom : List ℕ → List ℕ → ℕ → List Node
-nodesFrom code w a = nodes code (instructions code) (blocksFrom w a (suc (length code) - a))
+abbrev pub nodesFrom : ℕ → List ℕ → List ℕ → ℕ → List Node
+nodesFrom mode code w a = nodes (in-mode mode) code (instructions code) (blocksFrom w a (suc (length code) - a))
 
-unfoldable pub rowFor : List ℕ → List ℕ → ℕ → List ℕ
-rowFor code w a = ownOf (nodesHere code w a) ++ (little 2 (firstTo a (nodesFrom code w 0)) ++ linksOf (nodesHere code w a) (nodesFrom code w (suc a)))
+unfoldable pub rowFor : ℕ → List ℕ → List ℕ → ℕ → List ℕ
+rowFor mode code w a = ownOf (nodesHere mode code w a) ++ (little 2 (firstTo a (nodesFrom mode code w 0)) ++ linksOf (nodesHere mode code w a) (nodesFrom mode code w (suc a)))

@@ -3,6 +3,7 @@ use mathlib.Core.List.{List}
 use mathlib.Core.Option.{Option, none, some}
 use Prim.Native.Nat.{ℕ, _+_, _*_}
 use lib.Dec.{eqb, ltb}
+use Rattle.spec.specs.Opcodes.{in-mode}
 use Rattle.spec.specs.Lists.{if, little}
 use Rattle.spec.specs.Walk.{instructions}
 use Rattle.spec.specs.Stacks.{Sym, before, constant, jumpdest, other, run}
@@ -50,5 +51,5 @@ headPast a (some (jumpdest to)) head = head
 headPast a (some (other pc)) head = head
 
 -- where the run of a dynamic block goes; others are not run
-unfoldable pub goesAt : List ℕ → List ℕ → ℕ → Option Sym
-goesAt code w a = if (ltb (tagAt w a) 5) none (run code (instructions code) a .goes)
+unfoldable pub goesAt : ℕ → List ℕ → List ℕ → ℕ → Option Sym
+goesAt mode code w a = if (ltb (tagAt w a) 5) none (run (in-mode mode) code (instructions code) a .goes)

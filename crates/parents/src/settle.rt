@@ -10,6 +10,7 @@ use layout::row::ROW;
 use layout::row::put_block;
 use layout::row::type_at;
 use lent::get16;
+use state::mode::Mode;
 use state::run::Goes;
 use state::run::run;
 use state::sym::StackSym;
@@ -18,20 +19,21 @@ ghost use mathlib.Core.Option.{some};
 ghost use Prim.Native.Nat.{_+_, _*_, _≤_};
 ghost use lib.ListN.{length};
 ghost use Rattle.layout.specs.Parts.{ROW, rowPlace};
+ghost use Rattle.state.specs.Modes.{modeOf};
 ghost use Rattle.state.specs.Symbols.{symOf};
 ghost use Rattle.parents.specs.Writes.{staticType};
 ghost use Rattle.parents.specs.Contracts.{Settles, Settled, Placed};
 
-// Settles the block at a, if a dynamic one starts there; gives the link to the first block that takes turns.
-pub fn settle(code: &[u8], w: &mut [u8], end: usize, a: usize, head: usize) -> usize
+// Settles the block at a, in a mode, if a dynamic one starts there; gives the link to the first block that takes turns.
+pub fn settle(mode: Mode, code: &[u8], w: &mut [u8], end: usize, a: usize, head: usize) -> usize
     requires { ⌜ Settles (now code) (now w) end a ⌝ }
-    ensures { λ r. ⌜ Settled (now (code .entry)) (now (w .entry)) end a head (now (w .exit)) r ⌝ }
+    ensures { λ r. ⌜ Settled (modeOf mode) (now (code .entry)) (now (w .entry)) end a head (now (w .exit)) r ⌝ }
 {
     let t = type_at(w, a);
     if t.kind < DYNAMIC_JUMP {
         return head;
     }
-    let own = run(code, a, w, end);
+    let own = run(mode, code, a, w, end);
     let goes = own.goes;
     match goes {
         Goes::Nowhere => head,

@@ -12,7 +12,6 @@ use lib.Seq.{take-all, take-append-le}
 use borrow.Author.Tests.{eq-eqb, ne-eqb, ltb-true, lt-ltb, le-leb}
 use Rattle.spec.specs.Lists.{if, mem}
 use Rattle.spec.specs.Search.{Rec, dest, dests, edges, reached-by}
-use Rattle.spec.specs.Answer.{prepared}
 use Rattle.spec.specs.Entries.{absent}
 use Rattle.laws.proofs.Branch.{both, if-true, if-false, and-false}
 use Rattle.laws.proofs.Members.{in-mem, mem-in, in-right, and-both, and-true, or-right, or-cases, gather-append}
@@ -36,6 +35,7 @@ use Rattle.reachable.proofs.Frames.{num-in}
 use Rattle.reachable.proofs.Rows.{node-edges}
 use Rattle.reachable.proofs.Spreading.{room-kept, within-kept}
 use Rattle.steps.specs.Runs.{recsIn}
+use Rattle.resolver.specs.Fits.{preparedIn}
 use Rattle.resolver.specs.Turns.{Idle, Settles, destsFrom, Settled}
 use Rattle.steps.specs.declared.Plan.{Plan}
 use Rattle.steps.specs.declared.Run.{Run}
@@ -74,8 +74,8 @@ marked m by l h = and-true (ltb 0 m) (leb m by) (lt-ltb 0 m l) (le-leb m by h)
 -- ---- after `settle`
 
 module _ {code : List ℕ} {k : Plan} {since : ℕ} {w p s t r q : List ℕ} {cur : Run}
-    (i : Idle code k (reached-by (prepared code) (take since (recsIn k (buffers w p s t r q) (cur .counts)))) since (buffers w p s t r q) cur)
-    (f : (x : ℕ) → mem x (flagged w (k .n)) ≡ mem x (reached-by (prepared code) (take since (recsIn k (buffers w p s t r q) (cur .counts))))) where
+    (i : Idle code k (reached-by (preparedIn k code) (take since (recsIn k (buffers w p s t r q) (cur .counts)))) since (buffers w p s t r q) cur)
+    (f : (x : ℕ) → mem x (flagged w (k .n)) ≡ mem x (reached-by (preparedIn k code) (take since (recsIn k (buffers w p s t r q) (cur .counts))))) where
   -- what it asks
   pub renew-settles : Settles (k .n) w r since (cur .counts .records)
   renew-settles = record {
@@ -98,8 +98,8 @@ module _ {code : List ℕ} {k : Plan} {since : ℕ} {w p s t r q : List ℕ} {cu
   abbrev records : ℕ
   records = cur .counts .records
 
-  same-edges : rowEdges w (k .n) ≡ edges (prepared code)
-  same-edges = node-edges w (k .n) (prepared code) (rw (i .planned .is) (i .known .blocks))
+  same-edges : rowEdges w (k .n) ≡ edges (preparedIn k code)
+  same-edges = node-edges w (k .n) (preparedIn k code) (rw (i .planned .is) (i .known .blocks))
 
   -- the older records' destinations, and the others'
   dests-parts : dests recs ≡ dests (take since recs) ++ destsFrom r since (records - since)
@@ -110,12 +110,12 @@ module _ {code : List ℕ} {k : Plan} {since : ℕ} {w p s t r q : List ℕ} {cu
       ∙ rw (recs-first r q s (k .rooms .s) since records (i .began), dests-of r q s (k .rooms .s) since) (rw (e, z) at (dests-split r 0 since (records - since)))
 
   module _ {w′ : List ℕ} (e : Settled (k .n) w r since (cur .counts .records) w′) where
-    pub renew-flags : (x : ℕ) → mem x (flagged w′ (k .n)) ≡ mem x (reached-by (prepared code) recs)
+    pub renew-flags : (x : ℕ) → mem x (flagged w′ (k .n)) ≡ mem x (reached-by (preparedIn k code) recs)
     renew-flags x =
         e .reached x
         ∙ rw same-edges
-        (closure-round (edges (prepared code)) (destsFrom r since (records - since)) (0 ∷ dests (take since recs)) (flagged w (k .n)) f x
-        ∙ closure-members (edges (prepared code)) (destsFrom r since (records - since) ++ 0 ∷ dests (take since recs)) (0 ∷ dests recs) members x)
+        (closure-round (edges (preparedIn k code)) (destsFrom r since (records - since)) (0 ∷ dests (take since recs)) (flagged w (k .n)) f x
+        ∙ closure-members (edges (preparedIn k code)) (destsFrom r since (records - since) ++ 0 ∷ dests (take since recs)) (0 ∷ dests recs) members x)
       where
         swap : (a b c : Bool) → b || (a || c) ≡ a || (c || b)
         swap true true c = refl
@@ -131,8 +131,8 @@ module _ {code : List ℕ} {k : Plan} {since : ℕ} {w p s t r q : List ℕ} {cu
             (swap (eqb y 0) (mem y (destsFrom r since (records - since))) (mem y (dests (take since recs))))
 
     -- a number that is a destination so far is reached, and so is one that was
-    dest-reached : (a : ℕ) → mem a (dests recs) ≡ true → mem a (reached-by (prepared code) recs) ≡ true
-    dest-reached a h = closure-complete (edges (prepared code)) (0 ∷ dests recs) a (seed (or-right (eqb a 0) (mem a (dests recs)) h))
+    dest-reached : (a : ℕ) → mem a (dests recs) ≡ true → mem a (reached-by (preparedIn k code) recs) ≡ true
+    dest-reached a h = closure-complete (edges (preparedIn k code)) (0 ∷ dests recs) a (seed (or-right (eqb a 0) (mem a (dests recs)) h))
 
     was-reached : (a : ℕ) → mem a (flagged w (k .n)) ≡ true → mem a (flagged w′ (k .n)) ≡ true
     was-reached a h =
@@ -187,7 +187,7 @@ module _ {code : List ℕ} {k : Plan} {since : ℕ} {w p s t r q : List ℕ} {cu
       long = e .kept .long;
     }
 
-    pub renewed : Idle code k (reached-by (prepared code) recs) records (buffers w′ p s t r q) cur
+    pub renewed : Idle code k (reached-by (preparedIn k code) recs) records (buffers w′ p s t r q) cur
     renewed = record {
       planned = record {
         is = i .planned .is;
@@ -216,10 +216,10 @@ module _ {code : List ℕ} {k : Plan} {since : ℕ} {w p s t r q : List ℕ} {cu
     }
       where
         by : (j : ℕ) → records ≤ j → j ≤ length recs → (a : ℕ) → a ≤ k .n
-            → markedBy w′ (k .n) a (j + 1) ≡ mem a (reached-by (prepared code) recs) || mem a (dests (take j recs))
+            → markedBy w′ (k .n) a (j + 1) ≡ mem a (reached-by (preparedIn k code) recs) || mem a (dests (take j recs))
         by j l m a h =
             let is : j ≡ records = omega (arith, recs-length r q s (k .rooms .s) records) in
-            rw (is, all-taken) (mark-flag a h ∙ renew-flags a ∙ absorb (mem a (reached-by (prepared code) recs)) (mem a (dests recs)) (dest-reached a))
+            rw (is, all-taken) (mark-flag a h ∙ renew-flags a ∙ absorb (mem a (reached-by (preparedIn k code) recs)) (mem a (dests recs)) (dest-reached a))
           where
             absorb : (x y : Bool) → (y ≡ true → x ≡ true) → x ≡ x || y
             absorb true y g = refl

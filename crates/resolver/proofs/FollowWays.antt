@@ -9,6 +9,7 @@ use Rattle.spec.specs.Lists.{lastOf}
 use Rattle.spec.specs.Stacks.{Sym, before, constant, jumpdest, other}
 use Rattle.spec.specs.Search.{Found, nowhere, found, Turn, follow}
 use Rattle.layout.specs.Buffers.{Mem, buffers}
+use Rattle.state.specs.Modes.{modeOf}
 use Rattle.state.specs.Symbols.{symOf}
 use Rattle.state.specs.Cells.{stackAt}
 use Rattle.tables.specs.Addrs.{addrs}
@@ -34,7 +35,7 @@ use Rattle.resolver.proofs.TurnKept.{fits-taken, fits-met}
 use Rattle.resolver.proofs.StepsFourToSix.{last-of, follow-short, follow-met, follow-full, follow-opens, follow-ends}
 
 module _ {code : List ℕ} {k : Plan} {start : ℕ} {l : Level} {at np : ℕ} {w p s t r q : List ℕ} {o : Run} (h : Following code k start l at np (buffers w p s t r q) o)
-    {w′ s′ : List ℕ} {x : Taken} (a : Took code w s k (o .counts) l (stackCursor code r s (k .rooms .s) at) w′ s′ x) where
+    {w′ s′ : List ℕ} {x : Taken} (a : Took code w s k (o .counts) l (stackCursor (modeOf (k .mode)) code r s (k .rooms .s) at) w′ s′ x) where
   abbrev Comes-to : Turn → ℕ → ℕ → Mem → Opening → Type 0
   Comes-to turn since b m′ e =
       Outcome code k turn since start (λ deeper. follow turn deeper (levelOf (buffers w p s t r q) l) (held code k (buffers w p s t r q) b at) (addrs p 0 np)) l

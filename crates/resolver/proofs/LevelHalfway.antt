@@ -12,6 +12,7 @@ use Rattle.layout.specs.Parts.{SameRows}
 use Rattle.layout.specs.Buffers.{Mem}
 use Rattle.reachable.specs.Marks.{markedBy}
 use Rattle.parents.proofs.Chains.{parents-prefix}
+use Rattle.state.specs.Modes.{modeOf}
 use Rattle.tables.specs.Addrs.{addrs}
 use Rattle.tables.proofs.Counted.{recs-length}
 use Rattle.steps.specs.Cursors.{nextCursor, lastCursor, live, Left, none-left, direct-left, found-left}
@@ -50,7 +51,7 @@ pub record Halfway (code : List ℕ) (k : Plan) (t : Turn) (since start : ℕ) (
   pub stays : Stays k (l .np) m₀ (o .counts) m (cur .counts)
   pub counts : OnPath (k .n) (m .w) (addrs (m₀ .p) 0 (l .np))
   pub rest : List Parent
-  pub left : Left code (m₀ .w) (k .n) b (recsIn k m₀ (o .counts)) at rest
+  pub left : Left (modeOf (k .mode)) code (m₀ .w) (k .n) b (recsIn k m₀ (o .counts)) at rest
   pub so-far : St → St
   pub did : Did (k .rooms) so-far (stOf k m₀ o) 0 (stOf k m cur)
   pub same : (mid : St) → clear mid ≡ stOf k m₀ o
@@ -58,8 +59,8 @@ pub record Halfway (code : List ℕ) (k : Plan) (t : Turn) (since start : ℕ) (
 
 -- ---- what is left depends on W's rows alone
 
-left-rows : {code w w′ : List ℕ} {n b at : ℕ} {rs : List Rec} {ps : List Parent} → SameRows n w′ w → Left code w n b rs at ps
-    → Left code w′ n b rs at ps
+left-rows : {mode : ℕ} {code w w′ : List ℕ} {n b at : ℕ} {rs : List Rec} {ps : List Parent} → SameRows n w′ w → Left mode code w n b rs at ps
+    → Left mode code w′ n b rs at ps
 left-rows e none-left = none-left
 left-rows {w = w} {w′} {n} e (direct-left some p h c) = direct-left some (parents-prefix w w′ n e p) h c
 left-rows e (found-left h) = found-left h
@@ -74,12 +75,12 @@ did-spend k m cur = record { short = λ l h mid e z. z; made = λ mid e z. rw ad
 module _ {code : List ℕ} {k : Plan} {t : Turn} {since start : ℕ} {l : Level} {m₀ : Mem} {o : Run} {b : ℕ} {m : Mem} {cur : Run} {at : ℕ}
     (f : Fits code k t since start m₀ (o .counts)) (stands : Stands k m₀ (o .counts) l) (inside : b ≤ k .n)
     (h : Halfway code k t since start l m₀ o b m cur at) (d : at ≡ 0 → ⊥) where
-  pub half-next : NextLeft code (m .w) (m .r) (m .q) (m .s) (k .n) b (o .counts .records) (k .rooms .s) (cur .counts .records) (recsIn k m₀ (o .counts)) at (h .rest)
+  pub half-next : NextLeft (modeOf (k .mode)) code (m .w) (m .r) (m .q) (m .s) (k .n) b (o .counts .records) (k .rooms .s) (cur .counts .records) (recsIn k m₀ (o .counts)) at (h .rest)
   half-next =
       next-left (o .counts .records) (h .fits .planned .lentW .short) inside (omega (arith, h .fits .planned .lentW .room)) (h .fits .tables) (h .stays .rows)
       (sym (h .stays .older)) (h .stays .more) (f .sound) (h .left) d
 
-  half-left : Left code (m₀ .w) (k .n) b (recsIn k m₀ (o .counts)) (nextCursor (m .w) (m .r) (k .n) b (o .counts .records) at) (half-next .rest)
+  half-left : Left (modeOf (k .mode)) code (m₀ .w) (k .n) b (recsIn k m₀ (o .counts)) (nextCursor (m .w) (m .r) (k .n) b (o .counts .records) at) (half-next .rest)
   half-left = left-rows (h .stays .rows) (half-next .left)
 
   -- of the parents left the one at the cursor is the first

@@ -7,16 +7,16 @@ use native.Mathlib.Omega.{arith}
 use lib.ListN.{length}
 use Rattle.spec.specs.Lists.{lastOf, keep}
 use Rattle.spec.specs.Search.{St, Turn, Rec, Parent, parents}
-use Rattle.spec.specs.Answer.{prepared}
 use Rattle.lent.specs.Bytes.{Holds}
 use Rattle.layout.specs.Buffers.{Mem}
 use Rattle.reachable.specs.Marks.{markedBy}
 use Rattle.reachable.specs.Contracts.{Address}
 use Rattle.parents.specs.Links.{directTo}
+use Rattle.state.specs.Modes.{modeOf}
 use Rattle.tables.specs.Addrs.{addrs}
 use Rattle.steps.specs.Cursors.{firstCursor, nextCursor, lastCursor, AtBlock, Cursor, Asks, foundTo, live}
 use Rattle.steps.specs.Runs.{recsIn}
-use Rattle.resolver.specs.Fits.{Fits, levelOf, held}
+use Rattle.resolver.specs.Fits.{Fits, levelOf, held, preparedIn}
 use Rattle.resolver.specs.Levels.{spentWith, Opened, Leveled, Trying, Tried}
 use Rattle.steps.specs.declared.Plan.{Plan}
 use Rattle.steps.specs.declared.Level.{Level}
@@ -67,7 +67,7 @@ module _ {code : List ℕ} {k : Plan} {start : ℕ} {l : Level} {m₀ : Mem} {o 
         fits = f;
         stays = stays-none;
         counts = pre .on-its;
-        rest = directTo b (prepared code) ++ foundTo b (recsIn k m₀ (o .counts));
+        rest = directTo b (preparedIn k code) ++ foundTo b (recsIn k m₀ (o .counts));
         left = rw (e, f .planned .is) (first-left (rw (f .planned .is) at (f .tables)) (f .known) b (omega (arith, level-block, f .planned .is)) (o .counts .records) refl);
         so-far = λ s. s;
         did = did-nothing;
@@ -75,8 +75,8 @@ module _ {code : List ℕ} {k : Plan} {start : ℕ} {l : Level} {m₀ : Mem} {o 
             level-tries (k .limit) t (l .left) (levelOf m₀ l) mid
             ∙ ap (λ (ps : List Parent). those k t l m₀ ps mid)
             (ap (λ (a : ℕ). parents t a mid) level-last
-            ∙ level-parents code t b mid (f .stored)
-            ∙ ap (λ (rs : List Rec). keep (live (t .reached) rs) (directTo b (prepared code) ++ foundTo b rs)) (ap (λ (s : St). s .recs) i));
+            ∙ level-parents (modeOf (k .mode)) code t b mid (f .stored)
+            ∙ ap (λ (rs : List Rec). keep (live (t .reached) rs) (directTo b (preparedIn k code) ++ foundTo b rs)) (ap (λ (s : St). s .recs) i));
       };
     }
 
@@ -110,7 +110,7 @@ module _ {code : List ℕ} {k : Plan} {start : ℕ} {l : Level} {m₀ : Mem} {o 
     }
 
     module _ (d : at ≡ 0 → ⊥) where
-      next : NextLeft code (m .w) (m .r) (m .q) (m .s) (k .n) b (o .counts .records) (k .rooms .s) (cur .counts .records) (recsIn k m₀ (o .counts)) at (here .rest)
+      next : NextLeft (modeOf (k .mode)) code (m .w) (m .r) (m .q) (m .s) (k .n) b (o .counts .records) (k .rooms .s) (cur .counts .records) (recsIn k m₀ (o .counts)) at (here .rest)
       next = half-next (pre .fits) (pre .stands) (g .block) here d
 
       pub going-cursor : Cursor (m .w) (m .r) (k .n) at

@@ -5,6 +5,7 @@ use mathlib.Core.Bool.{_||_}
 use mathlib.Core.List.{List}
 use Prim.Native.Nat.{ℕ, _+_, _≤_}
 use lib.ListN.{length, take, drop}
+use Rattle.spec.specs.Opcodes.{in-mode}
 use Rattle.spec.specs.Lists.{mem, total}
 use Rattle.spec.specs.Search.{Rec, kept, begin, dests, reached-by}
 use Rattle.spec.specs.Answer.{prepared}
@@ -13,6 +14,8 @@ use Rattle.lent.proofs.Once.{Same, same-num}
 use Rattle.layout.specs.Buffers.{Mem}
 use Rattle.layout.specs.Fields.{COUNT, countAt}
 use Rattle.layout.specs.Parts.{fieldsPlace, SameRows}
+use Rattle.state.specs.Modes.{modeOf}
+use Rattle.state.specs.declared.mode.Mode.{Mode}
 use Rattle.tables.specs.declared.Counts.{Counts}
 use Rattle.tables.proofs.Counted.{recs-length, recs-addresses, recs-kept-cells}
 use Rattle.tables.proofs.Alike.{AllBytes, AllLong, OneTables, one-tables}
@@ -22,17 +25,17 @@ use Rattle.steps.specs.declared.Run.{Run}
 use Rattle.resolver.specs.Turns.{last-since, plan, Searched}
 
 -- what two results share where the number is 0
-pub record OneSearch (code : List ℕ) (limit head : ℕ) (m m′ m″ : Mem) (d e : Run) : Type 0 where
+pub record OneSearch (mode : Mode) (code : List ℕ) (limit head : ℕ) (m m′ m″ : Mem) (d e : Run) : Type 0 where
   pub run : d ≡ e
-  pub recs : recsIn (plan code limit head m) m′ (d .counts) ≡ recsIn (plan code limit head m) m″ (d .counts)
-  pub tables : OneTables (length code) (plan code limit head m .buckets) (plan code limit head m .rooms) (d .counts) (tabled m′) (tabled m″)
+  pub recs : recsIn (plan mode code limit head m) m′ (d .counts) ≡ recsIn (plan mode code limit head m) m″ (d .counts)
+  pub tables : OneTables (length code) (plan mode code limit head m .buckets) (plan mode code limit head m .rooms) (d .counts) (tabled m′) (tabled m″)
   pub rows : SameRows (length code) (m″ .w) (m′ .w)
   pub counts : (a : ℕ) → a ≤ length code → Same (m′ .w) (m″ .w) (fieldsPlace (length code) a + COUNT) 4
   pub beyond : drop (work-need (length code)) (m′ .w) ≡ drop (work-need (length code)) (m″ .w)
   pub flags : (x : ℕ) → mem x (flagged (m′ .w) (length code)) ≡ mem x (flagged (m″ .w) (length code))
   pub reached : (a : ℕ) → a ≤ length code → markedBy (m′ .w) (length code) a (d .counts .records + 1) ≡ markedBy (m″ .w) (length code) a (d .counts .records + 1)
 
-module _ {code : List ℕ} {limit head : ℕ} {m m′ m″ : Mem} {d e : Run} (f : Searched code limit head m m′ d) (g : Searched code limit head m m″ e) where
+module _ {mode : Mode} {code : List ℕ} {limit head : ℕ} {m m′ m″ : Mem} {d e : Run} (f : Searched mode code limit head m m′ d) (g : Searched mode code limit head m m″ e) where
   pub one-code : d .code ≡ e .code
   one-code =
       let l : Lent = record { w = 0; p = length (m .p); s = length (m .s); t = length (m .t); r = length (m .r); q = length (m .q); out = 0 } in
@@ -42,14 +45,14 @@ module _ {code : List ℕ} {limit head : ℕ} {m m′ m″ : Mem} {d e : Run} (f
     other : e .code ≡ 0
     other = sym one-code ∙ z
 
-    found-recs : recsIn (plan code limit head m) m′ (d .counts) ≡ recsIn (plan code limit head m) m″ (e .counts)
+    found-recs : recsIn (plan mode code limit head m) m′ (d .counts) ≡ recsIn (plan mode code limit head m) m″ (e .counts)
     found-recs = f .recs z ∙ sym (g .recs other)
 
     one-counts : d .counts ≡ e .counts
     one-counts =
         let p = f .between z .idle in
         let q = g .between other .idle in
-        let room = plan code limit head m .rooms .s in
+        let room = plan mode code limit head m .rooms .s in
         let records : d .counts .records ≡ e .counts .records =
         sym (recs-length (m′ .r) (m′ .q) (m′ .s) room (d .counts .records)) ∙ ap length found-recs ∙ recs-length (m″ .r) (m″ .q) (m″ .s) room (e .counts .records) in
         let addresses : d .counts .addresses ≡ e .counts .addresses =
@@ -62,8 +65,8 @@ module _ {code : List ℕ} {limit head : ℕ} {m m′ m″ : Mem} {d e : Run} (f
         let rows = p .rowless ∙ sym (q .rowless) in
         λ i. record { records = records i; addresses = addresses i; kept = cells i; used = used i; rows = rows i }
 
-    same-recs : recsIn (plan code limit head m) m′ (d .counts) ≡ recsIn (plan code limit head m) m″ (d .counts)
-    same-recs = found-recs ∙ ap (recsIn (plan code limit head m) m″) (sym one-counts)
+    same-recs : recsIn (plan mode code limit head m) m′ (d .counts) ≡ recsIn (plan mode code limit head m) m″ (d .counts)
+    same-recs = found-recs ∙ ap (recsIn (plan mode code limit head m) m″) (sym one-counts)
 
     one-run : d ≡ e
     one-run =
@@ -76,18 +79,18 @@ module _ {code : List ℕ} {limit head : ℕ} {m m′ m″ : Mem} {d e : Run} (f
     one-flags : (x : ℕ) → mem x (flagged (m′ .w) (length code)) ≡ mem x (flagged (m″ .w) (length code))
     one-flags x =
         f .between z .flags x
-        ∙ ap (λ (rs : List Rec). mem x (reached-by (prepared code) (take (last-since 128 limit (prepared code) 0 begin) rs))) found-recs
+        ∙ ap (λ (rs : List Rec). mem x (reached-by (prepared (in-mode (modeOf mode)) code) (take (last-since 128 limit (prepared (in-mode (modeOf mode)) code) 0 begin) rs))) found-recs
         ∙ sym (g .between other .flags x)
 
     one-reached : (a : ℕ) → a ≤ length code → markedBy (m′ .w) (length code) a (d .counts .records + 1) ≡ markedBy (m″ .w) (length code) a (d .counts .records + 1)
     one-reached a h =
         f .reached z a h
-        ∙ ap (λ (rs : List Rec). mem a (reached-by (prepared code) (take (last-since 128 limit (prepared code) 0 begin) rs)) || mem a (dests rs)) found-recs
+        ∙ ap (λ (rs : List Rec). mem a (reached-by (prepared (in-mode (modeOf mode)) code) (take (last-since 128 limit (prepared (in-mode (modeOf mode)) code) 0 begin) rs)) || mem a (dests rs)) found-recs
         ∙ sym (g .reached other a h)
         ∙ ap (λ (c : Counts). markedBy (m″ .w) (length code) a (c .records + 1)) (sym one-counts)
 
     -- a slice keeps its length, and holds bytes
-    pub one-searched : AllBytes (tabled m′) → AllBytes (tabled m″) → AllLong (tabled m′) (tabled m″) → OneSearch code limit head m m′ m″ d e
+    pub one-searched : AllBytes (tabled m′) → AllBytes (tabled m″) → AllLong (tabled m′) (tabled m″) → OneSearch mode code limit head m m′ m″ d e
     one-searched a b long =
         record {
           run = one-run;

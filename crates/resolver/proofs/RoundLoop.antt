@@ -12,7 +12,6 @@ use lib.Seq.{take-all, take-take}
 use borrow.Author.Tests.{lt-ltb, le-ltb, eq-eqb, ne-eqb}
 use Rattle.spec.specs.Lists.{if, mem}
 use Rattle.spec.specs.Search.{Taker, takers, Parent, direct, dests, St, turn-of, turn, round}
-use Rattle.spec.specs.Answer.{prepared}
 use Rattle.laws.proofs.Branch.{if-true, if-false, and-false}
 use Rattle.laws.proofs.Members.{In, here, there, and-true}
 use Rattle.laws.proofs.Lists.{Rising, one-more, rising-from}
@@ -22,6 +21,7 @@ use Rattle.theorems.proofs.Older.{clear}
 use Rattle.layout.specs.Parts.{ROW, rowPlace, SameRows}
 use Rattle.layout.specs.Rows.{takerAt}
 use Rattle.layout.specs.Buffers.{Mem}
+use Rattle.state.specs.Modes.{modeOf}
 use Rattle.tables.proofs.Counted.{recs-length}
 use Rattle.tables.specs.declared.Rooms.{Rooms}
 use Rattle.parents.specs.Links as links
@@ -34,6 +34,7 @@ use Rattle.reachable.specs.Contracts.{Address}
 use Rattle.steps.specs.Runs.{recsIn, stOf, Did}
 use Rattle.steps.specs.declared.Plan.{Plan}
 use Rattle.steps.specs.declared.Run.{Run}
+use Rattle.resolver.specs.Fits.{preparedIn}
 use Rattle.resolver.specs.Turns.{Idle, Passed, TurnAsks, Turned, RoundAsks, Rounded}
 use Rattle.resolver.proofs.Sequence.{did-then, did-stops, did-same}
 use Rattle.resolver.proofs.SixLengths.{Long, long-same, long-then}
@@ -96,8 +97,8 @@ marked-is {k = k} {reached} {since} {a} {m} {o} idle h =
 -- what the blocks that are left do from here ends where the whole round ends
 pub record Went (code : List ℕ) (k : Plan) (reached : List ℕ) (left : List Taker) (m₀ : Mem) (o₀ : Run) (m : Mem) (o : Run) : Type 0 where
   pub idle : Idle code k reached (o₀ .counts .records) m o
-  pub rest : (y : ℕ) (b : St) → Did (k .rooms) (round (k .limit) (direct (prepared code)) reached left) (stOf k m o) y b
-      → Did (k .rooms) (round (k .limit) (direct (prepared code)) reached (takers (prepared code))) (stOf k m₀ o₀) y b
+  pub rest : (y : ℕ) (b : St) → Did (k .rooms) (round (k .limit) (direct (preparedIn k code)) reached left) (stOf k m o) y b
+      → Did (k .rooms) (round (k .limit) (direct (preparedIn k code)) reached (takers (preparedIn k code))) (stOf k m₀ o₀) y b
   pub flags : flagged (m .w) (k .n) ≡ flagged (m₀ .w) (k .n)
   pub rows : SameRows (k .n) (m₀ .w) (m .w)
   pub beyond : drop (k .end) (m .w) ≡ drop (k .end) (m₀ .w)
@@ -107,7 +108,7 @@ pub record Going (code : List ℕ) (k : Plan) (m₀ : Mem) (o₀ : Run) (by : �
   pub left : List Taker
   pub chain : Takers (m .w) (length code) link (map turnOf left)
   pub rises : Rising 0 (takerStarts left)
-  pub among : (x : Taker) → In x left → In x (takers (prepared code))
+  pub among : (x : Taker) → In x left → In x (takers (preparedIn k code))
   pub long : Long m₀ m
   pub by-is : by ≡ o₀ .counts .records + 1
   pub went : (reached : List ℕ) → Idle code k reached (o₀ .counts .records) m₀ o₀ → Went code k reached left m₀ o₀ m o
@@ -119,9 +120,9 @@ linksLeft n link = if (eqb link 0) 0 (n + 2 - link)
 pub round-begins : {code : List ℕ} {k : Plan} {m : Mem} {o : Run} {by : ℕ} → RoundAsks code k m o → by ≡ o .counts .records + 1 → Going code k m o by m o (k .head)
 round-begins {code} {k} {m} {o} a e =
     record {
-      left = takers (prepared code);
+      left = takers (preparedIn k code);
       chain = a .idle .known .takers;
-      rises = takers-rise code;
+      rises = takers-rise (modeOf (k .mode)) code;
       among = λ x i. i;
       long = long-same;
       by-is = e;
@@ -193,10 +194,10 @@ module _ {code : List ℕ} {k : Plan} {m₀ m : Mem} {o₀ o : Run} {by link : �
   this : Next code (m .w) (g .left) link
   this = next (g .left) (g .chain) some
 
-  took : In (this .x) (takers (prepared code))
+  took : In (this .x) (takers (preparedIn k code))
   took = g .among (this .x) (subst (λ (l : List Taker). In (this .x) l) (sym (this .is)) here)
 
-  others : (x : Taker) → In x (this .xs) → In x (takers (prepared code))
+  others : (x : Taker) → In x (this .xs) → In x (takers (preparedIn k code))
   others x i = g .among x (subst (λ (l : List Taker). In x l) (sym (this .is)) (there i))
 
   rest-rises : Rising (suc (this .x .start)) (takerStarts (this .xs))
@@ -260,11 +261,11 @@ module _ {code : List ℕ} {k : Plan} {m₀ m : Mem} {o₀ o : Run} {by link : �
     spent mid e = ap (λ (s : St). s .energy) e
 
     skips : {b : St} {y : ℕ} → (mem (this .x .start) reached ≡ false) ⊎ (k .limit ≤ o .energy)
-        → Did (k .rooms) (round (k .limit) (direct (prepared code)) reached (this .xs)) (stOf k m o) y b
-        → Did (k .rooms) (round (k .limit) (direct (prepared code)) reached (this .x ∷ this .xs)) (stOf k m o) y b
-    skips (inl f) = did-skip (k .limit) (direct (prepared code)) reached (this .x) (this .xs) (λ mid e. rw f)
+        → Did (k .rooms) (round (k .limit) (direct (preparedIn k code)) reached (this .xs)) (stOf k m o) y b
+        → Did (k .rooms) (round (k .limit) (direct (preparedIn k code)) reached (this .x ∷ this .xs)) (stOf k m o) y b
+    skips (inl f) = did-skip (k .limit) (direct (preparedIn k code)) reached (this .x) (this .xs) (λ mid e. rw f)
     skips (inr h) =
-        did-skip (k .limit) (direct (prepared code)) reached (this .x) (this .xs)
+        did-skip (k .limit) (direct (preparedIn k code)) reached (this .x) (this .xs)
         (λ mid e. and-false (mem (this .x .start) reached) (le-ltb (mid .energy) (k .limit) (omega (arith, spent mid e, h))))
 
     taking-it : mem (this .x .start) reached ≡ true → o .energy < k .limit → (mid : St) → clear mid ≡ stOf k m o
@@ -301,7 +302,7 @@ module _ {code : List ℕ} {k : Plan} {m₀ m : Mem} {o₀ o : Run} {by link : �
   module _ {b : Bool} {m′ : Mem} {d : Run} (f : b ≡ markedBy (m .w) (k .n) (link - 1) by) (marked : b ≡ true) (left : o .energy < k .limit)
       (turned : Turned code k (link - 1) m o m′ d) where
     came : {reached : List ℕ} → Idle code k reached (o₀ .counts .records) m₀ o₀
-        → Passed code k reached (o₀ .counts .records) (turn (k .limit) (turn-of (direct (prepared code)) reached (this .x)) (this .x .position)) m o m′ d
+        → Passed code k reached (o₀ .counts .records) (turn (k .limit) (turn-of (direct (preparedIn k code)) reached (this .x)) (this .x .position)) m o m′ d
     came {reached} idle = turned reached (o₀ .counts .records) (w idle .idle) (this .x) took (this .start)
 
     takes-it : {reached : List ℕ} (idle : Idle code k reached (o₀ .counts .records) m₀ o₀) (mid : St) → clear mid ≡ stOf k m o
@@ -311,7 +312,7 @@ module _ {code : List ℕ} {k : Plan} {m₀ m : Mem} {o₀ o : Run} {by link : �
     pub round-refused : (d .code ≡ 0 → ⊥) → Rounded code k m₀ o₀ m′ d
     round-refused n reached idle =
         passed-refused n
-        (w idle .rest (d .code) (stOf k m′ d) (did-refused (k .limit) (direct (prepared code)) reached (this .x) (this .xs) (takes-it idle) (came idle .did) n))
+        (w idle .rest (d .code) (stOf k m′ d) (did-refused (k .limit) (direct (preparedIn k code)) reached (this .x) (this .xs) (takes-it idle) (came idle .did) n))
 
     module _ (z : d .code ≡ 0) where
       went-on : {reached : List ℕ} → Idle code k reached (o₀ .counts .records) m₀ o₀ → Went code k reached (this .xs) m₀ o₀ m′ d
@@ -321,7 +322,7 @@ module _ {code : List ℕ} {k : Plan} {m₀ m : Mem} {o₀ o : Run} {by link : �
           record {
             idle = c .idle z;
             rest = λ y b r. v .rest y b
-                (did-take (k .limit) (direct (prepared code)) reached (this .x) (this .xs) (takes-it idle) (c .did) z r);
+                (did-take (k .limit) (direct (preparedIn k code)) reached (this .x) (this .xs) (takes-it idle) (c .did) z r);
             flags = c .flags z ∙ v .flags;
             rows = c .rows z ∙ v .rows;
             beyond = c .beyond z ∙ v .beyond;
@@ -348,7 +349,7 @@ module _ {code : List ℕ} {k : Plan} {m₀ m : Mem} {o₀ o : Run} {by link : �
 pub round-done : {code : List ℕ} {k : Plan} {m₀ m : Mem} {o₀ o : Run} {by link : ℕ} → Going code k m₀ o₀ by m o link → link ≡ 0 → Rounded code k m₀ o₀ m o
 round-done {code} {k} {m₀} {m} {o₀} {o} g z reached idle =
     let v = subst (λ (l : List Taker). Went code k reached l m₀ o₀ m o) (none (g .left) (end-takers (g .chain) z)) (g .went reached idle) in
-    let all = v .rest 0 (stOf k m o) (did-none (k .limit) (direct (prepared code)) reached) in
+    let all = v .rest 0 (stOf k m o) (did-none (k .limit) (direct (preparedIn k code)) reached) in
     record { did = rw (v .idle .unrefused) all; idle = λ _. v .idle; flags = λ _. v .flags; rows = λ _. v .rows; beyond = λ _. v .beyond; older = λ _. v .older }
   where
     none : (left : List Taker) → map turnOf left ≡ [] → left ≡ []

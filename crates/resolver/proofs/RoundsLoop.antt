@@ -10,7 +10,6 @@ use lib.Seq.{take-all}
 use borrow.Author.Tests.{lt-ltb, le-ltb, eq-eqb, ne-eqb}
 use Rattle.spec.specs.Lists.{if}
 use Rattle.spec.specs.Search.{Node, Rec, St, takers, direct, round, rounds, reached-by}
-use Rattle.spec.specs.Answer.{prepared}
 use Rattle.laws.proofs.Branch.{both, if-true, if-false}
 use Rattle.theorems.proofs.Older.{clear}
 use Rattle.theorems.proofs.Carried.{carry-rounds}
@@ -20,6 +19,7 @@ use Rattle.layout.specs.Parts.{bucketsPlace, SameRows}
 use Rattle.layout.specs.Buffers.{Mem, buffers}
 use Rattle.tables.proofs.Counted.{recs-length}
 use Rattle.steps.specs.Runs.{recsIn, stOf, Did}
+use Rattle.resolver.specs.Fits.{preparedIn}
 use Rattle.resolver.specs.Turns.{Idle, Passed, Between, RoundAsks, Rounded, Settles, Settled, last-since, Reached, Rounds}
 use Rattle.steps.specs.declared.Plan.{Plan}
 use Rattle.steps.specs.declared.Run.{Run}
@@ -73,10 +73,10 @@ pub record Rolling (code : List ℕ) (k : Plan) (m₀ : Mem) (o : Run) (m : Mem)
   pub rows : SameRows (k .n) (m₀ .w) (m .w)
   pub beyond : drop (k .end) (m .w) ≡ drop (k .end) (m₀ .w)
   pub long : Long m₀ m
-  pub ends : (number : ℕ) (b : St) → Did (k .rooms) (rounds left (k .limit) (prepared code)) (stOf k m cur) number b
-      → Did (k .rooms) (rounds 128 (k .limit) (prepared code)) (stOf k m₀ o) number b
-  pub lasts : (x : ℕ) → ((mid : St) → clear mid ≡ stOf k m cur → last-since left (k .limit) (prepared code) since mid ≡ x)
-      → last-since 128 (k .limit) (prepared code) 0 (stOf k m₀ o) ≡ x
+  pub ends : (number : ℕ) (b : St) → Did (k .rooms) (rounds left (k .limit) (preparedIn k code)) (stOf k m cur) number b
+      → Did (k .rooms) (rounds 128 (k .limit) (preparedIn k code)) (stOf k m₀ o) number b
+  pub lasts : (x : ℕ) → ((mid : St) → clear mid ≡ stOf k m cur → last-since left (k .limit) (preparedIn k code) since mid ≡ x)
+      → last-since 128 (k .limit) (preparedIn k code) 0 (stOf k m₀ o) ≡ x
 
 pub roll-start : {code : List ℕ} {k : Plan} {m : Mem} {o : Run} → Between code k 0 m o → Rolling code k m o m o 0 128
 roll-start {k = k} {m = m} {o = o} b = record {
@@ -92,7 +92,7 @@ roll-start {k = k} {m = m} {o = o} b = record {
 
 -- the marks say what is reached, once all records are counted
 pub between-marked : {code : List ℕ} {k : Plan} {m : Mem} {cur : Run} {since : ℕ} → Between code k since m cur
-    → Reached (prepared code) (k .n) (m .w) since (cur .counts .records) (recsIn k m (cur .counts))
+    → Reached (preparedIn k code) (k .n) (m .w) since (cur .counts .records) (recsIn k m (cur .counts))
 between-marked {k = k} {m = m} {cur = cur} b a h =
     let i = b .idle in
     let long = recs-length (m .r) (m .q) (m .s) (k .rooms .s) (cur .counts .records) in
@@ -100,8 +100,8 @@ between-marked {k = k} {m = m} {cur = cur} b a h =
 
 module _ {code : List ℕ} {k : Plan} {m₀ : Mem} {o : Run} {m : Mem} {cur : Run} {since left : ℕ} (g : Rolling code k m₀ o m cur since left) where
   -- the loop is left with what there is
-  roll-out : Did (k .rooms) (rounds left (k .limit) (prepared code)) (stOf k m cur) 0 (stOf k m cur)
-      → ((mid : St) → clear mid ≡ stOf k m cur → last-since left (k .limit) (prepared code) since mid ≡ since) → Rounds code k m₀ o m cur
+  roll-out : Did (k .rooms) (rounds left (k .limit) (preparedIn k code)) (stOf k m cur) 0 (stOf k m cur)
+      → ((mid : St) → clear mid ≡ stOf k m cur → last-since left (k .limit) (preparedIn k code) since mid ≡ since) → Rounds code k m₀ o m cur
   roll-out d stays = record {
     did = rw (g .between .idle .unrefused) (g .ends 0 (stOf k m cur) d);
     between = λ _. rw (g .lasts since stays) (g .between);
@@ -112,15 +112,15 @@ module _ {code : List ℕ} {k : Plan} {m₀ : Mem} {o : Run} {m : Mem} {cur : Ru
   -- all rounds are done
   pub roll-done : left ≡ 0 → Rounds code k m₀ o m cur
   unfolding rounds last-since
-  roll-done z = roll-out (did-same (λ s. s) (rounds left (k .limit) (prepared code)) (λ mid _. rw z) did-nothing) (λ mid _. rw z)
+  roll-done z = roll-out (did-same (λ s. s) (rounds left (k .limit) (preparedIn k code)) (λ mid _. rw z) did-nothing) (λ mid _. rw z)
 
   -- the limit is reached
   pub roll-limit : (left ≡ 0 → ⊥) → k .limit ≤ cur .energy → Rounds code k m₀ o m cur
   roll-limit ne l =
       let is : suc (left - 1) ≡ left = omega (arith, ne) in
-      roll-out (did-same (λ s. s) (rounds left (k .limit) (prepared code))
-      (λ mid e. rw is at (rounds-stop (k .limit) (prepared code) (left - 1) mid (omega (arith, l, ap (λ (s : St). s .energy) e)))) did-nothing)
-      (λ mid e. rw is at (last-stop (k .limit) (prepared code) (left - 1) mid since (omega (arith, l, ap (λ (s : St). s .energy) e))))
+      roll-out (did-same (λ s. s) (rounds left (k .limit) (preparedIn k code))
+      (λ mid e. rw is at (rounds-stop (k .limit) (preparedIn k code) (left - 1) mid (omega (arith, l, ap (λ (s : St). s .energy) e)))) did-nothing)
+      (λ mid e. rw is at (last-stop (k .limit) (preparedIn k code) (left - 1) mid since (omega (arith, l, ap (λ (s : St). s .energy) e))))
 
 -- ---- a round
 
@@ -133,41 +133,41 @@ module _ {code : List ℕ} {k : Plan} {m₀ : Mem} {o : Run} {w p s t r q : List
     abbrev recs : List Rec
     recs = recsIn k (buffers w p s t r q) (cur .counts)
 
-    renewal : Idle code k (reached-by (prepared code) recs) (cur .counts .records) (buffers w₁ p s t r q) cur
+    renewal : Idle code k (reached-by (preparedIn k code) recs) (cur .counts .records) (buffers w₁ p s t r q) cur
     renewal = renewed (g .between .idle) (g .between .flags) e
 
     pub roll-asks : RoundAsks code k (buffers w₁ p s t r q) cur
-    roll-asks = record { reached = reached-by (prepared code) recs; idle = renewal }
+    roll-asks = record { reached = reached-by (preparedIn k code) recs; idle = renewal }
 
     module _ (ne : left ≡ 0 → ⊥) (l : cur .energy < k .limit) {m′ : Mem} {d : Run} (v : Rounded code k (buffers w₁ p s t r q) cur m′ d) where
       settled-long : Long (buffers w p s t r q) (buffers w₁ p s t r q)
       settled-long = record { w = e .kept .long; p = refl; s = refl; t = refl; r = refl; q = refl }
 
-      came : Passed code k (reached-by (prepared code) recs) (cur .counts .records) (rolled (k .limit) (prepared code) recs) (buffers w₁ p s t r q) cur m′ d
-      came = v (reached-by (prepared code) recs) renewal
+      came : Passed code k (reached-by (preparedIn k code) recs) (cur .counts .records) (rolled (k .limit) (preparedIn k code) recs) (buffers w₁ p s t r q) cur m′ d
+      came = v (reached-by (preparedIn k code) recs) renewal
 
       -- the state of document 01 goes on to what follows the round
       goes : (mid : St) → clear mid ≡ stOf k (buffers w p s t r q) cur
-          → rounds left (k .limit) (prepared code) mid ≡ next (k .limit) (prepared code) (left - 1) (length recs) (rolled (k .limit) (prepared code) recs mid)
+          → rounds left (k .limit) (preparedIn k code) mid ≡ next (k .limit) (preparedIn k code) (left - 1) (length recs) (rolled (k .limit) (preparedIn k code) recs mid)
       goes mid h =
           let is : suc (left - 1) ≡ left = omega (arith, ne) in
-          rw is at (rounds-go (k .limit) (prepared code) (left - 1) mid recs (ap (λ (x : St). x .recs) h) (omega (arith, l, ap (λ (x : St). x .energy) h)))
+          rw is at (rounds-go (k .limit) (preparedIn k code) (left - 1) mid recs (ap (λ (x : St). x .recs) h) (omega (arith, l, ap (λ (x : St). x .energy) h)))
 
       goes-last : (mid : St) → clear mid ≡ stOf k (buffers w p s t r q) cur
-          → last-since left (k .limit) (prepared code) since mid ≡ last (k .limit) (prepared code) (left - 1) (length recs) (rolled (k .limit) (prepared code) recs mid)
+          → last-since left (k .limit) (preparedIn k code) since mid ≡ last (k .limit) (preparedIn k code) (left - 1) (length recs) (rolled (k .limit) (preparedIn k code) recs mid)
       goes-last mid h =
           let is : suc (left - 1) ≡ left = omega (arith, ne) in
-          rw is at (last-go (k .limit) (prepared code) (left - 1) mid since recs (ap (λ (x : St). x .recs) h) (omega (arith, l, ap (λ (x : St). x .energy) h)))
+          rw is at (last-go (k .limit) (preparedIn k code) (left - 1) mid since recs (ap (λ (x : St). x .recs) h) (omega (arith, l, ap (λ (x : St). x .energy) h)))
 
       before : length recs ≡ cur .counts .records
       before = recs-length r q s (k .rooms .s) (cur .counts .records)
 
-      after : (mid : St) → clear mid ≡ stOf k (buffers w p s t r q) cur → d .code ≡ 0 → length (rolled (k .limit) (prepared code) recs mid .recs) ≡ d .counts .records
+      after : (mid : St) → clear mid ≡ stOf k (buffers w p s t r q) cur → d .code ≡ 0 → length (rolled (k .limit) (preparedIn k code) recs mid .recs) ≡ d .counts .records
       after mid h z = ap (λ (x : St). length (x .recs)) (came .did .made mid h z) ∙ recs-length (m′ .r) (m′ .q) (m′ .s) (k .rooms .s) (d .counts .records)
 
       -- the round recorded nothing
       abbrev idled : St → Bool
-      idled mid = eqb (length (rolled (k .limit) (prepared code) recs mid .recs)) (length recs)
+      idled mid = eqb (length (rolled (k .limit) (preparedIn k code) recs mid .recs)) (length recs)
 
       still : (mid : St) → clear mid ≡ stOf k (buffers w p s t r q) cur → d .code ≡ 0 → d .counts .records ≡ cur .counts .records → idled mid ≡ true
       still mid h z no-more = eq-eqb _ _ (after mid h z ∙ no-more ∙ sym before)
@@ -192,8 +192,8 @@ module _ {code : List ℕ} {k : Plan} {m₀ : Mem} {o : Run} {w p s t r q : List
       -- a shortage
       pub roll-short : (d .code ≡ 0 → ⊥) → Rounds code k m₀ o m′ d
       roll-short nz = record {
-        did = g .ends (d .code) (stOf k m′ d) (did-same (λ x. next (k .limit) (prepared code) (left - 1) (length recs) (rolled (k .limit) (prepared code) recs x)) (rounds left (k .limit) (prepared code)) goes
-            (did-stops (rolled (k .limit) (prepared code) recs) (next (k .limit) (prepared code) (left - 1) (length recs)) (next-later (k .limit) (prepared code) (left - 1) (length recs)) (came .did) nz));
+        did = g .ends (d .code) (stOf k m′ d) (did-same (λ x. next (k .limit) (preparedIn k code) (left - 1) (length recs) (rolled (k .limit) (preparedIn k code) recs x)) (rounds left (k .limit) (preparedIn k code)) goes
+            (did-stops (rolled (k .limit) (preparedIn k code) recs) (next (k .limit) (preparedIn k code) (left - 1) (length recs)) (next-later (k .limit) (preparedIn k code) (left - 1) (length recs)) (came .did) nz));
         between = λ z. absurd (nz z);
         rows = λ z. absurd (nz z);
         beyond = λ z. absurd (nz z);
@@ -202,7 +202,7 @@ module _ {code : List ℕ} {k : Plan} {m₀ : Mem} {o : Run} {w p s t r q : List
       -- no record more
       pub roll-last : d .code ≡ 0 → d .counts .records ≡ cur .counts .records → Rounds code k m₀ o m′ d
       roll-last z no-more = record {
-        did = g .ends (d .code) (stOf k m′ d) (did-same (rolled (k .limit) (prepared code) recs) (rounds left (k .limit) (prepared code))
+        did = g .ends (d .code) (stOf k m′ d) (did-same (rolled (k .limit) (preparedIn k code) recs) (rounds left (k .limit) (preparedIn k code))
             (λ mid h. goes mid h ∙ if-true _ _ _ (still mid h z no-more)) (came .did));
         between = λ _. rw (g .lasts (cur .counts .records) (λ mid h. goes-last mid h ∙ if-true _ _ _ (still mid h z no-more) ∙ before)) (later-between z);
         rows = λ _. later-rows z;
@@ -217,9 +217,9 @@ module _ {code : List ℕ} {k : Plan} {m₀ : Mem} {o : Run} {w p s t r q : List
         rows = later-rows z;
         beyond = later-beyond z;
         long = long-then (g .long) (long-then settled-long long);
-        ends = λ number b rest. g .ends number b (did-same (λ x. rounds (left - 1) (k .limit) (prepared code) (rolled (k .limit) (prepared code) recs x)) (rounds left (k .limit) (prepared code))
+        ends = λ number b rest. g .ends number b (did-same (λ x. rounds (left - 1) (k .limit) (preparedIn k code) (rolled (k .limit) (preparedIn k code) recs x)) (rounds left (k .limit) (preparedIn k code))
             (λ mid h. goes mid h ∙ if-false _ _ _ (grown mid h z more))
-            (did-then (rolled (k .limit) (prepared code) recs) (rounds (left - 1) (k .limit) (prepared code)) (came .did) z rest));
+            (did-then (rolled (k .limit) (preparedIn k code) recs) (rounds (left - 1) (k .limit) (preparedIn k code)) (came .did) z rest));
         lasts = λ x rest. g .lasts x (λ mid h.
-            goes-last mid h ∙ if-false _ _ _ (grown mid h z more) ∙ rw before (rest (rolled (k .limit) (prepared code) recs mid) (came .did .made mid h z)));
+            goes-last mid h ∙ if-false _ _ _ (grown mid h z more) ∙ rw before (rest (rolled (k .limit) (preparedIn k code) recs mid) (came .did .made mid h z)));
       }

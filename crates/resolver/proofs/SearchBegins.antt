@@ -6,6 +6,7 @@ use Prim.Native.Nat.{ℕ, _+_, _*_, _≤_}
 use native.Mathlib.Omega.{arith}
 use lib.Dec.{ltb, leb}
 use lib.ListN.{length, take, drop, replicate, length-replicate}
+use Rattle.spec.specs.Opcodes.{in-mode}
 use Rattle.spec.specs.Lists.{if, mem}
 use Rattle.spec.specs.Blocks.{Block}
 use Rattle.spec.specs.Search as search
@@ -23,6 +24,8 @@ use Rattle.lent.proofs.Stored.{stored, kept-take, kept-drop, kept-num, read-num
 use Rattle.layout.specs.Fields.{FIRST-FOUND, LAST-FOUND, FLAG, markAt}
 use Rattle.layout.specs.Parts.{bucketsOf, rowsEnd, fieldsPlace, bucketsPlace, bucketPlace, SameRows}
 use Rattle.layout.specs.Buffers.{Mem, buffers}
+use Rattle.state.specs.Modes.{modeOf}
+use Rattle.state.specs.declared.mode.Mode.{Mode}
 use Rattle.tables.specs.Records.{recsOf}
 use Rattle.tables.specs.Rows.{metOf}
 use Rattle.tables.specs.Tables.{NoLinks}
@@ -52,18 +55,18 @@ use Rattle.resolver.proofs.RoundsLoop.{between-marked}
 -- ---- what `reach` asks
 
 -- the rows' blocks have their sides in the code
-pub known-within : {code w : List ℕ} {head : ℕ} → Known code w head → SidesWithin w (length code)
-known-within {code} {w} k = blocks-within w (length code) side
+pub known-within : {mode : ℕ} {code w : List ℕ} {head : ℕ} → Known mode code w head → SidesWithin w (length code)
+known-within {mode} {code} {w} k = blocks-within w (length code) side
   where
     side : (b : Block) (t : ℕ) → In b (blocksAt w (length code)) → In t (sides (b .kind)) → t ≤ length code
     side b t i j =
-        let g = in-map (λ (x : Node). x .block) (prepared code) (rw (k .blocks) at i) in
+        let g = in-map (λ (x : Node). x .block) (prepared (in-mode mode) code) (rw (k .blocks) at i) in
         let there : In t (sides (g .0 .block .kind)) = rw (g .2) at j in
-        direct-within code {p = parent t (g .0 .block .start ∷ []) (g .0 .own .stack)}
+        direct-within mode code {p = parent t (g .0 .block .start ∷ []) (g .0 .own .stack)}
         (gather-in (λ (x : Node). map (λ (u : ℕ). parent u (x .block .start ∷ []) (x .own .stack)) (sides (x .block .kind))) (g .1)
         (map-in (λ (u : ℕ). parent u (g .0 .block .start ∷ []) (g .0 .own .stack)) there))
 
-pub search-room : {code w : List ℕ} {limit head : ℕ} → SearchAsks code w limit head → reachable.Room (length code) w
+pub search-room : {mode : Mode} {code w : List ℕ} {limit head : ℕ} → SearchAsks mode code w limit head → reachable.Room (length code) w
 search-room a = record { short = a .short; room = a .lent }
 
 -- ---- a mark of 1, or none
@@ -75,7 +78,7 @@ fresh-mark false = refl
 
 -- ---- W once the heads of the buckets are wiped
 
-module _ {code w w₁ w₂ : List ℕ} {limit head : ℕ} (a : SearchAsks code w limit head) (r : Reaches (length code) w w₁)
+module _ {mode : Mode} {code w w₁ w₂ : List ℕ} {limit head : ℕ} (a : SearchAsks mode code w limit head) (r : Reaches (length code) w w₁)
     (s : Stored (4 * bucketsOf (length code)) w₁ (bucketsPlace (length code)) (replicate (4 * bucketsOf (length code)) 0) w₂) where
   abbrev n : ℕ
   n = length code
@@ -117,19 +120,19 @@ module _ {code w w₁ w₂ : List ℕ} {limit head : ℕ} (a : SearchAsks code w
   same-flagged : flagged w₂ n ≡ flagged w₁ n
   same-flagged = flagged-same w₁ w₂ n (λ x h. stays 1 (fieldsPlace n x + FLAG) (omega arith))
 
-  begin-flags : (x : ℕ) → mem x (flagged w₂ n) ≡ mem x (reached-by (prepared code) [])
-  begin-flags x = rw same-flagged (r .reached x ∙ rw (node-edges w n (prepared code) (a .known .blocks)))
+  begin-flags : (x : ℕ) → mem x (flagged w₂ n) ≡ mem x (reached-by (prepared (in-mode (modeOf mode)) code) [])
+  begin-flags x = rw same-flagged (r .reached x ∙ rw (node-edges w n (prepared (in-mode (modeOf mode)) code) (a .known .blocks)))
 
   begin-marks : (x : ℕ) → x ≤ n → markAt w₂ n x ≡ if (mem x (flagged w₂ n)) 1 0
   begin-marks x h = stays 4 (fieldsPlace n x) (omega arith) ∙ rw same-flagged (r .fresh .marks x h)
 
   -- ---- what `rounds` asks
 
-  module _ (p q r′ s′ t t₁ : List ℕ) (e : Emptied (plan code limit head (buffers w p s′ t r′ q) .shelves) t t₁) where
+  module _ (p q r′ s′ t t₁ : List ℕ) (e : Emptied (plan mode code limit head (buffers w p s′ t r′ q) .shelves) t t₁) where
     abbrev k : Plan
-    k = plan code limit head (buffers w p s′ t r′ q)
+    k = plan mode code limit head (buffers w p s′ t r′ q)
 
-    begin-idle : Idle code k (reached-by (prepared code) []) 0 (buffers w₂ p s′ t₁ r′ q) begunRun
+    begin-idle : Idle code k (reached-by (prepared (in-mode (modeOf mode)) code) []) 0 (buffers w₂ p s′ t₁ r′ q) begunRun
     unfolding recsOf occurs
     begin-idle = record {
       planned = record {
@@ -180,10 +183,10 @@ module _ {code w w₁ w₂ : List ℕ} {limit head : ℕ} (a : SearchAsks code w
       dests-in = λ x h. not-both h refl;
     }
       where
-        by : (j : ℕ) → j ≤ 0 → (x : ℕ) → x ≤ n → markedBy w₂ n x (j + 1) ≡ mem x (reached-by (prepared code) []) || mem x (dests (take j []))
+        by : (j : ℕ) → j ≤ 0 → (x : ℕ) → x ≤ n → markedBy w₂ n x (j + 1) ≡ mem x (reached-by (prepared (in-mode (modeOf mode)) code) []) || mem x (dests (take j []))
         by j m x h =
             let z : j ≡ 0 = omega arith in
-            rw (z, begin-marks x h) (fresh-mark (mem x (flagged w₂ n)) ∙ begin-flags x ∙ sym (or-false (mem x (reached-by (prepared code) []))))
+            rw (z, begin-marks x h) (fresh-mark (mem x (flagged w₂ n)) ∙ begin-flags x ∙ sym (or-false (mem x (reached-by (prepared (in-mode (modeOf mode)) code) []))))
 
     begin-between : Between code k 0 (buffers w₂ p s′ t₁ r′ q) begunRun
     begin-between = record { idle = begin-idle; flags = begin-flags }
@@ -205,26 +208,26 @@ module _ {code w w₁ w₂ : List ℕ} {limit head : ℕ} (a : SearchAsks code w
     begins = refl
 
     module _ {m′ : Mem} {d : Run} (f : Rounds code k (buffers w₂ p s′ t₁ r′ q) begunRun m′ d) where
-      made : d .code ≡ 0 → clear (search.search limit (prepared code)) ≡ stOf k m′ d
+      made : d .code ≡ 0 → clear (search.search limit (prepared (in-mode (modeOf mode)) code)) ≡ stOf k m′ d
       unfolding search.search
       made = f .did .made begin begins
 
-      short : (l : Lent) → Lends l (k .rooms) → shortage l (search.search limit (prepared code) .needs) ≡ d .code
+      short : (l : Lent) → Lends l (k .rooms) → shortage l (search.search limit (prepared (in-mode (modeOf mode)) code) .needs) ≡ d .code
       unfolding search.search shortage
       short l h = f .did .short l h begin begins refl
 
-      energy : d .code ≡ 0 → d .energy ≡ search.search limit (prepared code) .energy
+      energy : d .code ≡ 0 → d .energy ≡ search.search limit (prepared (in-mode (modeOf mode)) code) .energy
       energy z = sym (ap (λ (x : St). x .energy) (made z))
 
-      between : d .code ≡ 0 → Between code k (last-since 128 limit (prepared code) 0 begin) m′ d
+      between : d .code ≡ 0 → Between code k (last-since 128 limit (prepared (in-mode (modeOf mode)) code) 0 begin) m′ d
       between z = rw begins (f .between z)
 
-      begin-searched : Searched code limit head (buffers w p s′ t r′ q) m′ d
+      begin-searched : Searched mode code limit head (buffers w p s′ t r′ q) m′ d
       begin-searched = record {
         short = λ l ep es et er eq. sym (short l (lends l ep es et er eq));
         recs = λ z. sym (ap (λ (x : St). x .recs) (made z));
         energy = energy;
-        energy-most = λ z. omega (arith, energy z, search-energy limit (prepared code));
+        energy-most = λ z. omega (arith, energy z, search-energy limit (prepared (in-mode (modeOf mode)) code));
         between = between;
         rows = λ z. f .rows z ∙ begin-rows;
         beyond = λ z. f .beyond z ∙ begin-beyond;
@@ -233,22 +236,22 @@ module _ {code w w₁ w₂ : List ℕ} {limit head : ℕ} (a : SearchAsks code w
 
 -- ---- the same, by the values that the functions give
 
-pub search-heads : {code w : List ℕ} {limit head : ℕ} {rooms : Rooms} {k : Plan} → k ≡ planOf (length code) limit head rooms → SearchAsks code w limit head
+pub search-heads : {mode : Mode} {code w : List ℕ} {limit head : ℕ} {rooms : Rooms} {k : Plan} → k ≡ planOf mode (length code) limit head rooms → SearchAsks mode code w limit head
     → (bucketPlace (length code) (k .buckets) ≤ length w) × (4 * k .buckets ≤ 500000)
 search-heads ek a = let is = ap (λ (x : Plan). x .buckets) ek in (omega (arith, a .lent, is), omega (arith, a .short, is))
 
-pub search-begins : {n limit head : ℕ} {rooms : Rooms} {k : Plan} (t : List ℕ) → k ≡ planOf n limit head rooms → rooms .t ≡ units (length t) 32 → Begins (k .shelves) t
+pub search-begins : {mode : Mode} {n limit head : ℕ} {rooms : Rooms} {k : Plan} (t : List ℕ) → k ≡ planOf mode n limit head rooms → rooms .t ≡ units (length t) 32 → Begins (k .shelves) t
 search-begins t ek e = record { inT = omega (arith, ap (λ (x : Plan). x .shelves) ek, e) }
 
-module _ {code w p s t r q : List ℕ} {limit head : ℕ} {rooms : Rooms} {k : Plan} (er : rooms ≡ roomsOf p s t r q) (ek : k ≡ planOf (length code) limit head rooms) where
-  module _ {w₁ w₂ t₁ : List ℕ} {o : Run} (a : SearchAsks code w limit head) (e : Reaches (length code) w w₁)
+module _ {mode : Mode} {code w p s t r q : List ℕ} {limit head : ℕ} {rooms : Rooms} {k : Plan} (er : rooms ≡ roomsOf p s t r q) (ek : k ≡ planOf mode (length code) limit head rooms) where
+  module _ {w₁ w₂ t₁ : List ℕ} {o : Run} (a : SearchAsks mode code w limit head) (e : Reaches (length code) w w₁)
       (h : Stored (4 * k .buckets) w₁ (bucketsPlace (length code)) (replicate (4 * k .buckets) 0) w₂) (f : Emptied (k .shelves) t t₁) (eo : o ≡ begunRun) where
     pub search-asks : Between code k 0 (buffers w₂ p s t₁ r q) o
     search-asks =
-        let is : k ≡ plan code limit head (buffers w p s t r q) = ek ∙ ap (planOf (length code) limit head) er in
+        let is : k ≡ plan mode code limit head (buffers w p s t r q) = ek ∙ ap (planOf mode (length code) limit head) er in
         rw (is, eo) (begin-between a e (rw is at h) p q r s t t₁ (rw is at f))
 
-    pub search-done : {m′ : Mem} {d : Run} → Rounds code k (buffers w₂ p s t₁ r q) o m′ d → Searched code limit head (buffers w p s t r q) m′ d
+    pub search-done : {m′ : Mem} {d : Run} → Rounds code k (buffers w₂ p s t₁ r q) o m′ d → Searched mode code limit head (buffers w p s t r q) m′ d
     search-done g =
-        let is : k ≡ plan code limit head (buffers w p s t r q) = ek ∙ ap (planOf (length code) limit head) er in
+        let is : k ≡ plan mode code limit head (buffers w p s t r q) = ek ∙ ap (planOf mode (length code) limit head) er in
         begin-searched a e (rw is at h) p q r s t t₁ (rw is at f) (rw (is, eo) at g)

@@ -18,6 +18,7 @@ use Rattle.theorems.proofs.Carried.{carry-arrive}
 use Rattle.lent.specs.Bytes.{numAt}
 use Rattle.layout.specs.Records.{toAt, keptOf}
 use Rattle.layout.specs.Buffers.{Mem, buffers}
+use Rattle.state.specs.Modes.{modeOf}
 use Rattle.state.specs.Symbols.{symOf}
 use Rattle.state.specs.Cells.{stackAt, State, Lies}
 use Rattle.state.specs.Owns.{roomOf}
@@ -82,7 +83,7 @@ module _ {code : List ℕ} {k : Plan} {start : ℕ} {l : Level} {at np : ℕ} {w
   M = buffers w p s t r q
 
   abbrev par : Stack
-  par = stackCursor code r s (k .rooms .s) at
+  par = stackCursor (modeOf (k .mode)) code r s (k .rooms .s) at
 
   abbrev child : Stack
   child = stackAt s (9 * l .from) (l .cells)
@@ -120,7 +121,7 @@ module _ {code : List ℕ} {k : Plan} {start : ℕ} {l : Level} {at np : ℕ} {w
         near = omega (arith, z .near, z .room, f .planned .mostP);
       }
 
-  module _ {w′ s′ : List ℕ} {x : Taken} (a : Took code w s k (o .counts) l (stackCursor code r s (k .rooms .s) at) w′ s′ x) where
+  module _ {w′ s′ : List ℕ} {x : Taken} (a : Took code w s k (o .counts) l (stackCursor (modeOf (k .mode)) code r s (k .rooms .s) at) w′ s′ x) where
     abbrev new : Stack
     new = compose child par
 

@@ -4,11 +4,11 @@ use mathlib.Core.List.{List, [], _∷_}
 use Prim.Native.Nat.{ℕ, _+_, _-_, _*_, _^_, _≤_, _<_}
 use native.Mathlib.Omega.{arith}
 use lib.ListN.{length, take, drop}
+use Rattle.spec.specs.Opcodes.{in-mode}
 use Rattle.spec.specs.Lists.{little, total}
 use Rattle.spec.specs.Walk.{instructions}
 use Rattle.spec.specs.Stacks.{cells, run}
 use Rattle.spec.specs.Search.{Taker, Rec, Met, kept, St, Turn, turn-of, direct, in-use}
-use Rattle.spec.specs.Answer.{prepared}
 use Rattle.laws.proofs.Members.{in-only}
 use Rattle.theorems.proofs.Older.{clear}
 use Rattle.lent.specs.Bytes.{Stored}
@@ -17,6 +17,7 @@ use Rattle.lent.proofs.Stored.{kept-drop, read-back}
 use Rattle.layout.specs.Parts.{ROW, rowPlace, rowsEnd}
 use Rattle.layout.specs.Rows.{POSITION, positionAt}
 use Rattle.layout.specs.Buffers.{Mem, buffers}
+use Rattle.state.specs.Modes.{modeOf}
 use Rattle.state.specs.Cells.{Lies}
 use Rattle.state.specs.Owns.{Runs, Owned}
 use Rattle.state.specs.declared.run.Own.{Own}
@@ -31,7 +32,7 @@ use Rattle.steps.specs.Runs.{recsIn, stOf}
 use Rattle.steps.specs.declared.Plan.{Plan}
 use Rattle.steps.specs.declared.Level.{Level}
 use Rattle.steps.specs.declared.Run.{Run}
-use Rattle.resolver.specs.Fits.{Fits, levelOf, Stands}
+use Rattle.resolver.specs.Fits.{Fits, levelOf, Stands, preparedIn}
 use Rattle.resolver.specs.Turns.{Idle, begunWith, Places, Placed}
 use Rattle.resolver.proofs.WorkKept.{Alike, alike-then, alike-counts, alike-run, counts-run, alike-marks, alike-known, alike-room}
 use Rattle.resolver.proofs.TakerRow.{Taking}
@@ -88,7 +89,7 @@ module _ {code : List ℕ} {k : Plan} {reached : List ℕ} {since : ℕ} {m : Me
       let met-cells = ap (λ (s : St). total (λ (x : Met). cells (x .stack)) (s .met)) e ∙ ap (total (λ (x : Met). cells (x .stack))) none in
       omega (arith, kept-cells, met-cells)
 
-  module _ {start : ℕ} {x : Taker} (taking : Taking code (m .w) (k .n) start x) where
+  module _ {start : ℕ} {x : Taker} (taking : Taking (modeOf (k .mode)) code (m .w) (k .n) start x) where
     pub taker-small : start < 2 ^ 16
     taker-small = omega (arith, taking .inside, idle .planned .lentW .short)
 
@@ -97,7 +98,7 @@ module _ {code : List ℕ} {k : Plan} {reached : List ℕ} {since : ℕ} {m : Me
         let g = idle .planned in
         record { stands = taking .comes; short = omega (arith, g .is, g .lentW .short); inside = g .ends; room = omega (arith, g .scratch) }
 
-    module _ {w₁ : List ℕ} {own : Own} (owned : Owned code start (m .w) (k .end) w₁ own) where
+    module _ {w₁ : List ℕ} {own : Own} (owned : Owned (modeOf (k .mode)) code start (m .w) (k .end) w₁ own) where
       pub own-cells : own .n ≡ cells (x .first)
       own-cells = lies-count (owned .lies) ∙ ap cells (sym (taking .first))
 
@@ -123,7 +124,7 @@ module _ {code : List ℕ} {k : Plan} {reached : List ℕ} {since : ℕ} {m : Me
         pub begun-alike : Alike (k .n) (k .buckets) (m .w) w₂
         begun-alike = alike-then ran (alike-counts (placed .counted .only) (k .buckets))
 
-        lies : Lies s₁ 0 (own .n) (run code (instructions code) start .stack)
+        lies : Lies s₁ 0 (own .n) (run (in-mode (modeOf (k .mode))) code (instructions code) start .stack)
         lies = lies-copied (placed .copied) (owned .lies)
 
         top : drop (9 * (k .rooms .s - o .counts .kept)) s₁ ≡ drop (9 * (k .rooms .s - o .counts .kept)) (m .s)
@@ -139,7 +140,7 @@ module _ {code : List ℕ} {k : Plan} {reached : List ℕ} {since : ℕ} {m : Me
             let none : [] ≡ metOf (m .t) (m .s) (o .counts .rows) = rw (idle .rowless) in
             λ i. record { recs = begun-recs i; energy = o .energy; met = none i; needs = [] }
 
-        pub begun-fits : x .start ≡ start → Fits code k (turn-of (direct (prepared code)) reached x) since start now (begunWith o (own .n) .counts)
+        pub begun-fits : x .start ≡ start → Fits code k (turn-of (direct (preparedIn k code)) reached x) since start now (begunWith o (own .n) .counts)
         unfolding usedOf
         begun-fits is =
             let g = idle .planned in

@@ -10,7 +10,6 @@ use Rattle.spec.specs.Lists.{mem}
 use Rattle.spec.specs.Stacks.{cells}
 use Rattle.spec.specs.Search as search
 use Rattle.spec.specs.Search.{Taker, takers, direct, P, S, Rec, dests, St, need, forget, Turn, turn-of, in-use, level, turn}
-use Rattle.spec.specs.Answer.{prepared}
 use Rattle.laws.proofs.Members.{In}
 use Rattle.theorems.proofs.Carried.{carry-level}
 use Rattle.theorems.proofs.Growth.{Later, later}
@@ -18,6 +17,7 @@ use Rattle.theorems.proofs.Older.{clear}
 use Rattle.lent.proofs.Parts.{drop-more}
 use Rattle.layout.specs.Parts.{listPlace, SameRows}
 use Rattle.layout.specs.Buffers.{Mem, buffers}
+use Rattle.state.specs.Modes.{modeOf}
 use Rattle.state.specs.Owns.{Runs, Owned}
 use Rattle.state.specs.declared.run.Own.{Own}
 use Rattle.tables.specs.Addrs.{addrs}
@@ -33,7 +33,7 @@ use Rattle.steps.specs.Runs.{recsIn, stOf, Did}
 use Rattle.steps.specs.declared.Plan.{Plan}
 use Rattle.steps.specs.declared.Level.{Level}
 use Rattle.steps.specs.declared.Run.{Run}
-use Rattle.resolver.specs.Fits.{Fits, levelOf}
+use Rattle.resolver.specs.Fits.{Fits, levelOf, preparedIn}
 use Rattle.resolver.specs.Levels.{Came, Opened, Leveled}
 use Rattle.resolver.specs.Enters.{refusedWith}
 use Rattle.resolver.specs.Turns.{Idle, Passed, begunWith, endedWith, Places, Placed, TurnAsks, Turned}
@@ -97,26 +97,26 @@ did-forget {a = a} {b} r e n z =
 
 -- ---- what a turn asks
 
-pub asks-taking : {code : List ℕ} {k : Plan} {start : ℕ} {m : Mem} {o : Run} (a : TurnAsks code k start m o) → Taking code (m .w) (k .n) start (a .taker)
-asks-taking {code} a =
+pub asks-taking : {code : List ℕ} {k : Plan} {start : ℕ} {m : Mem} {o : Run} (a : TurnAsks code k start m o) → Taking (modeOf (k .mode)) code (m .w) (k .n) start (a .taker)
+asks-taking {code} {k} a =
     let g = a .idle .planned in
-    taking code (g .is) (g .lentW .short) (a .idle .known) (a .takes) (a .is)
+    taking (modeOf (k .mode)) code (g .is) (g .lentW .short) (a .idle .known) (a .takes) (a .is)
 
 pub turn-runs : {code : List ℕ} {k : Plan} {start : ℕ} {m : Mem} {o : Run} → TurnAsks code k start m o → Runs code start (m .w) (k .end)
 turn-runs a = begins.run-asks (a .idle) (asks-taking a)
 
 pub turn-places : {code w w₁ p s t r q : List ℕ} {k : Plan} {start : ℕ} {o : Run} {own : Own} → TurnAsks code k start (buffers w p s t r q) o
-    → (k .rooms .p ≡ 0 → ⊥) → Owned code start w (k .end) w₁ own → o .counts .kept + own .n ≤ k .rooms .s → Places w₁ p s k start own
+    → (k .rooms .p ≡ 0 → ⊥) → Owned (modeOf (k .mode)) code start w (k .end) w₁ own → o .counts .kept + own .n ≤ k .rooms .s → Places w₁ p s k start own
 turn-places a some owned room = begins.place-asks (a .idle) (asks-taking a) owned some room
 
 pub turn-opens : {code w w₁ w₂ p p₁ s s₁ t r q : List ℕ} {k : Plan} {start : ℕ} {o b : Run} {own : Own} {l : Level} → TurnAsks code k start (buffers w p s t r q) o
-    → (k .rooms .p ≡ 0 → ⊥) → Owned code start w (k .end) w₁ own → o .counts .kept + own .n ≤ k .rooms .s → Placed w₁ p s k start own w₂ p₁ s₁ l
+    → (k .rooms .p ≡ 0 → ⊥) → Owned (modeOf (k .mode)) code start w (k .end) w₁ own → o .counts .kept + own .n ≤ k .rooms .s → Placed w₁ p s k start own w₂ p₁ s₁ l
     → b ≡ begunWith o (own .n) → Opened code k start l (buffers w₂ p₁ s₁ t r q) b
 turn-opens {code} {k = k} {start} a some owned room placed e =
     let x = asks-taking a in
     rw (placed .is, e)
     (record {
-      turn = turn-of (direct (prepared code)) (a .reached) (a .taker);
+      turn = turn-of (direct (preparedIn k code)) (a .reached) (a .taker);
       since = a .since;
       fits = begins.begun-fits (a .idle) x owned room placed (a .is);
       stands = begins.begun-stands (a .idle) x owned room placed some;
@@ -134,14 +134,14 @@ passed-refused n d = record { did = d; idle = λ z. absurd (n z); flags = λ z. 
 
 pub turn-short-p : {code : List ℕ} {k : Plan} {start : ℕ} {m : Mem} {o d : Run} → k .rooms .p ≡ 0 → d ≡ refusedWith o 4 → Turned code k start m o m d
 turn-short-p {code} {k} {start} {m} {o} z e reached since idle x takes is =
-    rw e (passed-refused (λ n. omega (arith, n)) (short-p (k .limit) (turn-of (direct (prepared code)) reached x) (x .position) z))
+    rw e (passed-refused (λ n. omega (arith, n)) (short-p (k .limit) (turn-of (direct (preparedIn k code)) reached x) (x .position) z))
 
-pub turn-short-s : {code w w₁ p s t r q : List ℕ} {k : Plan} {start : ℕ} {o d : Run} {own : Own} → (k .rooms .p ≡ 0 → ⊥) → Owned code start w (k .end) w₁ own
+pub turn-short-s : {code w w₁ p s t r q : List ℕ} {k : Plan} {start : ℕ} {o d : Run} {own : Own} → (k .rooms .p ≡ 0 → ⊥) → Owned (modeOf (k .mode)) code start w (k .end) w₁ own
     → k .rooms .s < o .counts .kept + own .n → d ≡ refusedWith o 5 → Turned code k start (buffers w p s t r q) o (buffers w₁ p s t r q) d
 turn-short-s {code} {k = k} some owned short e reached since idle x takes is =
     let g = idle .planned in
-    let y = taking code (g .is) (g .lentW .short) (idle .known) takes is in
-    let t : Turn = turn-of (direct (prepared code)) reached x in
+    let y = taking (modeOf (k .mode)) code (g .is) (g .lentW .short) (idle .known) takes is in
+    let t : Turn = turn-of (direct (preparedIn k code)) reached x in
     rw e
     (passed-refused (λ n. omega (arith, n))
     (short-s (k .limit) t (x .position) (begins.begun-uses idle t) (omega (arith, some)) (omega (arith, short, begins.own-cells idle y owned))))
@@ -157,14 +157,14 @@ pub record Leveling (code : List ℕ) (k : Plan) (start : ℕ) (m : Mem) (o : Ru
   pub w₂ : List ℕ
   pub l : Level
   pub some : k .rooms .p ≡ 0 → ⊥
-  pub owned : Owned code start (m .w) (k .end) w₁ own
+  pub owned : Owned (modeOf (k .mode)) code start (m .w) (k .end) w₁ own
   pub room : o .counts .kept + own .n ≤ k .rooms .s
   pub placed : Placed w₁ (m .p) (m .s) k start own w₂ p₁ s₁ l
   pub leveled : Leveled code k start (record { np = 1; position = l .position; from = 0; cells = own .n; left = 255 }) (buffers w₂ p₁ s₁ (m .t) (m .r) (m .q))
       (begunWith o (own .n)) m′ d
 
 pub leveling : {code w w₁ w₂ p p₁ s s₁ t r q : List ℕ} {k : Plan} {start : ℕ} {m′ : Mem} {o b d : Run} {own : Own} {l : Level} → (k .rooms .p ≡ 0 → ⊥)
-    → Owned code start w (k .end) w₁ own → o .counts .kept + own .n ≤ k .rooms .s → Placed w₁ p s k start own w₂ p₁ s₁ l → b ≡ begunWith o (own .n)
+    → Owned (modeOf (k .mode)) code start w (k .end) w₁ own → o .counts .kept + own .n ≤ k .rooms .s → Placed w₁ p s k start own w₂ p₁ s₁ l → b ≡ begunWith o (own .n)
     → Leveled code k start l (buffers w₂ p₁ s₁ t r q) b m′ d → Leveling code k start (buffers w p s t r q) o m′ d
 leveling {w₁ = w₁} {w₂} {p₁ = p₁} {s₁ = s₁} {own = own} {l} some owned room placed e leveled =
     record { w₁ = w₁; own = own; s₁ = s₁; p₁ = p₁; w₂ = w₂; l = l; some = some; owned = owned; room = room; placed = placed; leveled = rw (placed .is, e) at leveled }
@@ -176,12 +176,12 @@ module _ {code : List ℕ} {k : Plan} {start : ℕ} {m m′ : Mem} {o d : Run} (
   abbrev first : Level
   first = record { np = 1; position = h .l .position; from = 0; cells = h .own .n; left = 255 }
 
-  module _ {reached : List ℕ} {since : ℕ} (idle : Idle code k reached since m o) {x : Taker} (takes : In x (takers (prepared code))) (is : x .start ≡ start) where
+  module _ {reached : List ℕ} {since : ℕ} (idle : Idle code k reached since m o) {x : Taker} (takes : In x (takers (preparedIn k code))) (is : x .start ≡ start) where
     abbrev its : Turn
-    its = turn-of (direct (prepared code)) reached x
+    its = turn-of (direct (preparedIn k code)) reached x
 
-    takes-it : Taking code (m .w) (k .n) start x
-    takes-it = let g = idle .planned in taking code (g .is) (g .lentW .short) (idle .known) takes is
+    takes-it : Taking (modeOf (k .mode)) code (m .w) (k .n) start x
+    takes-it = let g = idle .planned in taking (modeOf (k .mode)) code (g .is) (g .lentW .short) (idle .known) takes is
 
     alike : Alike (k .n) (k .buckets) (m .w) (h .w₂)
     alike = begins.begun-alike idle takes-it (h .owned) (h .room) (h .placed)

@@ -101,7 +101,7 @@ module _ {n buckets : ℕ} {w w′ : List ℕ} (e : Alike n buckets w w′) wher
   pub alike-marks : {reached : List ℕ} {since : ℕ} {rs : List Rec} → Marks n w reached since rs → Marks n w′ reached since rs
   alike-marks m = record { by = λ j s l a h. rw (e .marks a h) (m .by j s l a h); most = λ a h. rw (e .marks a h) (m .most a h) }
 
-  pub alike-known : {code : List ℕ} {head : ℕ} → n ≡ length code → Known code w head → Known code w′ head
+  pub alike-known : {mode : ℕ} {code : List ℕ} {head : ℕ} → n ≡ length code → Known mode code w head → Known mode code w′ head
   alike-known is k = known-prefix w′ (sym (rw is at (e .rows))) k
 
   pub alike-room : Room n w → Room n w′

@@ -6,6 +6,7 @@ use mathlib.Core.Logic.{_⊎_}
 use mathlib.Core.Bool.{true, not, _&&_, _||_}
 use lib.Dec.{eqb, ltb}
 use lib.ListN.{length, take, drop}
+use Rattle.spec.specs.Opcodes.{in-mode}
 use Rattle.spec.specs.Lists.{if, mem, little}
 use Rattle.spec.specs.Search as search
 use Rattle.spec.specs.Search.{Node, Taker, takers, direct, Rec, dests, St, begin, turn-of, turn, round, rounds, reached-by}
@@ -20,6 +21,8 @@ use Rattle.layout.specs.Parts.{bucketsOf, SameRows}
 use Rattle.layout.specs.Records.{recordPlace, toAt}
 use Rattle.layout.specs.Rows.{positionAt}
 use Rattle.layout.specs.Buffers.{Mem}
+use Rattle.state.specs.Modes.{modeOf}
+use Rattle.state.specs.declared.mode.Mode.{Mode}
 use Rattle.state.specs.declared.run.Own.{Own}
 use Rattle.tables.specs.Tables.{Tables}
 use Rattle.tables.specs.Mets.{Remembers}
@@ -35,7 +38,7 @@ use Rattle.steps.specs.Runs.{tabled, recsIn, stOf, Did}
 use Rattle.steps.specs.declared.Plan.{Plan}
 use Rattle.steps.specs.declared.Level.{Level}
 use Rattle.steps.specs.declared.Run.{Run}
-use Rattle.resolver.specs.Fits.{Planned}
+use Rattle.resolver.specs.Fits.{Planned, preparedIn}
 
 -- ---- between turns
 
@@ -44,7 +47,7 @@ pub record Idle (code : List ℕ) (k : Plan) (reached : List ℕ) (since : ℕ) 
   pub planned : Planned code k m
   pub tables : Tables (k .n) (k .buckets) (k .rooms) (tabled m) (o .counts)
   pub remembers : Remembers (k .shelves) (k .rooms) (m .t) (m .s) (o .counts)
-  pub known : Known code (m .w) (k .head)
+  pub known : Known (modeOf (k .mode)) code (m .w) (k .head)
   pub began : since ≤ o .counts .records
   pub marks : Marks (k .n) (m .w) reached since (recsIn k m (o .counts))
   pub sound : SoundRecs (k .n) (recsIn k m (o .counts))
@@ -101,14 +104,14 @@ pub record TurnAsks (code : List ℕ) (k : Plan) (start : ℕ) (m : Mem) (o : Ru
   pub since : ℕ
   pub idle : Idle code k reached since m o
   pub taker : Taker
-  pub takes : In taker (takers (prepared code))
+  pub takes : In taker (takers (preparedIn k code))
   pub is : taker .start ≡ start
   pub energy : o .energy < k .limit
 
 abbrev pub Turned : List ℕ → Plan → ℕ → Mem → Run → Mem → Run → Type 0
 Turned code k start m o m′ d =
-    (reached : List ℕ) (since : ℕ) → Idle code k reached since m o → (x : Taker) → In x (takers (prepared code)) → x .start ≡ start
-    → Passed code k reached since (turn (k .limit) (turn-of (direct (prepared code)) reached x) (x .position)) m o m′ d
+    (reached : List ℕ) (since : ℕ) → Idle code k reached since m o → (x : Taker) → In x (takers (preparedIn k code)) → x .start ≡ start
+    → Passed code k reached since (turn (k .limit) (turn-of (direct (preparedIn k code)) reached x) (x .position)) m o m′ d
 
 -- ---- a round
 
@@ -119,7 +122,7 @@ pub record RoundAsks (code : List ℕ) (k : Plan) (m : Mem) (o : Run) : Type 0 w
 abbrev pub Rounded : List ℕ → Plan → Mem → Run → Mem → Run → Type 0
 Rounded code k m o m′ d =
     (reached : List ℕ) → Idle code k reached (o .counts .records) m o
-    → Passed code k reached (o .counts .records) (round (k .limit) (direct (prepared code)) reached (takers (prepared code))) m o m′ d
+    → Passed code k reached (o .counts .records) (round (k .limit) (direct (preparedIn k code)) reached (takers (preparedIn k code))) m o m′ d
 
 -- ---- what is reached when a round begins
 
@@ -147,8 +150,8 @@ pub record Settled (n : ℕ) (w r : List ℕ) (since records : ℕ) (w′ : List
 
 -- between rounds: what the first `since` records lead to is flagged, and counts as reached
 pub record Between (code : List ℕ) (k : Plan) (since : ℕ) (m : Mem) (o : Run) : Type 0 where
-  pub idle : Idle code k (reached-by (prepared code) (take since (recsIn k m (o .counts)))) since m o
-  pub flags : (x : ℕ) → mem x (flagged (m .w) (k .n)) ≡ mem x (reached-by (prepared code) (take since (recsIn k m (o .counts))))
+  pub idle : Idle code k (reached-by (preparedIn k code) (take since (recsIn k m (o .counts)))) since m o
+  pub flags : (x : ℕ) → mem x (flagged (m .w) (k .n)) ≡ mem x (reached-by (preparedIn k code) (take since (recsIn k m (o .counts))))
 
 -- How many records there were when the last of document 01's `rounds` began; where none takes place, those when the round before began. Each step is that
 -- of `rounds`.
@@ -166,8 +169,8 @@ Reached ns n w since records recs = (a : ℕ) → a ≤ n → markedBy w n a (re
 
 -- the code is the first shortage of all rounds, and where it is 0 the buffers hold what they make
 pub record Rounds (code : List ℕ) (k : Plan) (m : Mem) (o : Run) (m′ : Mem) (d : Run) : Type 0 where
-  pub did : Did (k .rooms) (rounds 128 (k .limit) (prepared code)) (stOf k m o) (d .code) (stOf k m′ d)
-  pub between : d .code ≡ 0 → Between code k (last-since 128 (k .limit) (prepared code) 0 (stOf k m o)) m′ d
+  pub did : Did (k .rooms) (rounds 128 (k .limit) (preparedIn k code)) (stOf k m o) (d .code) (stOf k m′ d)
+  pub between : d .code ≡ 0 → Between code k (last-since 128 (k .limit) (preparedIn k code) 0 (stOf k m o)) m′ d
   pub rows : d .code ≡ 0 → SameRows (k .n) (m .w) (m′ .w)
   pub beyond : d .code ≡ 0 → drop (k .end) (m′ .w) ≡ drop (k .end) (m .w)
 
@@ -176,8 +179,8 @@ pub record Rounds (code : List ℕ) (k : Plan) (m : Mem) (o : Run) (m′ : Mem) 
 abbrev pub roomsOf : List ℕ → List ℕ → List ℕ → List ℕ → List ℕ → Rooms
 roomsOf p s t r q = record { p = units (length p) 2; s = units (length s) 9; t = units (length t) 32; r = units (length r) 32; q = units (length q) 2 }
 
-abbrev pub planOf : ℕ → ℕ → ℕ → Rooms → Plan
-planOf n limit head rooms =
+abbrev pub planOf : Mode → ℕ → ℕ → ℕ → Rooms → Plan
+planOf mode n limit head rooms =
     record {
       n = n;
       end = work-need n;
@@ -186,33 +189,34 @@ planOf n limit head rooms =
       shelves = min (rooms .t) 0x10000;
       limit = limit;
       rooms = rooms;
+      mode = mode;
     }
 
-abbrev pub plan : List ℕ → ℕ → ℕ → Mem → Plan
-plan code limit head m = planOf (length code) limit head (roomsOf (m .p) (m .s) (m .t) (m .r) (m .q))
+abbrev pub plan : Mode → List ℕ → ℕ → ℕ → Mem → Plan
+plan mode code limit head m = planOf mode (length code) limit head (roomsOf (m .p) (m .s) (m .t) (m .r) (m .q))
 
 abbrev pub begunRun : Run
 begunRun = record { code = 0; energy = 0; counts = record { records = 0; addresses = 0; kept = 0; used = 0; rows = 0 } }
 
 -- the rows are prepared, and W is not short
-pub record SearchAsks (code w : List ℕ) (limit head : ℕ) : Type 0 where
+pub record SearchAsks (mode : Mode) (code w : List ℕ) (limit head : ℕ) : Type 0 where
   pub short : length code ≤ longest
   pub limited : limit ≤ 500000
   pub lent : work-need (length code) ≤ length w
-  pub known : Known code w head
+  pub known : Known (modeOf mode) code w head
 
 -- The code is the number of the first shortage of document 01's search, 0 if there is none. Where it is 0, the records, with their paths, destinations,
 -- states and order, the energy and the addresses marked as reached are those of document 01's search, nothing but the records is in use, and W's rows and
 -- the bytes that a search does not need stay.
-pub record Searched (code : List ℕ) (limit head : ℕ) (m m′ : Mem) (d : Run) : Type 0 where
+pub record Searched (mode : Mode) (code : List ℕ) (limit head : ℕ) (m m′ : Mem) (d : Run) : Type 0 where
   pub short : (l : Lent) → l .p ≡ length (m .p) → l .s ≡ length (m .s) → l .t ≡ length (m .t) → l .r ≡ length (m .r) → l .q ≡ length (m .q)
-      → d .code ≡ shortage l (search.search limit (prepared code) .needs)
-  pub recs : d .code ≡ 0 → recsIn (plan code limit head m) m′ (d .counts) ≡ search.search limit (prepared code) .recs
-  pub energy : d .code ≡ 0 → d .energy ≡ search.search limit (prepared code) .energy
+      → d .code ≡ shortage l (search.search limit (prepared (in-mode (modeOf mode)) code) .needs)
+  pub recs : d .code ≡ 0 → recsIn (plan mode code limit head m) m′ (d .counts) ≡ search.search limit (prepared (in-mode (modeOf mode)) code) .recs
+  pub energy : d .code ≡ 0 → d .energy ≡ search.search limit (prepared (in-mode (modeOf mode)) code) .energy
   pub energy-most : d .code ≡ 0 → d .energy ≤ limit + 256
-  pub between : d .code ≡ 0 → Between code (plan code limit head m) (last-since 128 limit (prepared code) 0 begin) m′ d
+  pub between : d .code ≡ 0 → Between code (plan mode code limit head m) (last-since 128 limit (prepared (in-mode (modeOf mode)) code) 0 begin) m′ d
   pub rows : d .code ≡ 0 → SameRows (length code) (m .w) (m′ .w)
   pub beyond : d .code ≡ 0 → drop (work-need (length code)) (m′ .w) ≡ drop (work-need (length code)) (m .w)
   pub reached : d .code ≡ 0
-      → Reached (prepared code) (length code) (m′ .w) (last-since 128 limit (prepared code) 0 begin) (d .counts .records)
-      (recsIn (plan code limit head m) m′ (d .counts))
+      → Reached (prepared (in-mode (modeOf mode)) code) (length code) (m′ .w) (last-since 128 limit (prepared (in-mode (modeOf mode)) code) 0 begin) (d .counts .records)
+      (recsIn (plan mode code limit head m) m′ (d .counts))

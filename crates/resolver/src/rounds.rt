@@ -11,6 +11,7 @@ use layout::part::SHARE_MORE;
 use lent::units;
 use lent::wipe_part;
 use reachable::reach;
+use state::mode::Mode;
 use steps::Plan;
 use steps::Run;
 use tables::Counts;
@@ -82,10 +83,10 @@ fn rooms_of(p: &[u8], s: &[u8], t: &[u8], r: &[u8], q: &[u8]) -> Rooms
     }
 }
 
-// The plan of a search over a code of n bytes. T has a bucket for each of its rows, up to `SHELVES`.
-fn plan_of(n: usize, limit: usize, head: usize, rooms: Rooms) -> Plan
+// The plan of a search, in a mode, over a code of n bytes. T has a bucket for each of its rows, up to `SHELVES`.
+fn plan_of(mode: Mode, n: usize, limit: usize, head: usize, rooms: Rooms) -> Plan
     requires { ⌜ n ≤ longest ⌝ }
-    ensures { λ k. ⌜ k ≡ planOf n limit head rooms ⌝ }
+    ensures { λ k. ⌜ k ≡ planOf mode n limit head rooms ⌝ }
 {
     let shelves = if rooms.t < SHELVES { rooms.t } else { SHELVES };
     Plan {
@@ -96,11 +97,13 @@ fn plan_of(n: usize, limit: usize, head: usize, rooms: Rooms) -> Plan
         shelves,
         limit,
         rooms,
+        mode,
     }
 }
 
-// The search over the rows that `prepare` leaves in W, whose first block that takes turns is linked from `head`.
+// The search, in a mode, over the rows that `prepare` leaves in W, whose first block that takes turns is linked from `head`.
 pub fn search(
+    mode: Mode,
     code: &[u8],
     w: &mut [u8],
     p: &mut [u8],
@@ -111,13 +114,13 @@ pub fn search(
     limit: usize,
     head: usize,
 ) -> Run
-    requires { ⌜ SearchAsks (now code) (now w) limit head ⌝ }
-    ensures { λ d. ⌜ Searched (now (code .entry)) limit head
+    requires { ⌜ SearchAsks mode (now code) (now w) limit head ⌝ }
+    ensures { λ d. ⌜ Searched mode (now (code .entry)) limit head
         (buffers (now (w .entry)) (now (p .entry)) (now (s .entry)) (now (t .entry)) (now (r .entry)) (now (q .entry)))
         (buffers (now (w .exit)) (now (p .exit)) (now (s .exit)) (now (t .exit)) (now (r .exit)) (now (q .exit))) d ⌝ }
 {
     let n = code.len();
-    let k = plan_of(n, limit, head, rooms_of(p, s, t, r, q));
+    let k = plan_of(mode, n, limit, head, rooms_of(p, s, t, r, q));
     reach(w, n);
     wipe_part(w, BUCKETS * (n + 1), BUCKET * k.buckets);
     begin_rows(t, k.shelves);

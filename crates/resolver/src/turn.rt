@@ -90,7 +90,8 @@ pub fn turn(
     if rooms.p == 0 {
         return refused(o, SHORT_P);
     }
-    let own = run(code, start, w, k.end);
+    let mode = k.mode;
+    let own = run(mode, code, start, w, k.end);
     let c = o.counts;
     if rooms.s < c.kept + own.n {
         return refused(o, SHORT_S);

@@ -3,6 +3,7 @@ use mathlib.Core.Path.{_≡_}
 use mathlib.Core.List.{List, _++_}
 use Prim.Native.Nat.{ℕ, _+_, _*_, _<_, min}
 use lib.ListN.{length, take, drop}
+use Rattle.spec.specs.Opcodes.{in-mode}
 use Rattle.spec.specs.Answer.{Answer, answer, room-after, output-after}
 use Rattle.layout.specs.Buffers.{Mem}
 use Rattle.sessions.specs.Input.{numberAt, pieceAt, coded}
@@ -58,10 +59,10 @@ pub record Told (a : Answer) (m : Mem) (out : List ℕ) (m′ : Mem) (out′ : L
 abbrev pub lending : (List ℕ → List ℕ) → ℕ → List ℕ → List ℕ
 lending f k b = f (marks (min k (length b))) ++ drop (min k (length b)) b
 
--- document 01's answer to a case: so much is lent of each buffer as it says, if that is there
+-- document 01's answer to a case, in mode 0: so much is lent of each buffer as it says, if that is there
 unfoldable pub reply : Case → List ℕ → Mem → List ℕ → Answer
 reply c code m out =
-    answer
+    answer (in-mode 0)
     (record {
       w = min (c .w) (length (m .w));
       p = min (c .p) (length (m .p));

@@ -10,6 +10,7 @@ use libc::STDOUT_FILENO;
 ghost use mathlib.Core.Path.{_≡_};
 ghost use Prim.Native.Nat.{_≤_, _<_, min};
 ghost use lib.ListN.{length};
+ghost use Rattle.spec.specs.Opcodes.{in-mode};
 ghost use Rattle.spec.specs.Answer.{answer};
 ghost use Rattle.layout.specs.Buffers.{buffers};
 ghost use Rattle.io.specs.Counts.{Counts};
@@ -144,14 +145,14 @@ fn tell(
     out: &mut [u8],
 )
     ensures { λ _. ⌜ Told
-        (answer
+        (answer (in-mode 0)
         (lentOf (buffers (now (w .entry)) (now (p .entry)) (now (s .entry)) (now (t .entry)) (now (r .entry)) (now (q .entry))) (now (out .entry)))
         limit (now (code .entry)))
         (buffers (now (w .entry)) (now (p .entry)) (now (s .entry)) (now (t .entry)) (now (r .entry)) (now (q .entry))) (now (out .entry))
         (buffers (now (w .exit)) (now (p .exit)) (now (s .exit)) (now (t .exit)) (now (r .exit)) (now (q .exit))) (now (out .exit)) ⌝ }
 {
     fill_all(w, p, s, t, r, q, out);
-    let answer = aznifrem_map(limit as u64, code, w, p, s, t, r, q, out);
+    let answer = aznifrem_map(limit as u64, 0, code, w, p, s, t, r, q, out);
     report(answer, w, p, s, t, r, q, out);
 }
 

@@ -76,3 +76,13 @@ find b (r ∷ rs) =
 
 unfoldable pub row : ℕ → Row
 row b = find b rules
+
+-- ---- the rules of a run: the row of each byte, and the caller's mode. In mode 0 the value of PUSH0 is not known, in mode 1 it is.
+
+pub record Rules : Type 0 where
+  pub row : ℕ → Row
+  pub mode : ℕ
+
+-- by the rows above
+abbrev pub in-mode : ℕ → Rules
+in-mode m = record { row = row; mode = m }

@@ -6,6 +6,7 @@ use mathlib.Core.List.{List, [], _∷_}
 use lib.Dec.{eqb}
 use lib.ListN.{length, getD}
 use Rattle.spec.specs.Lists.{if}
+use Rattle.spec.specs.Opcodes.{Row}
 use Rattle.spec.specs.Walk.{Ins}
 use Rattle.spec.specs.Meaning.{yields, last}
 use Rattle.spec.specs.PathMeaning.{fetched, along}
@@ -24,9 +25,9 @@ exit i st =
     (if (eqb (i .op) 0x57) (branched (getD st 0 0) (i .pc + 1))
     (if (eqb (i .op) 0x5B) (falls (i .pc)) halted))
 
-abbrev pub exits : (ℕ → ℕ → ℕ) → ℕ → List Ins → List ℕ → Exit
-exits supply start [] st = halted
-exits supply start (i ∷ is) st = let on = exits supply start is (yields supply i st) in if (last start i) (exit i st) on
+abbrev pub exits : (ℕ → Row) → (ℕ → ℕ → ℕ) → ℕ → List Ins → List ℕ → Exit
+exits row supply start [] st = halted
+exits row supply start (i ∷ is) st = let on = exits row supply start is (yields row supply i st) in if (last start i) (exit i st) on
 
 -- the word is x, and the byte there is 5B: a jump to any other byte halts
 abbrev pub jumps-to : List ℕ → ℕ → ℕ → Bool
@@ -40,9 +41,9 @@ goes-to code x (branched w f) = jumps-to code x w || eqb x f
 goes-to code x halted = false
 
 -- each block that runs goes to the next that runs, the one named before it, if each JUMPI takes the side that is named
-abbrev pub walks : List ℕ → (ℕ → ℕ → ℕ → ℕ) → List ℕ → List ℕ → Bool
-walks code supply [] st = true
-walks code supply (x ∷ []) st = true
-walks code supply (x ∷ y ∷ more) st =
-    let later = walks code supply (y ∷ more) st in
-    goes-to code x (exits (supply (length more)) y (fetched code y) (along code supply more st .words)) && later
+abbrev pub walks : (ℕ → Row) → List ℕ → (ℕ → ℕ → ℕ → ℕ) → List ℕ → List ℕ → Bool
+walks row code supply [] st = true
+walks row code supply (x ∷ []) st = true
+walks row code supply (x ∷ y ∷ more) st =
+    let later = walks row code supply (y ∷ more) st in
+    goes-to code x (exits row (supply (length more)) y (fetched code y) (along row code supply more st .words)) && later

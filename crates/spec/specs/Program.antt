@@ -5,6 +5,7 @@ use mathlib.Core.Option.{Option, none, some}
 use lib.Dec.{eqb, leb, ltb}
 use lib.ListN.{length}
 use Rattle.spec.specs.Lists.{if, within, gather}
+use Rattle.spec.specs.Opcodes.{in-mode}
 use Rattle.spec.specs.Rooms.{Lent}
 use Rattle.spec.specs.Entries.{entries}
 use Rattle.spec.specs.Answer.{Answer, refused, answered, answer}
@@ -58,10 +59,10 @@ prints (answered m) = gather (λ (e : List ℕ). line (gather hex e)) (entries m
 abbrev pub lends : Lent
 lends = record { w = 33024; p = 32768; s = 32768; t = 32768; r = 32768; q = 32768; out = 32768 }
 
--- "or over 512 bytes of code"
+-- "or over 512 bytes of code"; the program runs in mode 0
 abbrev pub runs-on : Option (List ℕ) → List ℕ
 runs-on none = says-refused 10
-runs-on (some code) = let printed = prints (answer lends 500000 code) in if (ltb 512 (length code)) (says-refused 10) printed
+runs-on (some code) = let printed = prints (answer (in-mode 0) lends 500000 code) in if (ltb 512 (length code)) (says-refused 10) printed
 
 -- standard output, from standard input
 unfoldable pub program : List ℕ → List ℕ

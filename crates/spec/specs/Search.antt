@@ -7,6 +7,7 @@ use mathlib.Core.Option.{Option, none, some}
 use lib.Dec.{eqb, ltb}
 use lib.ListN.{length}
 use Rattle.spec.specs.Lists.{if, mem, same, lastOf, keep, some?, total, gather}
+use Rattle.spec.specs.Opcodes.{Rules}
 use Rattle.spec.specs.Walk.{Ins}
 use Rattle.spec.specs.Blocks.{Kind, terminate, jump, jumpi, dynamic-jump, dynamic-jumpi, Block, with-kind}
 use Rattle.spec.specs.Stacks.{Sym, before, constant, jumpdest, other, Stack, cells, read, compose, Ran, run, eqSym, eqStack}
@@ -33,8 +34,8 @@ settled (some (jumpdest t)) (dynamic-jumpi f) = jumpi t f
 abbrev pub node : Block → Ran → Node
 node b r = record { block = with-kind (settled (r .goes) (b .kind)) b; own = r }
 
-abbrev pub nodes : List ℕ → List Ins → List Block → List Node
-nodes code is bs = map (λ (b : Block). node b (run code is (b .start))) bs
+abbrev pub nodes : Rules → List ℕ → List Ins → List Block → List Node
+nodes r code is bs = map (λ (b : Block). node b (run r code is (b .start))) bs
 
 -- ---- "Those ending in Before(p) take turns, in address order"
 

@@ -69,7 +69,7 @@ module _ {k : ℕ} {s : Stack} (b : Bounded k s) where
       let p = bounded-pops n h in
       record { few = omega (arith, length-drop n (s .above), b .few); low = p .low; near = omega (arith, p .near) }
 
-  bounded-trade : (i : Ins) → (row (i .op) .given ≤ 1) × (row (i .op) .taken ≤ 17) → Bounded (suc k) (trade i s)
+  bounded-trade : (i : Ins) → (row (i .op) .given ≤ 1) × (row (i .op) .taken ≤ 17) → Bounded (suc k) (trade row i s)
   bounded-trade i h =
       let given : List Sym = replicate (row (i .op) .given) (other (i .pc)) in
       let rest : List Sym = drop (row (i .op) .taken) (s .above) in
@@ -116,16 +116,16 @@ module _ {k : ℕ} {s : Stack} (b : Bounded k s) where
 
   -- ---- one instruction
 
-  pub bounded-act : (code : List ℕ) (i : Ins) (d : Does) → i .op < 0x100 → does (i .op) ≡ d → Bounded (suc k) (act code i d s)
+  pub bounded-act : (m : ℕ) (code : List ℕ) (i : Ins) (d : Does) → i .op < 0x100 → does m (i .op) ≡ d → Bounded (suc k) (act row code i d s)
   unfolding act
-  bounded-act code i pushes-value h e = bounded-push _ (omega (arith, depth-value code (i .arg)))
-  bounded-act code i pushes-pc h e = bounded-push _ (omega (arith, depth-value code (i .pc)))
-  bounded-act code i (dups n) h e = bounded-push _ (near-read n (near-dups (i .op) h e))
-  bounded-act code i (swaps n) h e = bounded-swap n (near-swaps (i .op) h e)
-  bounded-act code i ands h e = bounded-replace 2 _ (omega arith) (near-and (i .pc))
-  bounded-act code i adds h e = bounded-replace 2 _ (omega arith) (near-sum code (i .pc) (known-value (read s 0)) (known-value (read s 1)))
-  bounded-act code i jumps h e = bounded-pops 1 (omega arith)
-  bounded-act code i jumpis h e = bounded-pops 2 (omega arith)
-  bounded-act code i lands h e = bounded-later (omega arith) b
-  bounded-act code i halts h e = bounded-trade i (trades-halts (i .op) h e)
-  bounded-act code i plain h e = bounded-trade i (trades-plain (i .op) h e)
+  bounded-act m code i pushes-value h e = bounded-push _ (omega (arith, depth-value code (i .arg)))
+  bounded-act m code i pushes-pc h e = bounded-push _ (omega (arith, depth-value code (i .pc)))
+  bounded-act m code i (dups n) h e = bounded-push _ (near-read n (near-dups m (i .op) h e))
+  bounded-act m code i (swaps n) h e = bounded-swap n (near-swaps m (i .op) h e)
+  bounded-act m code i ands h e = bounded-replace 2 _ (omega arith) (near-and (i .pc))
+  bounded-act m code i adds h e = bounded-replace 2 _ (omega arith) (near-sum code (i .pc) (known-value (read s 0)) (known-value (read s 1)))
+  bounded-act m code i jumps h e = bounded-pops 1 (omega arith)
+  bounded-act m code i jumpis h e = bounded-pops 2 (omega arith)
+  bounded-act m code i lands h e = bounded-later (omega arith) b
+  bounded-act m code i halts h e = bounded-trade i (trades-halts m (i .op) h e)
+  bounded-act m code i plain h e = bounded-trade i (trades-plain m (i .op) h e)

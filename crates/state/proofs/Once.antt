@@ -68,9 +68,9 @@ pub record OneRun (code : List ℕ) (end : ℕ) (w v : List ℕ) (r s : Own) : T
   pub cells : Same w v (r .at) (9 * r .n)
   pub others : Outside (end - roomOf code) (roomOf code) w v
 
-pub one-owned : {code w v u : List ℕ} {start end : ℕ} {r s : Own} → Runs code start w end → Owned code start w end v r → Owned code start w end u s
+pub one-owned : {mode : ℕ} {code w v u : List ℕ} {start end : ℕ} {r s : Own} → Runs code start w end → Owned mode code start w end v r → Owned mode code start w end u s
     → OneRun code end v u r s
-one-owned {code} {w} {v} {u} {start} {end} {r} {s} a p q =
+one-owned {mode} {code} {w} {v} {u} {start} {end} {r} {s} a p q =
     let at : r .at ≡ s .at = omega (arith, p .place, q .place) in
     let n : r .n ≡ s .n = lies-count (p .lies) ∙ sym (lies-count (q .lies)) in
     let goes : r .goes ≡ s .goes = one-goes (p .goes) (q .goes) in

@@ -8,6 +8,7 @@ use native.Mathlib.Omega.{arith}
 use lib.Dec.{eqb}
 use lib.ListN.{length, drop}
 use Rattle.spec.specs.Lists.{if}
+use Rattle.spec.specs.Opcodes.{row, in-mode}
 use Rattle.spec.specs.Walk.{Ins, ins, walk, instructions, from}
 use Rattle.spec.specs.Stacks.{Sym, Stack, entry, Does, pushes-value, pushes-pc, dups, swaps, ands, adds, jumps, jumpis, lands, halts, plain, does, act, Ran, still, after, runs, before, cells, trims, trim, run}
 use Rattle.lent.proofs.Parts.{take-less}
@@ -36,13 +37,13 @@ use Rattle.state.proofs.Trims.{fewer-trims}
 
 -- ---- one instruction of the run
 
-module _ (code : List ℕ) (start : ℕ) (i : Ins) (is : List Ins) (s : Stack) where
-  either : (b : Bool) (t : Stack) → if b (runs code start is t) (still s) ≡ goOn (runs code start is) (if b (on t) (ends s))
+module _ (m : ℕ) (code : List ℕ) (start : ℕ) (i : Ins) (is : List Ins) (s : Stack) where
+  either : (b : Bool) (t : Stack) → if b (runs (in-mode m) code start is t) (still s) ≡ goOn (runs (in-mode m) code start is) (if b (on t) (ends s))
   unfolding if
   either true t = refl
   either false t = refl
 
-  after-turn : (d : Does) (t : Stack) → after start i s t (runs code start is t) d ≡ goOn (runs code start is) (turn start i s t d)
+  after-turn : (d : Does) (t : Stack) → after start i s t (runs (in-mode m) code start is t) d ≡ goOn (runs (in-mode m) code start is) (turn start i s t d)
   after-turn pushes-value t = refl
   after-turn pushes-pc t = refl
   after-turn (dups n) t = refl
@@ -55,9 +56,9 @@ module _ (code : List ℕ) (start : ℕ) (i : Ins) (is : List Ins) (s : Stack) w
   after-turn halts t = refl
   after-turn plain t = refl
 
-  runs-next : runs code start (i ∷ is) s ≡ goOn (runs code start is) (next code start i s)
+  runs-next : runs (in-mode m) code start (i ∷ is) s ≡ goOn (runs (in-mode m) code start is) (next m code start i s)
   unfolding next
-  runs-next = after-turn (does (i .op)) (act code i (does (i .op)) s)
+  runs-next = after-turn (does m (i .op)) (act row code i (does m (i .op)) s)
 
 -- the stack that is left
 stackIn : Next → Stack
@@ -71,7 +72,7 @@ stack-in w (On t) = refl
 stack-in w (Ends t) = refl
 stack-in w (Jumps t x) = refl
 
-module _ {k : ℕ} {s : Stack} (b : Bounded k s) (code : List ℕ) (start : ℕ) (i : Ins) where
+module _ (m : ℕ) {k : ℕ} {s : Stack} (b : Bounded k s) (code : List ℕ) (start : ℕ) (i : Ins) where
   bounded-if : (c : Bool) (t : Stack) → Bounded (suc k) t → Bounded (suc k) (stackIn (if c (on t) (ends s)))
   unfolding if stackIn
   bounded-if true t h = h
@@ -91,14 +92,14 @@ module _ {k : ℕ} {s : Stack} (b : Bounded k s) (code : List ℕ) (start : ℕ)
   bounded-turn halts t h = h
   bounded-turn plain t h = h
 
-  bounded-next : i .op < 0x100 → Bounded (suc k) (stackIn (next code start i s))
+  bounded-next : i .op < 0x100 → Bounded (suc k) (stackIn (next m code start i s))
   unfolding next
-  bounded-next h = bounded-turn (does (i .op)) _ (bounded-act b code i (does (i .op)) h refl)
+  bounded-next h = bounded-turn (does m (i .op)) _ (bounded-act b m code i (does m (i .op)) h refl)
 
 -- ---- the loop
 
-pub record Running (code : List ℕ) (start : ℕ) (w₀ : List ℕ) (end : ℕ) (w : List ℕ) (at : ℕ) (t : Top) : Type 0 where
-  pub rest : runs code start (walk (drop at code) at 0) (stackOf w t) ≡ runs code start (from start (instructions code)) entry
+pub record Running (mode : ℕ) (code : List ℕ) (start : ℕ) (w₀ : List ℕ) (end : ℕ) (w : List ℕ) (at : ℕ) (t : Top) : Type 0 where
+  pub rest : runs (in-mode mode) code start (walk (drop at code) at 0) (stackOf w t) ≡ runs (in-mode mode) code start (from start (instructions code)) entry
   pub passed : start ≤ at
   pub within : at - start ≤ length code
   pub bounded : Bounded (at - start) (stackOf w t)
@@ -106,8 +107,8 @@ pub record Running (code : List ℕ) (start : ℕ) (w₀ : List ℕ) (end : ℕ)
   pub ends : endOf t ≡ end
   pub inside : Inside code w₀ end w
 
-module _ {code : List ℕ} {start : ℕ} {w₀ : List ℕ} {end : ℕ} (q : Runs code start w₀ end) where
-  pub running-start : Running code start w₀ end w₀ start (record { at = end - 9; n = 0; base = 0 })
+module _ {mode : ℕ} {code : List ℕ} {start : ℕ} {w₀ : List ℕ} {end : ℕ} (q : Runs code start w₀ end) where
+  pub running-start : Running mode code start w₀ end w₀ start (record { at = end - 9; n = 0; base = 0 })
   unfolding stackOf
   running-start =
       let none : symsAt w₀ (end - 9) 0 ≡ [] = syms-none w₀ (end - 9) in
@@ -122,9 +123,9 @@ module _ {code : List ℕ} {start : ℕ} {w₀ : List ℕ} {end : ℕ} (q : Runs
         inside = record { front = refl; back = refl; kept = refl };
       }
 
-  module _ {w : List ℕ} {at : ℕ} {t : Top} (l : Running code start w₀ end w at t) where
+  module _ {w : List ℕ} {at : ℕ} {t : Top} (l : Running mode code start w₀ end w at t) where
     -- at the end of the code
-    pub ended-none : {r : Step} → r ≡ stepAt code at → r ≡ step.End → Ended code start w₀ end w (record { top = t; goes = Nowhere })
+    pub ended-none : {r : Step} → r ≡ stepAt code at → r ≡ step.End → Ended mode code start w₀ end w (record { top = t; goes = Nowhere })
     ended-none e f =
         record {
           is = rw (ended code at e f) at (l .rest);
@@ -155,27 +156,27 @@ module _ {code : List ℕ} {start : ℕ} {w₀ : List ℕ} {end : ℕ} (q : Runs
       running-less = let k = took-here in omega (arith, k .size, k .inside)
 
       -- after one more
-      module _ {w′ : List ℕ} {x : Turn} (small : op < 0x100) (d : Turns w t (next code start (ins pc op (drop (pc + 1) code)) (stackOf w t)) w′ x) (kept : length w′ ≡ length w) where
+      module _ {w′ : List ℕ} {x : Turn} (small : op < 0x100) (d : Turns w t (next mode code start (ins pc op (drop (pc + 1) code)) (stackOf w t)) w′ x) (kept : length w′ ≡ length w) where
         i : Ins
         i = ins at op (drop (at + 1) code)
 
-        due : nextOf w′ x ≡ next code start i (stackOf w t)
+        due : nextOf w′ x ≡ next mode code start i (stackOf w t)
         unfolding i
         due = rw (took-here .here) at (d .is)
 
-        rest : goOn (runs code start (walk (drop to code) to 0)) (nextOf w′ x) ≡ runs code start (from start (instructions code)) entry
+        rest : goOn (runs (in-mode mode) code start (walk (drop to code) to 0)) (nextOf w′ x) ≡ runs (in-mode mode) code start (from start (instructions code)) entry
         unfolding i
         rest =
-            ap (goOn (runs code start (walk (drop to code) to 0))) due
-            ∙ sym (runs-next code start i (walk (drop to code) to 0) (stackOf w t))
-            ∙ ap (λ (is : List Ins). runs code start is (stackOf w t)) (sym (took-here .walks))
+            ap (goOn (runs (in-mode mode) code start (walk (drop to code) to 0))) due
+            ∙ sym (runs-next mode code start i (walk (drop to code) to 0) (stackOf w t))
+            ∙ ap (λ (is : List Ins). runs (in-mode mode) code start is (stackOf w t)) (sym (took-here .walks))
             ∙ l .rest
 
         later : Bounded (to - start) (stackOf w′ (topOf x))
         unfolding i
         later =
             let k = took-here in
-            let b = bounded-next (l .bounded) code start i small in
+            let b = bounded-next mode (l .bounded) code start i small in
             let m : suc (at - start) ≤ to - start = omega (arith, k .size, l .passed) in
             rw (← stack-in w′ x, due) (bounded-later m b)
 
@@ -194,7 +195,7 @@ module _ {code : List ℕ} {start : ℕ} {w₀ : List ℕ} {end : ℕ} (q : Runs
               kept = kept ∙ l .inside .kept;
             }
 
-        pub running-on : {u : Top} → x ≡ On u → Running code start w₀ end w′ to u
+        pub running-on : {u : Top} → x ≡ On u → Running mode code start w₀ end w′ to u
         running-on {u} g =
             record {
               rest = rw g at rest;
@@ -206,7 +207,7 @@ module _ {code : List ℕ} {start : ℕ} {w₀ : List ℕ} {end : ℕ} (q : Runs
               inside = inside;
             }
 
-        ended-by : (y : End) → topOf x ≡ y .top → goOn (runs code start (walk (drop to code) to 0)) (nextOf w′ x) ≡ ranOf w′ y → Ended code start w₀ end w′ y
+        ended-by : (y : End) → topOf x ≡ y .top → goOn (runs (in-mode mode) code start (walk (drop to code) to 0)) (nextOf w′ x) ≡ ranOf w′ y → Ended mode code start w₀ end w′ y
         ended-by y g h =
             record {
               is = sym h ∙ rest;
@@ -216,15 +217,15 @@ module _ {code : List ℕ} {start : ℕ} {w₀ : List ℕ} {end : ℕ} (q : Runs
               inside = inside;
             }
 
-        pub ended-ends : {u : Top} → x ≡ Ends u → Ended code start w₀ end w′ (record { top = u; goes = Nowhere })
+        pub ended-ends : {u : Top} → x ≡ Ends u → Ended mode code start w₀ end w′ (record { top = u; goes = Nowhere })
         ended-ends g = ended-by _ (rw g) (rw g)
 
-        pub ended-jumps : {u : Top} {y : StackSym} → x ≡ Jumps u y → Ended code start w₀ end w′ (record { top = u; goes = To y })
+        pub ended-jumps : {u : Top} {y : StackSym} → x ≡ Jumps u y → Ended mode code start w₀ end w′ (record { top = u; goes = To y })
         ended-jumps g = ended-by _ (rw g) (rw g)
 
 -- ---- the whole run: the bottom's cell is put, and what the numbering gives is left to it
 
-module _ {code : List ℕ} {start : ℕ} {w : List ℕ} {end : ℕ} {w₁ w₂ : List ℕ} {r : End} (q : Runs code start w end) (d : Ended code start w end w₁ r)
+module _ {mode : ℕ} {code : List ℕ} {start : ℕ} {w : List ℕ} {end : ℕ} {w₁ w₂ : List ℕ} {r : End} (q : Runs code start w end) (d : Ended mode code start w end w₁ r)
     (p : Put w₁ (end - 9) (before (r .top .base)) w₂) where
   at : ℕ
   at = r .top .at
@@ -244,7 +245,7 @@ module _ {code : List ℕ} {start : ℕ} {w : List ℕ} {end : ℕ} {w₁ w₂ :
   unfolding at n
   owned-trims = record { cells = after-cells at n put (d .held .cells); bottom = put .reads }
 
-  own-stack : trims (symsAt w₂ at n) (r .top .base) ≡ run code (instructions code) start .stack
+  own-stack : trims (symsAt w₂ at n) (r .top .base) ≡ run (in-mode mode) code (instructions code) start .stack
   unfolding at n run trim stackOf
   own-stack =
       ap (λ (xs : List Sym). trims xs (r .top .base)) (put-syms put at n (λ h. omega arith))
@@ -255,12 +256,12 @@ module _ {code : List ℕ} {start : ℕ} {w : List ℕ} {end : ℕ} {w₁ w₂ :
     unfolding at n
     few = omega (arith, lies-count l, fewer-trims (symsAt w₂ at n) (r .top .base), length-syms w₂ at n)
 
-    pub owned : Owned code start w end w₂ (record { at = r .top .at; n = m; goes = r .goes })
+    pub owned : Owned mode code start w end w₂ (record { at = r .top .at; n = m; goes = r .goes })
     unfolding at n run trim stackOf
     owned =
         let b = bounded-reach (d .bounded) in
         let s : Stack = stackOf w₁ (r .top) in
-        let x : run code (instructions code) start .stack ≡ trim s = ap (λ (x : Ran). trim (x .stack)) (sym (d .is)) in
+        let x : run (in-mode mode) code (instructions code) start .stack ≡ trim s = ap (λ (x : Ran). trim (x .stack)) (sym (d .is)) in
         record {
           lies = rw own-stack at l;
           goes = ap (λ (x : Ran). x .goes) (d .is);

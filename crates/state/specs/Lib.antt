@@ -1,4 +1,5 @@
 pub mod Symbols
+pub mod Modes
 pub mod Cells
 pub mod Working
 pub mod Steps

@@ -4,6 +4,7 @@ use Prim.Native.Nat.{ℕ, _+_, _-_, _*_, _≤_}
 use mathlib.Core.Option.{Option, none, some}
 use mathlib.Core.List.{List}
 use lib.ListN.{length, take, drop}
+use Rattle.spec.specs.Opcodes.{in-mode}
 use Rattle.spec.specs.Walk.{walk, instructions, from}
 use Rattle.spec.specs.Stacks.{Sym, before, entry, cells, Ran, runs, run}
 use Rattle.spec.specs.Rooms.{longest}
@@ -40,8 +41,8 @@ pub record Inside (code w : List ℕ) (end : ℕ) (w′ : List ℕ) : Type 0 whe
 abbrev pub ranOf : List ℕ → End → Ran
 ranOf w r = record { stack = stackOf w (r .top); goes = goesOf (r .goes) }
 
-pub record Ended (code : List ℕ) (start : ℕ) (w : List ℕ) (end : ℕ) (w′ : List ℕ) (r : End) : Type 0 where
-  pub is : ranOf w′ r ≡ runs code start (from start (instructions code)) entry
+pub record Ended (mode : ℕ) (code : List ℕ) (start : ℕ) (w : List ℕ) (end : ℕ) (w′ : List ℕ) (r : End) : Type 0 where
+  pub is : ranOf w′ r ≡ runs (in-mode mode) code start (from start (instructions code)) entry
   pub bounded : Bounded (length code) (stackOf w′ (r .top))
   pub held : Held w′ (r .top)
   pub ends : endOf (r .top) ≡ end
@@ -54,11 +55,11 @@ pub record Trims (w : List ℕ) (at n base : ℕ) : Type 0 where
 
 -- The state is the block's own, as document 01 has it. It reaches at most 16 words deep and 17 a byte of code; its cells begin where those of the state before
 -- trimming do, which end where the part ends.
-pub record Owned (code : List ℕ) (start : ℕ) (w : List ℕ) (end : ℕ) (w′ : List ℕ) (r : Own) : Type 0 where
-  pub lies : Lies w′ (r .at) (r .n) (run code (instructions code) start .stack)
-  pub goes : goesOf (r .goes) ≡ run code (instructions code) start .goes
-  pub reach : reach (run code (instructions code) start .stack) ≤ 17 * length code + 16
-  pub place : r .at + 9 * cells (runs code start (from start (instructions code)) entry .stack) ≡ end
+pub record Owned (mode : ℕ) (code : List ℕ) (start : ℕ) (w : List ℕ) (end : ℕ) (w′ : List ℕ) (r : Own) : Type 0 where
+  pub lies : Lies w′ (r .at) (r .n) (run (in-mode mode) code (instructions code) start .stack)
+  pub goes : goesOf (r .goes) ≡ run (in-mode mode) code (instructions code) start .goes
+  pub reach : reach (run (in-mode mode) code (instructions code) start .stack) ≤ 17 * length code + 16
+  pub place : r .at + 9 * cells (runs (in-mode mode) code start (from start (instructions code)) entry .stack) ≡ end
   pub low : end - roomOf code ≤ r .at
   pub high : r .at + 9 * r .n ≤ end
   pub inside : Inside code w end w′

@@ -1,14 +1,14 @@
 -- One instruction of a block's run, on the stack in hand. Assumes nothing.
 use mathlib.Core.Path.{_≡_}
-use Prim.Native.Nat.{ℕ, suc, _+_, _*_, _≤_, _<_}
+use Prim.Native.Nat.{ℕ, zero, suc, _+_, _*_, _≤_, _<_}
 use mathlib.Core.Option.{some}
 use mathlib.Core.List.{List}
 use lib.Dec.{eqb}
 use lib.ListN.{length, take, drop}
 use Rattle.spec.specs.Lists.{if}
-use Rattle.spec.specs.Opcodes.{argument}
+use Rattle.spec.specs.Opcodes.{argument, row}
 use Rattle.spec.specs.Walk.{Ins, big}
-use Rattle.spec.specs.Stacks.{Sym, Stack, read, Does, pushes-value, pushes-pc, dups, swaps, ands, adds, jumps, jumpis, lands, halts, plain, does, act, Ran, still}
+use Rattle.spec.specs.Stacks.{Sym, other, from-value, Stack, read, Does, pushes-value, pushes-pc, dups, swaps, ands, adds, jumps, jumpis, lands, halts, plain, does, act, Ran, still}
 use Rattle.spec.specs.Rooms.{longest}
 use Rattle.state.specs.Symbols.{symOf}
 use Rattle.state.specs.Working.{stackOf, endOf, Held, Free, Moves}
@@ -36,8 +36,14 @@ turn start i s t lands = if (eqb (i .pc) start) (on t) (ends s)
 turn start i s t halts = ends t
 turn start i s t plain = on t
 
-unfoldable pub next : List ℕ → ℕ → Ins → Stack → Next
-next code start i s = turn start i s (act code i (does (i .op)) s) (does (i .op))
+-- in a mode
+unfoldable pub next : ℕ → List ℕ → ℕ → Ins → Stack → Next
+next mode code start i s = turn start i s (act row code i (does mode (i .op)) s) (does mode (i .op))
+
+-- what PUSH0 gives at pc
+abbrev pub zeroAt : ℕ → List ℕ → ℕ → Sym
+zeroAt zero code pc = other pc
+zeroAt (suc mode) code pc = from-value code 0
 
 -- the run, with what is left of it
 abbrev pub goOn : (Stack → Ran) → Next → Ran

@@ -27,7 +27,7 @@ abbrev pub after-add : List ℕ → ℕ → Stack → Stack
 after-add code pc s = push (summed code pc (known-value (read s 0)) (known-value (read s 1))) (pops 2 s)
 
 abbrev pub after-trade : ℕ → ℕ → Stack → Stack
-after-trade op pc s = trade (record { pc = pc; op = op; arg = 0 }) s
+after-trade op pc s = trade row (record { pc = pc; op = op; arg = 0 }) s
 
 -- the same stack with m symbols above at least: what the numbering gives is spelled out
 unfoldable pub deepen : ℕ → Stack → Stack

@@ -1,6 +1,7 @@
 // The symbolic stack of a block, and composing it with a parent, over lent bytes.
 pub mod cell;
 pub mod compose;
+pub mod mode;
 pub mod read;
 pub mod run;
 pub mod same;

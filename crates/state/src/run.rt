@@ -2,6 +2,7 @@
 // "A block's stack is trimmed at its end; a composed one is not."
 use crate::cell::get_cell;
 use crate::cell::put_cell;
+use crate::mode::Mode;
 use crate::step::Turn;
 use crate::step::step;
 use crate::sym::StackSym;
@@ -10,6 +11,7 @@ use evm::walk::Step;
 use evm::walker::step_from;
 ghost use mathlib.Core.Path.{_≡_};
 ghost use Rattle.spec.specs.Stacks.{joins, trims};
+ghost use Rattle.state.specs.Modes.{modeOf};
 ghost use Rattle.state.specs.Symbols.{symOf};
 ghost use Rattle.state.specs.Cells.{symsAt, Lies};
 ghost use Rattle.state.specs.Owns.{Runs, Ended, Trims, Owned};
@@ -34,9 +36,9 @@ pub struct Own {
 }
 
 // Runs the block at `start` to its end, with its stack in the part of w that ends at `end`.
-fn to_end(code: &[u8], start: usize, w: &mut [u8], end: usize) -> End
+fn to_end(mode: Mode, code: &[u8], start: usize, w: &mut [u8], end: usize) -> End
     requires { ⌜ Runs (now code) start (now w) end ⌝ }
-    ensures { λ r. ⌜ Ended (now (code .entry)) start (now (w .entry)) end (now (w .exit)) r ⌝ }
+    ensures { λ r. ⌜ Ended (modeOf mode) (now (code .entry)) start (now (w .entry)) end (now (w .exit)) r ⌝ }
 {
     let mut at = start;
     let mut t = Top {
@@ -52,7 +54,7 @@ fn to_end(code: &[u8], start: usize, w: &mut [u8], end: usize) -> End
                     goes: Goes::Nowhere,
                 };
             }
-            Step::Whole { pc, op, next } => match step(code, start, pc, op, w, t) {
+            Step::Whole { pc, op, next } => match step(mode, code, start, pc, op, w, t) {
                 Turn::On(u) => {
                     t = u;
                     at = next;
@@ -108,12 +110,12 @@ fn trimmed(w: &[u8], at: usize, n: usize, base: usize) -> usize
     m + 1
 }
 
-// Runs the block at `start` and stores its state in the part of w that ends at `end`, which has a cell for each byte of code, and seventeen.
-pub fn run(code: &[u8], start: usize, w: &mut [u8], end: usize) -> Own
+// Runs the block at `start` in a mode, and stores its state in the part of w that ends at `end`, which has a cell for each byte of code, and seventeen.
+pub fn run(mode: Mode, code: &[u8], start: usize, w: &mut [u8], end: usize) -> Own
     requires { ⌜ Runs (now code) start (now w) end ⌝ }
-    ensures { λ r. ⌜ Owned (now (code .entry)) start (now (w .entry)) end (now (w .exit)) r ⌝ }
+    ensures { λ r. ⌜ Owned (modeOf mode) (now (code .entry)) start (now (w .entry)) end (now (w .exit)) r ⌝ }
 {
-    let r = to_end(code, start, w, end);
+    let r = to_end(mode, code, start, w, end);
     let t = r.top;
     let goes = r.goes;
     put_cell(w, end - 9, StackSym::Before(t.base));

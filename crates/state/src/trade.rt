@@ -1,5 +1,5 @@
 // An instruction of which only its row is known: it takes words, and gives Others.
-// "PUSH0 and PUSH5 upward give Other."
+// "PUSH0 and PUSH5 upward give Other.": here PUSH5 upward
 use crate::sym::StackSym;
 use crate::top::Top;
 use evm::rows::Row;

@@ -7,6 +7,7 @@ use native.Mathlib.Omega.{arith}
 use lib.Dec.{eqb}
 use lib.ListN.{length}
 use borrow.Author.Tests.{lt-ltb, le-ltb, ne-eqb, eqb-false}
+use Rattle.spec.specs.Opcodes.{in-mode}
 use Rattle.spec.specs.Lists.{if, keep}
 use Rattle.spec.specs.Walk.{instructions}
 use Rattle.spec.specs.Stacks.{run}
@@ -55,10 +56,10 @@ module _ {A : Type 0} where
       go true = refl
       go false = refl
 
-pub level-parents : (code : List ℕ) (t : Turn) (b : ℕ) (st : St) → t .stored ≡ direct (prepared code)
-    → parents t b st ≡ keep (live (t .reached) (st .recs)) (directTo b (prepared code) ++ foundTo b (st .recs))
+pub level-parents : (mode : ℕ) (code : List ℕ) (t : Turn) (b : ℕ) (st : St) → t .stored ≡ direct (prepared (in-mode mode) code)
+    → parents t b st ≡ keep (live (t .reached) (st .recs)) (directTo b (prepared (in-mode mode) code) ++ foundTo b (st .recs))
 unfolding parents
-level-parents code t b st e =
+level-parents mode code t b st e =
     keep-both (λ (p : Parent). eqb b (p .to)) (live (t .reached) (st .recs)) (t .stored ++ found-parents (st .recs))
     ∙ ap (keep (live (t .reached) (st .recs)))
     (keep-append (λ (p : Parent). eqb b (p .to)) (t .stored) (found-parents (st .recs))
@@ -67,34 +68,34 @@ level-parents code t b st e =
 -- ---- what is left
 
 -- a direct parent, and if there is none what else is left
-pub or-left : {code w starts : List ℕ} {n b lo x : ℕ} {rs : List Rec} (link : ℕ) → Parents w n b link starts → Rising lo starts → ((a : ℕ) → In a starts → Comes code a)
-    → Left code w n b rs x (foundTo b rs) → Left code w n b rs (or-else link x) (map (parentOf code b) starts ++ foundTo b rs)
+pub or-left : {mode : ℕ} {code w starts : List ℕ} {n b lo x : ℕ} {rs : List Rec} (link : ℕ) → Parents w n b link starts → Rising lo starts → ((a : ℕ) → In a starts → Comes code a)
+    → Left mode code w n b rs x (foundTo b rs) → Left mode code w n b rs (or-else link x) (map (parentOf mode code b) starts ++ foundTo b rs)
 or-left zero p h c l = rw (end-parents p refl) l
 or-left (suc link) p h c l = direct-left {link = suc link} (omega arith) p h c
 
-pub end-left : {code w : List ℕ} {n b at : ℕ} {rs : List Rec} {ps : List Parent} → Left code w n b rs at ps → at ≡ 0 → ps ≡ []
+pub end-left : {mode : ℕ} {code w : List ℕ} {n b at : ℕ} {rs : List Rec} {ps : List Parent} → Left mode code w n b rs at ps → at ≡ 0 → ps ≡ []
 end-left none-left e = refl
 end-left (direct-left l p h c) e = absurd (omega arith)
 end-left (found-left h) e = absurd (omega arith)
 
 -- the found ones, from the first on
-pub all-found : (code : List ℕ) {w r q s : List ℕ} {n buckets : ℕ} {k : Rooms} {c : Counts} → Tables n buckets k (mem w r q s) c → (b : ℕ) → b ≤ n → (opened : ℕ) → opened ≤ c .records
-    → Left code w n b (recsOf r q s (k .s) opened) (clipped opened (firstFoundAt w n b)) (foundTo b (recsOf r q s (k .s) opened))
-all-found code {w} {r} {q} {s} {n} {k = k} {c = c} t b inside opened most =
-    rw (t .parents .firsts b inside) (following-left r q s (k .s) b opened code w n (c .records) (omega (arith, t .few)) most 0 (omega arith))
+pub all-found : (mode : ℕ) (code : List ℕ) {w r q s : List ℕ} {n buckets : ℕ} {k : Rooms} {c : Counts} → Tables n buckets k (mem w r q s) c → (b : ℕ) → b ≤ n → (opened : ℕ) → opened ≤ c .records
+    → Left mode code w n b (recsOf r q s (k .s) opened) (clipped opened (firstFoundAt w n b)) (foundTo b (recsOf r q s (k .s) opened))
+all-found mode code {w} {r} {q} {s} {n} {k = k} {c = c} t b inside opened most =
+    rw (t .parents .firsts b inside) (following-left r q s (k .s) b opened mode code w n (c .records) (omega (arith, t .few)) most 0 (omega arith))
 
-pub first-left : {code w r q s : List ℕ} {head buckets : ℕ} {k : Rooms} {c : Counts} → Tables (length code) buckets k (mem w r q s) c → Known code w head
+pub first-left : {mode : ℕ} {code w r q s : List ℕ} {head buckets : ℕ} {k : Rooms} {c : Counts} → Tables (length code) buckets k (mem w r q s) c → Known mode code w head
     → (b : ℕ) → b ≤ length code → (opened : ℕ) → c .records ≡ opened
-    → Left code w (length code) b (recs k (mem w r q s) c) (firstCursor w (length code) b opened) (directTo b (prepared code) ++ foundTo b (recs k (mem w r q s) c))
+    → Left mode code w (length code) b (recs k (mem w r q s) c) (firstCursor w (length code) b opened) (directTo b (prepared (in-mode mode) code) ++ foundTo b (recs k (mem w r q s) c))
 unfolding firstCursor
-first-left {code} {w} {r} {q} {s} {k = k} {c = c} t known b inside opened e =
-    rw (e, parents-again code b)
-    (or-left (rows.firstAt w b) (known .parents b inside) (direct-rises code b) comes (all-found code t b inside opened (omega arith)))
+first-left {mode} {code} {w} {r} {q} {s} {k = k} {c = c} t known b inside opened e =
+    rw (e, parents-again mode code b)
+    (or-left (rows.firstAt w b) (known .parents b inside) (direct-rises mode code b) comes (all-found mode code t b inside opened (omega arith)))
   where
-    comes : (a : ℕ) → In a (map fromOf (directTo b (prepared code))) → Comes code a
+    comes : (a : ℕ) → In a (map fromOf (directTo b (prepared (in-mode mode) code))) → Comes code a
     comes a i =
-        let g = in-map fromOf (directTo b (prepared code)) i in
-        rw (g .2) (direct-comes code (in-keep (λ (p : Parent). eqb b (p .to)) (direct (prepared code)) (g .1) .1))
+        let g = in-map fromOf (directTo b (prepared (in-mode mode) code)) i in
+        rw (g .2) (direct-comes mode code (in-keep (λ (p : Parent). eqb b (p .to)) (direct (prepared (in-mode mode) code)) (g .1) .1))
 
 -- ---- what a number stands for
 
@@ -107,9 +108,9 @@ module _ (at : ℕ) (l : at < 0x10000) where
   unfolding lastCursor if
   direct-last r q = rw (lt-ltb at 0x10000 l)
 
-  pub direct-stack : (code r s : List ℕ) (room : ℕ) → stackCursor code r s room at ≡ run code (instructions code) (startOf at) .stack
+  pub direct-stack : (mode : ℕ) (code r s : List ℕ) (room : ℕ) → stackCursor mode code r s room at ≡ run (in-mode mode) code (instructions code) (startOf at) .stack
   unfolding stackCursor if
-  direct-stack code r s room = rw (lt-ltb at 0x10000 l)
+  direct-stack mode code r s room = rw (lt-ltb at 0x10000 l)
 
   pub direct-next : (w r : List ℕ) (n b opened : ℕ) → nextCursor w r n b opened at ≡ or-else (rows.nextAt w b at) (clipped opened (firstFoundAt w n b))
   unfolding nextCursor if
@@ -124,9 +125,9 @@ module _ (at : ℕ) (l : 0x10000 ≤ at) where
   unfolding lastCursor if
   found-last r q = rw (le-ltb at 0x10000 l)
 
-  pub found-stack : (code r s : List ℕ) (room : ℕ) → stackCursor code r s room at ≡ stateAt r s room (at - 0x10000)
+  pub found-stack : (mode : ℕ) (code r s : List ℕ) (room : ℕ) → stackCursor mode code r s room at ≡ stateAt r s room (at - 0x10000)
   unfolding stackCursor if
-  found-stack code r s room = rw (le-ltb at 0x10000 l)
+  found-stack mode code r s room = rw (le-ltb at 0x10000 l)
 
   pub found-next : (w r : List ℕ) (n b opened : ℕ) → nextCursor w r n b opened at ≡ clipped opened (records.nextAt r (at - 0x10000))
   unfolding nextCursor if

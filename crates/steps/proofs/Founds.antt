@@ -107,14 +107,14 @@ module _ (r q s : List ℕ) (room : ℕ) where
         passed (opened - i) i opened (omega arith) (omega arith) h
         ∙ ap (foundTo b) (drop-of-length-le rs {i = opened} (omega (arith, recs-length r q s room opened)))
 
-    module _ (code w : List ℕ) (n m : ℕ) (few : b < absent) (most : opened ≤ m) where
+    module _ (mode : ℕ) (code w : List ℕ) (n m : ℕ) (few : b < absent) (most : opened ≤ m) where
       -- the first of them by the link to it, if it was there
-      follows-left : (i x : ℕ) → i ≤ opened → Follower (toAt r) b i m x → Left code w n b rs (clipped opened x) (foundTo b (drop i rs))
+      follows-left : (i x : ℕ) → i ≤ opened → Follower (toAt r) b i m x → Left mode code w n b rs (clipped opened x) (foundTo b (drop i rs))
       follows-left i x l (ends e) =
           rw (sym (clip-none opened 0 refl), none-more i l (λ k f g. e .none k f (omega arith))) none-left
       follows-left i x l (goes {j} f) = go (decLt j opened)
         where
-          go : Dec (j < opened) → Left code w n b rs (clipped opened (suc j)) (foundTo b (drop i rs))
+          go : Dec (j < opened) → Left mode code w n b rs (clipped opened (suc j)) (foundTo b (drop i rs))
           go (yes h) =
               let e : suc j - 1 ≡ j = omega arith in
               rw (sym (clip-there opened (suc j) (λ z. omega arith) h), e, passed (j - i) i j (omega (arith, f .from)) (omega arith) (f .first))
@@ -122,5 +122,5 @@ module _ (r q s : List ℕ) (room : ℕ) where
           go (no h) =
               rw (sym (clip-late opened (suc j) (omega arith)), none-more i l (λ k g a. f .first k g (omega arith))) none-left
 
-      pub following-left : (i : ℕ) → i ≤ opened → Left code w n b rs (clipped opened (following (toAt r) b i m)) (foundTo b (drop i rs))
+      pub following-left : (i : ℕ) → i ≤ opened → Left mode code w n b rs (clipped opened (following (toAt r) b i m)) (foundTo b (drop i rs))
       following-left i l = follows-left i _ l (follower (toAt r) b i m)

@@ -71,7 +71,7 @@ pub record DirectNext (code r q : List ℕ) (n at : ℕ) : Type 0 where
   pub path : pathCursor r q at ≡ startOf at ∷ []
 
 -- a found one is a record of those that were there when the level opened, and is one of the m that are there now
-pub record FoundNext (code r q s : List ℕ) (n b room m : ℕ) (rs : List Rec) (at : ℕ) : Type 0 where
+pub record FoundNext (mode : ℕ) (code r q s : List ℕ) (n b room m : ℕ) (rs : List Rec) (at : ℕ) : Type 0 where
   pub below : at - 0x10000 < m
   pub to : toAt r (at - 0x10000) ≤ n
   pub row : Row r q (at - 0x10000)
@@ -80,12 +80,12 @@ pub record FoundNext (code r q s : List ℕ) (n b room m : ℕ) (rs : List Rec) 
   pub rec : Rec
   pub there : In rec rs
   pub path : rec .path ≡ pathCursor r q at
-  pub goes : rec .to ≡ found b (stackCursor code r s room at)
+  pub goes : rec .to ≡ found b (stackCursor mode code r s room at)
 
-pub record NextLeft (code w r q s : List ℕ) (n b opened room m : ℕ) (rs : List Rec) (at : ℕ) (ps : List Parent) : Type 0 where
+pub record NextLeft (mode : ℕ) (code w r q s : List ℕ) (n b opened room m : ℕ) (rs : List Rec) (at : ℕ) (ps : List Parent) : Type 0 where
   pub rest : List Parent
-  pub is : ps ≡ parent b (pathCursor r q at) (stackCursor code r s room at) ∷ rest
-  pub left : Left code w n b rs (nextCursor w r n b opened at) rest
+  pub is : ps ≡ parent b (pathCursor r q at) (stackCursor mode code r s room at) ∷ rest
+  pub left : Left mode code w n b rs (nextCursor w r n b opened at) rest
   pub falls : fuel (nextCursor w r n b opened at) < fuel at
   pub cursor : Cursor w r n at
   pub asks : Asks r q at
@@ -94,26 +94,26 @@ pub record NextLeft (code w r q s : List ℕ) (n b opened room m : ℕ) (rs : Li
   pub inside : Inside n (pathCursor r q at)
   pub some : 1 ≤ length (pathCursor r q at)
   pub direct : at < 0x10000 → DirectNext code r q n at
-  pub found : 0x10000 ≤ at → FoundNext code r q s n b room m rs at
+  pub found : 0x10000 ≤ at → FoundNext mode code r q s n b room m rs at
 
-module _ (code : List ℕ) {w r q s : List ℕ} {n buckets : ℕ} {k : Rooms} {c : Counts} (t : Tables n buckets k (mem w r q s) c) (short : n ≤ longest) (lent : rowsEnd n ≤ length w)
+module _ (mode : ℕ) (code : List ℕ) {w r q s : List ℕ} {n buckets : ℕ} {k : Rooms} {c : Counts} (t : Tables n buckets k (mem w r q s) c) (short : n ≤ longest) (lent : rowsEnd n ≤ length w)
     (b : ℕ) (inside : b ≤ n) (opened : ℕ) (most : opened ≤ c .records) where
   -- the records that were there
   abbrev rs : List Rec
   rs = recsOf r q s (k .s) opened
 
   abbrev Next : ℕ → List Parent → Type 0
-  Next at ps = NextLeft code w r q s n b opened (k .s) (c .records) rs at ps
+  Next at ps = NextLeft mode code w r q s n b opened (k .s) (c .records) rs at ps
 
   -- a direct one
   from-direct : (at lo : ℕ) {more : List ℕ} → 1 ≤ at → at < 0x10000 → startOf at ≤ n → Parents w n b (rows.nextAt w b at) more → Rising lo (startOf at ∷ more)
       → ((a : ℕ) → In a (startOf at ∷ more) → Comes code a)
-      → Next at (map (parentOf code b) (startOf at ∷ more) ++ foundTo b rs)
+      → Next at (map (parentOf mode code b) (startOf at ∷ more) ++ foundTo b rs)
   from-direct at lo {more} some l start p (one-more _ h) comes =
       record {
-        rest = map (parentOf code b) more ++ foundTo b rs;
-        is = rw (path, direct-stack at l code r s (k .s));
-        left = rw next (or-left (rows.nextAt w b at) p h (λ a i. comes a (there i)) (all-found code t b inside opened most));
+        rest = map (parentOf mode code b) more ++ foundTo b rs;
+        is = rw (path, direct-stack at l mode code r s (k .s));
+        left = rw next (or-left (rows.nextAt w b at) p h (λ a i. comes a (there i)) (all-found mode code t b inside opened most));
         falls =
             rw next
             (fuel-falls at (or-else (rows.nextAt w b at) (clipped opened (firstFoundAt w n b))) (λ e. omega arith) (omega arith)
@@ -189,7 +189,7 @@ module _ (code : List ℕ) {w r q s : List ℕ} {n buckets : ℕ} {k : Rooms} {c
             ∙ rw (path, stack);
         left =
             rw (next, leads-next i h)
-            (following-left r q s (k .s) b opened code w n (c .records) few most (suc i) (omega (arith, below)));
+            (following-left r q s (k .s) b opened mode code w n (c .records) few most (suc i) (omega (arith, below)));
         falls = rw next (fuel-falls at (clipped opened (records.nextAt r i)) (λ e. omega arith) (omega (arith, below, t .within .fitsR, t .within .mostR)) (λ d. omega (arith, leads-rises i h d)));
         cursor = record { some = omega arith; direct = λ z. absurd (omega arith); found = λ _. row .inR };
         asks = record { some = omega arith; row = λ _. row .inR; path = λ _. (omega (arith, long, path-length r q i), row .inQ) };
@@ -235,8 +235,8 @@ module _ (code : List ℕ) {w r q s : List ℕ} {n buckets : ℕ} {k : Rooms} {c
       path : pathCursor r q at ≡ pathAt r q i
       path = found-path at l r q
 
-      stack : stackCursor code r s (k .s) at ≡ stateAt r s (k .s) i
-      stack = found-stack at l code r s (k .s)
+      stack : stackCursor mode code r s (k .s) at ≡ stateAt r s (k .s) i
+      stack = found-stack at l mode code r s (k .s)
 
       last : lastCursor r q at ≡ numAt 2 q (2 * (endOf r (suc i) - 1))
       last = found-last at l r q
@@ -246,11 +246,11 @@ module _ (code : List ℕ) {w r q s : List ℕ} {n buckets : ℕ} {k : Rooms} {c
 
   -- either
   from-left : {w₀ : List ℕ} {at : ℕ} {ps : List Parent} → SameRows n w₀ w → SoundRecs n rs
-      → Left code w₀ n b rs at ps → (at ≡ 0 → ⊥) → Next at ps
+      → Left mode code w₀ n b rs at ps → (at ≡ 0 → ⊥) → Next at ps
   from-left e sound none-left d = absurd (d refl)
   from-left {w₀} e sound (direct-left {link} {lo} some p h comes) d =
       let g = walk-parents (parents-prefix w₀ w n (sym e) p) d in
-      subst (λ (xs : List ℕ). Next link (map (parentOf code b) xs ++ foundTo b rs)) (sym (g .is))
+      subst (λ (xs : List ℕ). Next link (map (parentOf mode code b) xs ++ foundTo b rs)) (sym (g .is))
       (from-direct link lo some (omega (arith, small-parents p)) (g .inside) (g .later) (rw (g .is) at h) (rw (g .is) at comes))
   from-left e sound (found-left {i} h) d =
       let z : 0x10000 + i - 0x10000 ≡ i = omega arith in
@@ -258,12 +258,12 @@ module _ (code : List ℕ) {w r q s : List ℕ} {n buckets : ℕ} {k : Rooms} {c
       (from-found (0x10000 + i) (omega arith) sound (rw z h))
 
 -- With the records as they were when the level opened, and the buffers as they are now.
-pub next-left : {code w₀ w r q s : List ℕ} {n b buckets at : ℕ} {k : Rooms} {c : Counts} {rs : List Rec} {ps : List Parent} (opened : ℕ)
+pub next-left : {mode : ℕ} {code w₀ w r q s : List ℕ} {n b buckets at : ℕ} {k : Rooms} {c : Counts} {rs : List Rec} {ps : List Parent} (opened : ℕ)
     → n ≤ longest → b ≤ n → rowsEnd n ≤ length w → Tables n buckets k (mem w r q s) c → SameRows n w₀ w
-    → rs ≡ take opened (recs k (mem w r q s) c) → opened ≤ c .records → SoundRecs n rs → Left code w₀ n b rs at ps → (at ≡ 0 → ⊥)
-    → NextLeft code w r q s n b opened (k .s) (c .records) rs at ps
-next-left {code} {w₀} {w} {r} {q} {s} {n} {b} {at = at} {k} {c} {rs} {ps} opened short inside lent t e is most sound left d =
+    → rs ≡ take opened (recs k (mem w r q s) c) → opened ≤ c .records → SoundRecs n rs → Left mode code w₀ n b rs at ps → (at ≡ 0 → ⊥)
+    → NextLeft mode code w r q s n b opened (k .s) (c .records) rs at ps
+next-left {mode} {code} {w₀} {w} {r} {q} {s} {n} {b} {at = at} {k} {c} {rs} {ps} opened short inside lent t e is most sound left d =
     go (is ∙ recs-take r q s (k .s) (c .records) opened most) sound left
   where
-    go : rs ≡ recsOf r q s (k .s) opened → SoundRecs n rs → Left code w₀ n b rs at ps → NextLeft code w r q s n b opened (k .s) (c .records) rs at ps
-    go f x y = rw f (from-left code t short lent b inside opened most e (rw f at x) (rw f at y) d)
+    go : rs ≡ recsOf r q s (k .s) opened → SoundRecs n rs → Left mode code w₀ n b rs at ps → NextLeft mode code w r q s n b opened (k .s) (c .records) rs at ps
+    go f x y = rw f (from-left mode code t short lent b inside opened most e (rw f at x) (rw f at y) d)

@@ -5,6 +5,7 @@ use Prim.Native.Nat.{ℕ, suc, _≤_}
 use native.Mathlib.Omega.{arith}
 use lib.Dec.{eqb}
 use borrow.Author.Tests.{eqb-true, eqb-false}
+use Rattle.spec.specs.Opcodes.{row, in-mode}
 use Rattle.spec.specs.Lists.{keep}
 use Rattle.spec.specs.Walk.{instructions}
 use Rattle.spec.specs.Blocks.{Kind, terminate, jump, jumpi, dynamic-jump, dynamic-jumpi, Block, starts, blocks}
@@ -14,6 +15,7 @@ use Rattle.spec.specs.Answer.{prepared}
 use Rattle.parents.specs.Links.{directTo, fromOf}
 use Rattle.laws.proofs.Branch.{both}
 use Rattle.laws.proofs.Lists.{Rising, none-left, one-more, rising-from}
+use Rattle.theorems.proofs.Counts.{lawful}
 use Rattle.theorems.proofs.Cutting.{starts-rise}
 
 -- one block more in front: of its sides, which differ, one at most leads to t
@@ -41,13 +43,13 @@ module _ (t a lo : ℕ) (above : lo ≤ a) (s : Stack) (later : List Node) (more
   more-rise dynamic-jump = none-to
   more-rise (dynamic-jumpi f) = one-to f
 
-module _ (code : List ℕ) (t : ℕ) where
-  nodes-rise : {lo : ℕ} (bs : List Block) → Rising lo (starts bs) → Rising lo (map fromOf (directTo t (nodes code (instructions code) bs)))
+module _ (mode : ℕ) (code : List ℕ) (t : ℕ) where
+  nodes-rise : {lo : ℕ} (bs : List Block) → Rising lo (starts bs) → Rising lo (map fromOf (directTo t (nodes (in-mode mode) code (instructions code) bs)))
   nodes-rise [] none-left = none-left
   nodes-rise {lo} (b ∷ bs) (one-more h r) =
-      let own = run code (instructions code) (b .start) in
-      more-rise t (b .start) lo h (own .stack) (nodes code (instructions code) bs) (nodes-rise bs r) (settled (own .goes) (b .kind))
+      let own = run (in-mode mode) code (instructions code) (b .start) in
+      more-rise t (b .start) lo h (own .stack) (nodes (in-mode mode) code (instructions code) bs) (nodes-rise bs r) (settled (own .goes) (b .kind))
 
-  pub direct-rises : Rising 0 (map fromOf (directTo t (prepared code)))
+  pub direct-rises : Rising 0 (map fromOf (directTo t (prepared (in-mode mode) code)))
   unfolding prepared
-  direct-rises = nodes-rise (blocks code (instructions code)) (starts-rise code)
+  direct-rises = nodes-rise (blocks row code (instructions code)) (starts-rise lawful code)

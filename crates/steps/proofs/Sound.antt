@@ -5,6 +5,7 @@ use Prim.Native.Nat.{ℕ, zero, suc, _+_, _*_, _^_, _≤_}
 use mathlib.Core.List.{List, [], _∷_, map}
 use native.Mathlib.Omega.{arith}
 use lib.ListN.{length, drop}
+use Rattle.spec.specs.Opcodes.{in-mode}
 use Rattle.spec.specs.Walk.{instructions}
 use Rattle.spec.specs.Stacks.{Sym, before, constant, jumpdest, other, Stack, reads, read, run, through, compose}
 use Rattle.spec.specs.Rooms.{longest}
@@ -18,8 +19,8 @@ pub sound-more : {n a b : ℕ} {s : Stack} → SoundStack n a s → a ≤ b → 
 sound-more o h = record { deep = omega (arith, o .deep); lands = o .lands }
 
 -- a block's own, from any place
-pub sound-own : (code : List ℕ) → length code ≤ longest → (a : ℕ) → SoundStack (length code) 1 (run code (instructions code) a .stack)
-sound-own code h a = record { deep = omega (arith, run-deep code a); lands = λ t i. omega (arith, run-lands code (instructions code) a t i) }
+pub sound-own : (mode : ℕ) (code : List ℕ) → length code ≤ longest → (a : ℕ) → SoundStack (length code) 1 (run (in-mode mode) code (instructions code) a .stack)
+sound-own mode code h a = record { deep = omega (arith, run-deep mode code a); lands = λ t i. omega (arith, run-lands (in-mode mode) code (instructions code) a t i) }
 
 -- ---- what is read
 

@@ -5,6 +5,7 @@ use mathlib.Core.List.{List, [], _∷_}
 use native.Mathlib.Omega.{arith}
 use lib.Dec.{ltb}
 use borrow.Author.Tests.{lt-ltb, le-ltb, le-leb, lt-leb}
+use Rattle.spec.specs.Opcodes.{in-mode}
 use Rattle.spec.specs.Lists.{if}
 use Rattle.spec.specs.Walk.{instructions}
 use Rattle.spec.specs.Stacks.{Stack, cells, read, run, compose}
@@ -14,6 +15,7 @@ use Rattle.lent.specs.Bytes.{Holds}
 use Rattle.lent.proofs.Stored.{kept-take, kept-drop}
 use Rattle.layout.specs.Records.{recordPlace, R-KEPT, keptOf}
 use Rattle.layout.specs.Rows.{startOf}
+use Rattle.state.specs.Modes.{modeOf}
 use Rattle.state.specs.Symbols.{symOf}
 use Rattle.state.specs.Cells.{stackAt, State, reach}
 use Rattle.state.specs.Stored.{Readable}
@@ -44,13 +46,13 @@ kept-some (suc i) v r n h = let e : suc i - 1 ≡ i = omega arith in rw e at (h 
 
 -- ---- the stack that a number stands for
 
-module _ (code r s : List ℕ) (room at : ℕ) where
-  pub cursor-own : at < 0x10000 → stackCursor code r s room at ≡ run code (instructions code) (startOf at) .stack
+module _ (mode : ℕ) (code r s : List ℕ) (room at : ℕ) where
+  pub cursor-own : at < 0x10000 → stackCursor mode code r s room at ≡ run (in-mode mode) code (instructions code) (startOf at) .stack
   unfolding stackCursor
   cursor-own h = if-true (ltb at 0x10000) _ _ (lt-ltb at 0x10000 h)
 
   pub cursor-kept : 0x10000 ≤ at
-      → stackCursor code r s room at ≡ stackAt s (9 * (room - keptOf r (suc (at - 0x10000)))) (keptOf r (suc (at - 0x10000)) - keptOf r (at - 0x10000))
+      → stackCursor mode code r s room at ≡ stackAt s (9 * (room - keptOf r (suc (at - 0x10000)))) (keptOf r (suc (at - 0x10000)) - keptOf r (at - 0x10000))
   unfolding stackCursor
   cursor-kept h = if-false (ltb at 0x10000) _ _ (le-ltb at 0x10000 h)
 
@@ -70,7 +72,7 @@ module _ {code w s r : List ℕ} {k : Plan} {c : Counts} {l : Level} {at : ℕ} 
   C = stackAt s (9 * l .from) (l .cells)
 
   P : Stack
-  P = stackCursor code r s (k .rooms .s) at
+  P = stackCursor (modeOf (k .mode)) code r s (k .rooms .s) at
 
   -- ---- either parent, which lies in b from `from` on, in n cells
 
@@ -142,10 +144,10 @@ module _ {code w s r : List ℕ} {k : Plan} {c : Counts} {l : Level} {at : ℕ} 
     pub direct-runs : Runs code start w (k .end)
     direct-runs = record { stands = rw a (q .direct h); short = q .short; inside = q .inW; room = q .scratch }
 
-    module _ {w′ : List ℕ} {x : Own} (o : Owned code start w (k .end) w′ x) where
+    module _ {w′ : List ℕ} {x : Own} (o : Owned (modeOf (k .mode)) code start w (k .end) w′ x) where
       own-is : P ≡ stackAt w′ (x .at) (x .n)
       unfolding P
-      own-is = cursor-own code r s (k .rooms .s) at h ∙ ap (λ (i : ℕ). run code (instructions code) i .stack) (sym a) ∙ sym (o .lies .is)
+      own-is = cursor-own (modeOf (k .mode)) code r s (k .rooms .s) at h ∙ ap (λ (i : ℕ). run (in-mode (modeOf (k .mode))) code (instructions code) i .stack) (sym a) ∙ sym (o .lies .is)
 
       pub direct-readable : Readable w′ (x .at) (x .n) (l .position)
       direct-readable = readable own-is (o .lies .state)
@@ -156,13 +158,13 @@ module _ {code w s r : List ℕ} {k : Plan} {c : Counts} {l : Level} {at : ℕ} 
 
         module _ {y : StackSym} (z : symOf y ≡ read (stackAt w′ (x .at) (x .n)) (l .position)) where
           pub direct-short : k .rooms .s < c .kept + c .used + m
-              → Took code w s k c l (stackCursor code r s (k .rooms .s) at) w′ s (record { code = 5; cells = m; symbol = y })
+              → Took code w s k c l (stackCursor (modeOf (k .mode)) code r s (k .rooms .s) at) w′ s (record { code = 5; cells = m; symbol = y })
           unfolding P
           direct-short = took-short own-is (o .lies .state) f g (o .inside) z
 
           pub direct-took : {s′ : List ℕ} {v : ℕ} → c .kept + c .used + m ≤ k .rooms .s
               → Composed s (9 * c .used) (compose (stackAt s (9 * l .from) (l .cells)) (stackAt w′ (x .at) (x .n))) s′ v
-              → Took code w s k c l (stackCursor code r s (k .rooms .s) at) w′ s′ (record { code = 0; cells = v; symbol = y })
+              → Took code w s k c l (stackCursor (modeOf (k .mode)) code r s (k .rooms .s) at) w′ s′ (record { code = 0; cells = v; symbol = y })
           unfolding C P
           direct-took = took-all own-is (o .lies .state) f g (o .inside) z
 
@@ -185,7 +187,7 @@ module _ {code w s r : List ℕ} {k : Plan} {c : Counts} {l : Level} {at : ℕ} 
 
       found-is : P ≡ stackAt s (9 * (k .rooms .s - kept)) (kept - before)
       unfolding P
-      found-is = rw (kept-is, b) (cursor-kept code r s (k .rooms .s) at h)
+      found-is = rw (kept-is, b) (cursor-kept (modeOf (k .mode)) code r s (k .rooms .s) at h)
 
       pub found-rises : before ≤ kept
       found-rises = omega (arith, found-state .some)
@@ -205,12 +207,12 @@ module _ {code w s r : List ℕ} {k : Plan} {c : Counts} {l : Level} {at : ℕ} 
 
         module _ {y : StackSym} (z : symOf y ≡ read (stackAt s (9 * (k .rooms .s - kept)) (kept - before)) (l .position)) where
           pub found-short : k .rooms .s < c .kept + c .used + m
-              → Took code w s k c l (stackCursor code r s (k .rooms .s) at) w s (record { code = 5; cells = m; symbol = y })
+              → Took code w s k c l (stackCursor (modeOf (k .mode)) code r s (k .rooms .s) at) w s (record { code = 5; cells = m; symbol = y })
           unfolding P
           found-short = took-short found-is found-state f g same z
 
           pub found-took : {s′ : List ℕ} {v : ℕ} → c .kept + c .used + m ≤ k .rooms .s
               → Composed s (9 * c .used) (compose (stackAt s (9 * l .from) (l .cells)) (stackAt s (9 * (k .rooms .s - kept)) (kept - before))) s′ v
-              → Took code w s k c l (stackCursor code r s (k .rooms .s) at) w s′ (record { code = 0; cells = v; symbol = y })
+              → Took code w s k c l (stackCursor (modeOf (k .mode)) code r s (k .rooms .s) at) w s′ (record { code = 0; cells = v; symbol = y })
           unfolding C P
           found-took = took-all found-is found-state f g same z

@@ -6,6 +6,7 @@ use mathlib.Core.Bool.{Bool, _&&_, _||_}
 use mathlib.Core.List.{List, [], _∷_, _++_, map}
 use lib.Dec.{eqb, ltb, leb}
 use lib.ListN.{length, drop}
+use Rattle.spec.specs.Opcodes.{in-mode}
 use Rattle.spec.specs.Lists.{if, mem, lastOf, keep}
 use Rattle.spec.specs.Walk.{instructions}
 use Rattle.spec.specs.Stacks.{Stack, run}
@@ -44,9 +45,9 @@ pathCursor r q at = if (ltb at 0x10000) (startOf at ∷ []) (pathAt r q (at - 0x
 unfoldable pub lastCursor : List ℕ → List ℕ → ℕ → ℕ
 lastCursor r q at = if (ltb at 0x10000) (startOf at) (numAt 2 q (2 * (endOf r (suc (at - 0x10000)) - 1)))
 
-unfoldable pub stackCursor : List ℕ → List ℕ → List ℕ → ℕ → ℕ → Stack
-stackCursor code r s room at =
-    if (ltb at 0x10000) (run code (instructions code) (startOf at) .stack)
+unfoldable pub stackCursor : ℕ → List ℕ → List ℕ → List ℕ → ℕ → ℕ → Stack
+stackCursor mode code r s room at =
+    if (ltb at 0x10000) (run (in-mode mode) code (instructions code) (startOf at) .stack)
     (stackAt s (9 * (room - keptOf r (suc (at - 0x10000)))) (keptOf r (suc (at - 0x10000)) - keptOf r (at - 0x10000)))
 
 -- ---- what the functions ask
@@ -88,8 +89,8 @@ pub record LeadsTo (b : ℕ) (recs : List Rec) (i : ℕ) : Type 0 where
   pub to : rec .to ≡ found b state
 
 -- the starts of direct parents rise, and so do the links to them: a level's loop ends
-pub data Left (code w : List ℕ) (n b : ℕ) (recs : List Rec) : ℕ → List Parent → Type 0 where
-  none-left : Left code w n b recs 0 []
+pub data Left (mode : ℕ) (code w : List ℕ) (n b : ℕ) (recs : List Rec) : ℕ → List Parent → Type 0 where
+  none-left : Left mode code w n b recs 0 []
   direct-left : {link lo : ℕ} {starts : List ℕ} → 1 ≤ link → Parents w n b link starts → Rising lo starts → ((a : ℕ) → In a starts → Comes code a)
-      → Left code w n b recs link (map (parentOf code b) starts ++ foundTo b recs)
-  found-left : {i : ℕ} → LeadsTo b recs i → Left code w n b recs (0x10000 + i) (foundTo b (drop i recs))
+      → Left mode code w n b recs link (map (parentOf mode code b) starts ++ foundTo b recs)
+  found-left : {i : ℕ} → LeadsTo b recs i → Left mode code w n b recs (0x10000 + i) (foundTo b (drop i recs))

@@ -8,6 +8,7 @@ use Rattle.spec.specs.Search.{S}
 use Rattle.spec.specs.Rooms.{longest}
 use Rattle.layout.specs.Records.{RECORD, recordPlace, keptOf}
 use Rattle.layout.specs.Rows.{startOf}
+use Rattle.state.specs.Modes.{modeOf}
 use Rattle.state.specs.Symbols.{symOf}
 use Rattle.state.specs.Cells.{stackAt, State, Lies, reach}
 use Rattle.state.specs.Owns.{roomOf}
@@ -35,7 +36,7 @@ pub record Composing (code w s r : List ℕ) (k : Plan) (c : Counts) (l : Level)
   pub kept : 0x10000 ≤ at → keptOf r (suc (at - 0x10000)) ≤ c .kept
   pub parent : 0x10000 ≤ at → State s (9 * (k .rooms .s - keptOf r (suc (at - 0x10000)))) (keptOf r (suc (at - 0x10000)) - keptOf r (at - 0x10000))
   pub deep : reach (stackAt s (9 * l .from) (l .cells)) ≤ 2 ^ 50
-  pub deeper : reach (stackCursor code r s (k .rooms .s) at) ≤ 2 ^ 50
+  pub deeper : reach (stackCursor (modeOf (k .mode)) code r s (k .rooms .s) at) ≤ 2 ^ 50
   pub near : l .position ≤ 2 ^ 50
 
 -- The code is the shortage of S; where it is 0, the new state lies right after the cells in use. All else of S stays, the kept cells at its top among it, and

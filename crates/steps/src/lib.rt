@@ -5,6 +5,7 @@ pub mod meet;
 pub mod path;
 pub mod state_of;
 
+use state::mode::Mode;
 use tables::Counts;
 use tables::Rooms;
 
@@ -18,6 +19,7 @@ pub struct Plan {
     pub shelves: usize,
     pub limit: usize,
     pub rooms: Rooms,
+    pub mode: Mode,
 }
 
 // A level: the addresses of its path in P, the stack position that it asks for, the place and the length in S, in cells, of the path's state, and 256 less

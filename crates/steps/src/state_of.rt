@@ -19,6 +19,7 @@ ghost use mathlib.Core.Path.{_≡_};
 ghost use Prim.Native.Nat.{_*_, _≤_, _<_};
 ghost use lib.ListN.{length};
 ghost use Rattle.layout.specs.Records.{recordPlace, keptOf};
+ghost use Rattle.state.specs.Modes.{modeOf};
 ghost use Rattle.steps.specs.Cursors.{stackCursor};
 ghost use Rattle.steps.specs.States.{Composing, Took};
 
@@ -42,10 +43,11 @@ fn take_direct(
 ) -> Taken
     requires { ⌜ Composing (now code) (now w) (now s) (now r) k c l at ⌝ }
     requires { ⌜ at < 0x10000 ⌝ }
-    ensures { λ x. ⌜ Took (now (code .entry)) (now (w .entry)) (now (s .entry)) k c l (stackCursor (now (code .entry)) (now (r .entry)) (now (s .entry)) (k .rooms .s) at)
+    ensures { λ x. ⌜ Took (now (code .entry)) (now (w .entry)) (now (s .entry)) k c l (stackCursor (modeOf (k .mode)) (now (code .entry)) (now (r .entry)) (now (s .entry)) (k .rooms .s) at)
         (now (w .exit)) (now (s .exit)) x ⌝ }
 {
-    let own = run(code, parent_start(at), w, k.end);
+    let mode = k.mode;
+    let own = run(mode, code, parent_start(at), w, k.end);
     let symbol = symbol_at(w, own.at, own.n, l.position);
     let cells = composed_len(l.cells, base_at(s, 9 * l.from, l.cells), own.n);
     let rooms = k.rooms;
@@ -77,7 +79,7 @@ fn take_found(
 ) -> Taken
     requires { ⌜ Composing (now code) (now w) (now s) (now r) k c l at ⌝ }
     requires { ⌜ 0x10000 ≤ at ⌝ }
-    ensures { λ x. ⌜ Took (now (code .entry)) (now (w .entry)) (now (s .entry)) k c l (stackCursor (now (code .entry)) (now (r .entry)) (now (s .entry)) (k .rooms .s) at)
+    ensures { λ x. ⌜ Took (now (code .entry)) (now (w .entry)) (now (s .entry)) k c l (stackCursor (modeOf (k .mode)) (now (code .entry)) (now (r .entry)) (now (s .entry)) (k .rooms .s) at)
         (now (w .exit)) (now (s .exit)) x ⌝ }
 {
     let rooms = k.rooms;
@@ -124,7 +126,7 @@ pub fn take_state(
     at: usize,
 ) -> Taken
     requires { ⌜ Composing (now code) (now w) (now s) (now r) k c l at ⌝ }
-    ensures { λ x. ⌜ Took (now (code .entry)) (now (w .entry)) (now (s .entry)) k c l (stackCursor (now (code .entry)) (now (r .entry)) (now (s .entry)) (k .rooms .s) at)
+    ensures { λ x. ⌜ Took (now (code .entry)) (now (w .entry)) (now (s .entry)) k c l (stackCursor (modeOf (k .mode)) (now (code .entry)) (now (r .entry)) (now (s .entry)) (k .rooms .s) at)
         (now (w .exit)) (now (s .exit)) x ⌝ }
 {
     if at < FOUND {

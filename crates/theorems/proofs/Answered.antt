@@ -7,6 +7,7 @@ use mathlib.Core.List.{List, [], _∷_, map}
 use lib.ListN.{length, length-append}
 use borrow.Author.Tests.{not-true}
 use Rattle.spec.specs.Lists.{keep}
+use Rattle.spec.specs.Opcodes.{Rules}
 use Rattle.spec.specs.Walk.{Ins, instructions}
 use Rattle.spec.specs.Blocks.{Kind, terminate, jump, jumpi, dynamic-jump, dynamic-jumpi, Block, with-kind, starts, blocks}
 use Rattle.spec.specs.Stacks.{Ran, run}
@@ -18,6 +19,7 @@ use Rattle.spec.specs.Answer.{answered, prepared, searched, mapped, answer}
 use Rattle.laws.proofs.Branch.{both}
 use Rattle.laws.proofs.Lists.{Rising, one-more, rising-from}
 use Rattle.laws.proofs.Members.{In, in-keep, in-map}
+use Rattle.theorems.proofs.Counts.{Lawful}
 use Rattle.theorems.proofs.Cutting.{Made, made, starts-rise}
 use Rattle.theorems.proofs.Energy.{counted-in, energy-is-counted, search-energy}
 use Rattle.theorems.proofs.Records.{History, search-rounds, search-history}
@@ -92,10 +94,10 @@ made-kept k m = record {
   end-inside = rw (k .end) (m .end-inside);
 }
 
-pub final-starts : (code : List ℕ) (is : List Ins) (bs : List Block) (recs : List Rec) → finals-at (finals (nodes code is bs) recs) ≡ starts bs
-final-starts code is [] recs = refl
-final-starts code is (b ∷ bs) recs =
-    ap₂ {C = List ℕ} (λ (x : ℕ) (xs : List ℕ). x ∷ xs) (final-keeps recs (node b (run code is (b .start))) refl b (run code is (b .start)) refl .start) (final-starts code is bs recs)
+pub final-starts : (r : Rules) (code : List ℕ) (is : List Ins) (bs : List Block) (recs : List Rec) → finals-at (finals (nodes r code is bs) recs) ≡ starts bs
+final-starts r code is [] recs = refl
+final-starts r code is (b ∷ bs) recs =
+    ap₂ {C = List ℕ} (λ (x : ℕ) (xs : List ℕ). x ∷ xs) (final-keeps recs (node b (run r code is (b .start))) refl b (run r code is (b .start)) refl .start) (final-starts r code is bs recs)
 
 -- what is kept of a rising list rises
 pub rising-keep : (test : Final → Bool) {lo : ℕ} (fs : List Final) → Rising lo (finals-at fs) → Rising lo (finals-at (keep test fs))
@@ -105,55 +107,55 @@ rising-keep test {lo} (f ∷ fs) (one-more h r) =
 
 -- ---- every answer
 
-module _ (l : Lent) (limit : ℕ) (code : List ℕ) (a : Map) (e : answer l limit code ≡ answered a) where
-  the-map : a ≡ mapped code (searched limit code)
-  the-map = gave l limit code a e .is
+module _ (r : Rules) (l : Lent) (limit : ℕ) (code : List ℕ) (a : Map) (e : answer r l limit code ≡ answered a) where
+  the-map : a ≡ mapped r code (searched r limit code)
+  the-map = gave r l limit code a e .is
 
   -- "Energy used is the number of units counted in step 1"
-  pub answered-counted : a .energy ≡ counted-in (search-rounds limit (prepared code))
+  pub answered-counted : a .energy ≡ counted-in (search-rounds limit (prepared r code))
   unfolding mapped searched
-  answered-counted = rw the-map (energy-is-counted limit (prepared code))
+  answered-counted = rw the-map (energy-is-counted limit (prepared r code))
 
   -- "the total may pass the limit, by at most 256"
   pub answered-energy : a .energy ≤ limit + 256
   unfolding mapped searched
-  answered-energy = rw the-map (search-energy limit (prepared code))
+  answered-energy = rw the-map (search-energy limit (prepared r code))
 
   -- each record came of those before it
-  pub answered-history : History (prepared code) (a .recs)
+  pub answered-history : History (prepared r code) (a .recs)
   unfolding mapped searched
-  answered-history = rw the-map (search-history limit (prepared code))
+  answered-history = rw the-map (search-history limit (prepared r code))
 
   record FromCut (f : Final) : Type 0 where
     cut : Block
-    member : In cut (blocks code (instructions code))
+    member : In cut (blocks (r .row) code (instructions code))
     same : Kept cut (f .block)
     found : AllFound f
 
   from-cut : (f : Final) → In f (a .blocks) → FromCut f
   unfolding mapped prepared
   from-cut f i =
-      let recs = searched limit code .recs in
-      let k = in-keep _ (finals (prepared code) recs) (subst (λ (m : Map). In f (m .blocks)) the-map i) in
-      let n = in-map _ (prepared code) (k .1) in
-      let b = in-map (λ (b : Block). node b (run code (instructions code) (b .start))) (blocks code (instructions code)) (n .1) in
+      let recs = searched r limit code .recs in
+      let k = in-keep _ (finals (prepared r code) recs) (subst (λ (m : Map). In f (m .blocks)) the-map i) in
+      let n = in-map _ (prepared r code) (k .1) in
+      let b = in-map (λ (b : Block). node b (run r code (instructions code) (b .start))) (blocks (r .row) code (instructions code)) (n .1) in
       record { cut = b .0; member = b .1; same = final-keeps recs (n .0) (n .2) (b .0) _ (b .2); found = final-found recs (n .0) (n .2) }
 
   -- "`id` equals `start`", the end is not before the start, and both lie within the code
-  pub answered-block : (f : Final) → In f (a .blocks) → Made code (f .block)
-  answered-block f i = let c = from-cut f i in made-kept (c .same) (made code (c .member))
+  pub answered-block : Lawful (r .row) → (f : Final) → In f (a .blocks) → Made code (f .block)
+  answered-block ok f i = let c = from-cut f i in made-kept (c .same) (made ok code (c .member))
 
   -- an entry of a DynamicJump has a destination
   pub answered-entry : (f : Final) → In f (a .blocks) → f .block .kind ≡ dynamic-jump → (r : Rec) → In r (f .entries) → is-nowhere (r .to) ≡ false
   answered-entry f i = from-cut f i .found
 
   -- blocks stand in address order
-  pub answered-order : Rising 0 (finals-at (a .blocks))
+  pub answered-order : Lawful (r .row) → Rising 0 (finals-at (a .blocks))
   unfolding mapped prepared
-  answered-order =
-      let recs = searched limit code .recs in
-      let all = subst (Rising 0) (sym (final-starts code (instructions code) (blocks code (instructions code)) recs)) (starts-rise code) in
-      subst (λ (m : Map). Rising 0 (finals-at (m .blocks))) (sym the-map) (rising-keep _ (finals (prepared code) recs) all)
+  answered-order ok =
+      let recs = searched r limit code .recs in
+      let all = subst (Rising 0) (sym (final-starts r code (instructions code) (blocks (r .row) code (instructions code)) recs)) (starts-rise ok code) in
+      subst (λ (m : Map). Rising 0 (finals-at (m .blocks))) (sym the-map) (rising-keep _ (finals (prepared r code) recs) all)
 
 -- the head alone has 18 bytes, so that what the exported entry counts is no refusal's number
 pub answered-long : (m : Map) → 18 ≤ length (bytes m)

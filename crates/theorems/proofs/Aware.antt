@@ -8,7 +8,7 @@ use mathlib.Core.List.{List, [], _∷_}
 use lib.Dec.{eqb, ltb}
 use lib.ListN.{getD, replicate}
 use Rattle.spec.specs.Lists.{if}
-use Rattle.spec.specs.Opcodes.{row}
+use Rattle.spec.specs.Opcodes.{Rules}
 use Rattle.spec.specs.Walk.{Ins}
 use Rattle.spec.specs.Stacks.{Sym, other, Stack, entry, read, pops, push, pushes, swap, from-value, known-value, mask, is, anded, summed, Does, pushes-value, pushes-pc, dups, swaps, ands, adds, jumps, jumpis, lands, halts, plain, does, act}
 use Rattle.spec.specs.Meaning.{Throughout, Deep, Masked, Asked}
@@ -55,49 +55,50 @@ aware-swap m {s} h = record {
   at = λ n. known-if (eqb n 0) _ _ (h .at (suc m)) (known-if (eqb n (suc m)) _ _ (h .at 0) (h .at n)) ∙ ap known-value (sym (read-swap m s n));
 }
 
-aware-act : (code : List ℕ) (i : Ins) (d : Does) {s : Stack} {k : Knowing} → Aware s k → Aware (act code i d s) (knows i d k)
-unfolding act
-aware-act code i pushes-value h = aware-push _ _ (known-from code (i .arg)) h
-aware-act code i pushes-pc h = aware-push _ _ (known-from code (i .pc)) h
-aware-act code i (dups n) h = aware-push _ _ (h .at n) h
-aware-act code i (swaps n) h = aware-swap n h
-aware-act code i ands {s} h = aware-push _ _ (rw (h .at 0, h .at 1) (known-anded (i .pc) (read s 0) (read s 1))) (aware-pops 2 h)
-aware-act code i adds {s} h = aware-push _ _ (rw (h .at 0, h .at 1) (known-summed code (i .pc) (known-value (read s 0)) (known-value (read s 1)))) (aware-pops 2 h)
-aware-act code i jumps h = aware-pops 1 h
-aware-act code i jumpis h = aware-pops 2 h
-aware-act code i lands h = h
-aware-act code i halts h = aware-others (i .pc) (row (i .op) .given) (aware-pops (row (i .op) .taken) h)
-aware-act code i plain h = aware-others (i .pc) (row (i .op) .given) (aware-pops (row (i .op) .taken) h)
+module _ (rules : Rules) where
+  aware-act : (code : List ℕ) (i : Ins) (d : Does) {s : Stack} {k : Knowing} → Aware s k → Aware (act (rules .row) code i d s) (knows (rules .row) i d k)
+  unfolding act
+  aware-act code i pushes-value h = aware-push _ _ (known-from code (i .arg)) h
+  aware-act code i pushes-pc h = aware-push _ _ (known-from code (i .pc)) h
+  aware-act code i (dups n) h = aware-push _ _ (h .at n) h
+  aware-act code i (swaps n) h = aware-swap n h
+  aware-act code i ands {s} h = aware-push _ _ (rw (h .at 0, h .at 1) (known-anded (i .pc) (read s 0) (read s 1))) (aware-pops 2 h)
+  aware-act code i adds {s} h = aware-push _ _ (rw (h .at 0, h .at 1) (known-summed code (i .pc) (known-value (read s 0)) (known-value (read s 1)))) (aware-pops 2 h)
+  aware-act code i jumps h = aware-pops 1 h
+  aware-act code i jumpis h = aware-pops 2 h
+  aware-act code i lands h = h
+  aware-act code i halts h = aware-others (i .pc) (rules .row (i .op) .given) (aware-pops (rules .row (i .op) .taken) h)
+  aware-act code i plain h = aware-others (i .pc) (rules .row (i .op) .given) (aware-pops (rules .row (i .op) .taken) h)
 
--- ---- what is asked
+  -- ---- what is asked
 
-module _ (code : List ℕ) (supply : ℕ → ℕ → ℕ) (start : ℕ) where
-  deep-runs : (is : List Ins) (s : Stack) (k : Knowing) (st : List ℕ) → Aware s k → Runs supply start is k st → Throughout code supply start Deep is s st
-  deep-runs [] s k st h r = tt
-  deep-runs (i ∷ is) s k st h r = (r .0 .deep, λ off. deep-runs is _ _ _ (aware-act code i (does (i .op)) h) (r .1 off))
+  module _ (code : List ℕ) (supply : ℕ → ℕ → ℕ) (start : ℕ) where
+    deep-runs : (is : List Ins) (s : Stack) (k : Knowing) (st : List ℕ) → Aware s k → Runs rules supply start is k st → Throughout rules code supply start (Deep (rules .row)) is s st
+    deep-runs [] s k st h r = tt
+    deep-runs (i ∷ is) s k st h r = (r .0 .deep, λ off. deep-runs is _ _ _ (aware-act code i (does (rules .mode) (i .op)) h) (r .1 off))
 
-  masked-runs : (is : List Ins) (s : Stack) (k : Knowing) (st : List ℕ) → Aware s k → Runs supply start is k st → Throughout code supply start Masked is s st
-  masked-runs [] s k st h r = tt
-  masked-runs (i ∷ is) s k st h r = (
-    (λ e. record { top = λ on. r .0 .top e (rw (h .at 0) on); next = λ off on. r .0 .next e (rw (h .at 0) off) (rw (h .at 1) on) }),
-    λ off. masked-runs is _ _ _ (aware-act code i (does (i .op)) h) (r .1 off),
-  )
+    masked-runs : (is : List Ins) (s : Stack) (k : Knowing) (st : List ℕ) → Aware s k → Runs rules supply start is k st → Throughout rules code supply start Masked is s st
+    masked-runs [] s k st h r = tt
+    masked-runs (i ∷ is) s k st h r = (
+      (λ e. record { top = λ on. r .0 .top e (rw (h .at 0) on); next = λ off on. r .0 .next e (rw (h .at 0) off) (rw (h .at 1) on) }),
+      λ off. masked-runs is _ _ _ (aware-act code i (does (rules .mode) (i .op)) h) (r .1 off),
+    )
 
-  runs-asked : (is : List Ins) (s : Stack) (k : Knowing) (st : List ℕ) → Aware s k → Throughout code supply start Deep is s st
-      → Throughout code supply start Masked is s st → Runs supply start is k st
-  runs-asked [] s k st h d m = tt
-  runs-asked (i ∷ is) s k st h d m = (
-    record { deep = d .0; top = λ e on. m .0 e .top (rw (h .at 0) at on); next = λ e off on. m .0 e .next (rw (h .at 0) at off) (rw (h .at 1) at on) },
-    λ off. runs-asked is _ _ _ (aware-act code i (does (i .op)) h) (d .1 off) (m .1 off),
-  )
+    runs-asked : (is : List Ins) (s : Stack) (k : Knowing) (st : List ℕ) → Aware s k → Throughout rules code supply start (Deep (rules .row)) is s st
+        → Throughout rules code supply start Masked is s st → Runs rules supply start is k st
+    runs-asked [] s k st h d m = tt
+    runs-asked (i ∷ is) s k st h d m = (
+      record { deep = d .0; top = λ e on. m .0 e .top (rw (h .at 0) at on); next = λ e off on. m .0 e .next (rw (h .at 0) at off) (rw (h .at 1) at on) },
+      λ off. runs-asked is _ _ _ (aware-act code i (does (rules .mode) (i .op)) h) (d .1 off) (m .1 off),
+    )
 
-  aware-entry : Aware entry unaware
-  unfolding read
-  aware-entry = record { at = λ n. refl }
+    aware-entry : Aware entry unaware
+    unfolding read
+    aware-entry = record { at = λ n. refl }
 
-  -- The two say the same: on words alone, and with the symbols beside them.
-  pub asked : (is : List Ins) (st : List ℕ) → Runs supply start is unaware st → Asked code supply start is st
-  asked is st r = record { deep = deep-runs is entry unaware st aware-entry r; masked = masked-runs is entry unaware st aware-entry r }
+    -- The two say the same: on words alone, and with the symbols beside them.
+    pub asked : (is : List Ins) (st : List ℕ) → Runs rules supply start is unaware st → Asked rules code supply start is st
+    asked is st r = record { deep = deep-runs is entry unaware st aware-entry r; masked = masked-runs is entry unaware st aware-entry r }
 
-  pub asked-back : (is : List Ins) (st : List ℕ) → Asked code supply start is st → Runs supply start is unaware st
-  asked-back is st a = runs-asked is entry unaware st aware-entry (a .deep) (a .masked)
+    pub asked-back : (is : List Ins) (st : List ℕ) → Asked rules code supply start is st → Runs rules supply start is unaware st
+    asked-back is st a = runs-asked is entry unaware st aware-entry (a .deep) (a .masked)

@@ -12,7 +12,7 @@ use lib.ListN.{length, getD, drop, set, replicate, length-drop, length-set}
 use lib.Seq.{getD-drop, getD-set-same, getD-set-other}
 use borrow.Author.Tests.{eqb-true, eqb-false}
 use Rattle.spec.specs.Lists.{if}
-use Rattle.spec.specs.Opcodes.{row}
+use Rattle.spec.specs.Opcodes.{Row}
 use Rattle.spec.specs.Walk.{Ins}
 use Rattle.spec.specs.Stacks.{Sym, other, Stack, read, pops, push, pushes, span, swap, from-value, known-value, anded, summed, Does, pushes-value, pushes-pc, dups, swaps, ands, adds, jumps, jumpis, lands, halts, plain, act}
 use Rattle.spec.specs.Meaning.{supplied, exchanged}
@@ -82,15 +82,15 @@ module _ (R : Sym → ℕ → Type 0) where
     pub number : (v : ℕ) → R (from-value code v) v
     pub sum : (pc : ℕ) (a b : Sym) (u w : ℕ) → R a u → R b w → R (summed code pc (known-value a) (known-value b)) ((u + w) % 2 ^ 256)
 
-  module _ (code : List ℕ) (r : Follows code) where
+  module _ (row : ℕ → Row) (code : List ℕ) (r : Follows code) where
     beside-supplied : (pc : ℕ) (f : ℕ → ℕ) (m : ℕ) {s : Stack} {st : List ℕ} → Beside s st → Beside (pushes (replicate m (other pc)) s) (supplied f m ++ st)
     beside-supplied pc f zero h = h
     beside-supplied pc f (suc m) h = beside-push (r .unsaid pc (f m)) (beside-supplied pc f m h)
 
     -- The instruction, by what it does; of an AND it is to be shown.
-    pub beside-act : (f : ℕ → ℕ) (i : Ins) (d : Does) {s : Stack} {st : List ℕ} → Beside s st → takes (i .op) d ≤ length st
+    pub beside-act : (f : ℕ → ℕ) (i : Ins) (d : Does) {s : Stack} {st : List ℕ} → Beside s st → takes (row (i .op)) d ≤ length st
         → (ands? d ≡ true → R (read s 0) (getD st 0 0) → R (read s 1) (getD st 1 0) → R (anded (i .pc) (read s 0) (read s 1)) (bitAnd (getD st 0 0) (getD st 1 0)))
-        → Beside (act code i d s) (does-to f i d st)
+        → Beside (act row code i d s) (does-to (row (i .op)) f i d st)
     unfolding act does-to
     beside-act f i pushes-value h l o = beside-push (r .number (i .arg)) h
     beside-act f i pushes-pc h l o = beside-push (r .number (i .pc)) h

@@ -8,6 +8,7 @@ use lib.Dec.{eqb}
 use lib.ListN.{length, length-append, length-map}
 use borrow.Author.Tests.{eqb-true}
 use Rattle.spec.specs.Lists.{keep, gather, little}
+use Rattle.spec.specs.Opcodes.{Rules}
 use Rattle.spec.specs.Blocks.{Kind, terminate, jump, jumpi, dynamic-jump, dynamic-jumpi, Block}
 use Rattle.spec.specs.Search.{Node, Rec, is-nowhere, dest, dests}
 use Rattle.spec.specs.Ending.{Final, final, all-are, merged, ended, entries-of, finals}
@@ -17,6 +18,7 @@ use Rattle.spec.specs.Answer.{answered, prepared, searched, mapped, answer}
 use Rattle.laws.proofs.Branch.{both}
 use Rattle.laws.proofs.Lists.{Rising, one-more}
 use Rattle.laws.proofs.Members.{In, here, there, in-right, in-keep, length-keep, in-gather, gather-append, in-map, map-in}
+use Rattle.theorems.proofs.Counts.{Lawful}
 use Rattle.theorems.proofs.Sides.{Within}
 use Rattle.theorems.proofs.Passing.{inner, Passes, record-passes}
 use Rattle.theorems.proofs.Demand3.{gave}
@@ -122,17 +124,17 @@ rising-few (a ∷ ns) (one-more k r) h l = let f = rising-few ns r (λ t i. h t 
 
 -- ---- every answer
 
-module _ (l : Lent) (limit : ℕ) (code : List ℕ) (m : Map) (e : answer l limit code ≡ answered m) where
+module _ (rules : Rules) (ok : Lawful (rules .row)) (l : Lent) (limit : ℕ) (code : List ℕ) (m : Map) (e : answer rules l limit code ≡ answered m) where
   abbrev the-recs : List Rec
-  the-recs = searched limit code .recs
+  the-recs = searched rules limit code .recs
 
   recs-are : m .recs ≡ the-recs
   unfolding mapped
-  recs-are = ap (λ (a : Map). a .recs) (gave l limit code m e .is)
+  recs-are = ap (λ (a : Map). a .recs) (gave rules l limit code m e .is)
 
   passes : (r : Rec) → In r the-recs → Passes (length code) r
   unfolding searched
-  passes r i = record-passes limit code r i
+  passes r i = record-passes rules ok limit code r i
 
   -- the records of the block at a
   mine : (a : ℕ) (r : Rec) → In r (entries-of a the-recs) → (eqb a (r .start) ≡ true) × In r the-recs
@@ -142,8 +144,8 @@ module _ (l : Lent) (limit : ℕ) (code : List ℕ) (m : Map) (e : answer l limi
     block : Block
     made : Made (length code) block (entries-of (block .start) the-recs) f
 
-  node-made : (x : Node) → In x (prepared code) → Made (length code) (x .block) (entries-of (x .block .start) the-recs) (ended (x .block) (entries-of (x .block .start) the-recs) (x .block .kind))
-  node-made x i = made-ended (length code) (x .block) es (x .block .kind) (inner code x i .kind) low
+  node-made : (x : Node) → In x (prepared rules code) → Made (length code) (x .block) (entries-of (x .block .start) the-recs) (ended (x .block) (entries-of (x .block .start) the-recs) (x .block .kind))
+  node-made x i = made-ended (length code) (x .block) es (x .block .kind) (inner rules ok code x i .kind) low
     where
       es : List Rec
       es = entries-of (x .block .start) the-recs
@@ -154,13 +156,13 @@ module _ (l : Lent) (limit : ℕ) (code : List ℕ) (m : Map) (e : answer l limi
   made-of : (f : Final) → In f (m .blocks) → MadeOf f
   unfolding mapped
   made-of f i =
-      let k = in-keep _ (finals (prepared code) the-recs) (subst (λ (a : Map). In f (a .blocks)) (gave l limit code m e .is) i) in
-      let g = in-map (λ (x : Node). ended (x .block) (entries-of (x .block .start) the-recs) (x .block .kind)) (prepared code) (k .1) in
+      let k = in-keep _ (finals (prepared rules code) the-recs) (subst (λ (a : Map). In f (a .blocks)) (gave rules l limit code m e .is) i) in
+      let g = in-map (λ (x : Node). ended (x .block) (entries-of (x .block .start) the-recs) (x .block .kind)) (prepared rules code) (k .1) in
       record { block = g .0 .block; made = subst (Made (length code) (g .0 .block) (entries-of (g .0 .block .start) the-recs)) (sym (g .2)) (node-made (g .0) (g .1)) }
 
   -- "of any room at most 2^30 units count as lent"
   output-short : length (bytes m) ≤ 2 ^ 30
-  output-short = let o = gave l limit code m e .output in omega arith
+  output-short = let o = gave rules l limit code m e .output in omega arith
 
   recs-short : length the-recs ≤ 2 ^ 30
   recs-short = omega (arith, bytes-few m, ap length recs-are, output-short)
@@ -172,7 +174,7 @@ module _ (l : Lent) (limit : ℕ) (code : List ℕ) (m : Map) (e : answer l limi
 
   block-bounded : (f : Final) → In f (m .blocks) → BlockBounded (length code) f
   block-bounded f i =
-      let b = answered-block l limit code m e f i in
+      let b = answered-block rules l limit code m e ok f i in
       let o = made-of f i in
       record {
         id = b .id-start;
@@ -186,7 +188,7 @@ module _ (l : Lent) (limit : ℕ) (code : List ℕ) (m : Map) (e : answer l limi
       }
 
   blocks-few : length (m .blocks) ≤ length code
-  blocks-few = omega (arith, rising-few (finals-at (m .blocks)) (answered-order l limit code m e) inside (omega arith), length-map (m .blocks) (λ (f : Final). f .block .start))
+  blocks-few = omega (arith, rising-few (finals-at (m .blocks)) (answered-order rules l limit code m e ok) inside (omega arith), length-map (m .blocks) (λ (f : Final). f .block .start))
     where
       inside : (t : ℕ) → In t (finals-at (m .blocks)) → t < length code
       inside t j = let g = in-map (λ (f : Final). f .block .start) (m .blocks) j in omega (arith, g .2, block-bounded (g .0) (g .1) .start)
@@ -195,12 +197,12 @@ module _ (l : Lent) (limit : ℕ) (code : List ℕ) (m : Map) (e : answer l limi
   pub answered-bounded : Bounded (length code) m
   unfolding mapped
   answered-bounded = record {
-    size = ap (λ (a : Map). a .size) (gave l limit code m e .is);
-    size-fits = gave l limit code m e .taken .code-fits;
-    energy = omega (arith, answered-energy l limit code m e, gave l limit code m e .taken .limit-fits);
+    size = ap (λ (a : Map). a .size) (gave rules l limit code m e .is);
+    size-fits = gave rules l limit code m e .taken .code-fits;
+    energy = omega (arith, answered-energy rules l limit code m e, gave rules l limit code m e .taken .limit-fits);
     block-count = blocks-few;
     record-count = omega (arith, recs-short, ap length recs-are);
-    rising = answered-order l limit code m e;
+    rising = answered-order rules l limit code m e ok;
     blocks = block-bounded;
     recs = λ r i. rec-bounded r (subst (In r) recs-are i);
   }

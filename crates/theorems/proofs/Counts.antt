@@ -1,24 +1,25 @@
 -- Document 01, "Which instruction does what is one decision over the byte and its ranges": YP's step and the ends of a run, given by the byte, are those
--- of the decision, and so are the row's numbers. At the 256 bytes by computing; a number past them is plain and unknown. Assumes nothing.
+-- of the decision in either mode, and so are the row's numbers, by any rows that are document 01's where the decision names a byte. At the 256 bytes by
+-- computing; a number past them is plain. Assumes nothing.
 use Prim.Native.Nat.{ℕ, zero, suc, _+_, _^_, _%_, _≤_, _<_}
 use native.Mathlib.Omega.{arith}
 use native.Mathlib.Nat.{eq-or-lt-of-le}
-use mathlib.Core.Path.{_≡_, refl}
+use mathlib.Core.Path.{_≡_, refl, sym, subst}
 use mathlib.Core.Logic.{_⊎_, inl, inr}
-use mathlib.Core.Bool.{Bool, true, false, _&&_}
+use mathlib.Core.Bool.{Bool, true, false, _&&_, _||_}
 use mathlib.Core.List.{List, [], _∷_, _++_}
 use lib.Bits.{bitAnd}
 use lib.Dec.{T, eqb, leb, ltb, leb→le}
 use lib.ListN.{getD, drop}
 use borrow.Author.Tests.{leb-true, ltb-true, ltb-false, lt-leb, ne-eqb}
 use Rattle.spec.specs.Lists.{if, within, mem}
-use Rattle.spec.specs.Opcodes.{unknown, row}
+use Rattle.spec.specs.Opcodes.{Row, row as listed}
 use Rattle.spec.specs.Walk.{Ins}
 use Rattle.spec.specs.Stacks.{Does, pushes-value, pushes-pc, dups, swaps, ands, adds, jumps, jumpis, lands, halts, plain, does}
 use Rattle.spec.specs.Meaning.{supplied, exchanged, yields, jumping, closing}
-use Rattle.laws.proofs.Branch.{and-false}
+use Rattle.laws.proofs.Branch.{both, if-false, and-false}
 
--- ---- a number past 255, which is no byte, is plain and unknown
+-- ---- a number past 255, which is no byte, is plain
 
 pub and-off : (a : Bool) → a && false ≡ false
 and-off a = and-false a refl
@@ -30,13 +31,9 @@ module _ (b : ℕ) (past : 255 < b) where
   pub above : (n : ℕ) → T (leb n 255) → leb b n ≡ false
   above n t = lt-leb b n (omega (arith, leb→le))
 
-  past-plain : does b ≡ plain
+  past-plain : (m : ℕ) → does m b ≡ plain
   unfolding does if
-  past-plain = simp (differs, above, and-off, tt {0})
-
-  pub past-unknown : row b ≡ unknown
-  unfolding row if
-  past-unknown = simp (above, and-off, tt {0})
+  past-plain m = simp (differs, above, and-off, tt {0})
 
 -- ---- two functions are the same at every number: at the bytes the two lists of their values are one, and past them
 
@@ -64,66 +61,97 @@ module _ {A : Type 0} where
       split true q = value-at f g 256 b e (ltb-true _ _ q)
       split false q = past b (ltb-false _ _ q)
 
+-- ---- what is asked of the rows
+
+-- the bytes for which the cutting or the step has a case of its own, and every PUSH
+unfoldable pub named : ℕ → Bool
+named b = mem b (0x00 ∷ 0x01 ∷ 0x16 ∷ 0x56 ∷ 0x57 ∷ 0x58 ∷ 0x5B ∷ 0xF3 ∷ 0xFD ∷ 0xFE ∷ 0xFF ∷ []) || within 0x5F 0x9F b
+
+-- Of a named byte the row is document 01's, and no instruction takes more than 17 words. The other bytes may have any row, or none.
+pub record Lawful (row : ℕ → Row) : Type 0 where
+  pub named-as : (b : ℕ) → named b ≡ true → row b ≡ listed b
+  pub few : (b : ℕ) → row b .taken ≤ 17
+
+few-test : (b : ℕ) → leb (listed b .taken) 17 ≡ true
+unfolding listed if
+few-test = everywhere (λ b. leb (listed b .taken) 17) (λ _. true) refl (λ b h. simp (above b h, and-off, tt {0}))
+
+-- Document 01's are such rows.
+pub lawful : Lawful listed
+lawful = record { named-as = λ b _. refl; few = λ b. leb-true _ _ (few-test b) }
+
+-- the row, written so that a named byte's is seen
+abbrev seen : (ℕ → Row) → ℕ → Row
+seen row b = if (named b) (listed b) (row b)
+
+is-seen : {row : ℕ → Row} → Lawful row → (b : ℕ) → row b ≡ seen row b
+is-seen {row} ok b = both (λ (x : Row). row b ≡ x) (named b) (ok .named-as b) (λ _. refl)
+
+-- two functions of a byte and its row are the same at every number
+pub by-row : {A : Type 0} {row : ℕ → Row} → Lawful row → (f g : Row → ℕ → A) → values (λ b. f (seen row b) b) 256 ≡ values (λ b. g (seen row b) b) 256
+    → ((b : ℕ) → 255 < b → f (row b) b ≡ g (row b) b) → (b : ℕ) → f (row b) b ≡ g (row b) b
+by-row {A} {row} ok f g e past b = split (ltb b 256) refl
+  where
+    split : (t : Bool) → ltb b 256 ≡ t → f (row b) b ≡ g (row b) b
+    split true q = subst (λ (x : Row). f x b ≡ g x b) (sym (is-seen ok b)) (value-at (λ b. f (seen row b) b) (λ b. g (seen row b) b) 256 b e (ltb-true _ _ q))
+    split false q = past b (ltb-false _ _ q)
+
 -- ---- the words that an instruction takes and gives
 
--- by what it does; those of a plain byte b are the row's
-abbrev pub takes : ℕ → Does → ℕ
-takes b pushes-value = 0
-takes b pushes-pc = 0
-takes b (dups n) = suc n
-takes b (swaps n) = suc (suc n)
-takes b ands = 2
-takes b adds = 2
-takes b jumps = 1
-takes b jumpis = 2
-takes b lands = 0
-takes b halts = row b .taken
-takes b plain = row b .taken
+-- by what it does; those of a plain byte are the row's
+abbrev pub takes : Row → Does → ℕ
+takes x pushes-value = 0
+takes x pushes-pc = 0
+takes x (dups n) = suc n
+takes x (swaps n) = suc (suc n)
+takes x ands = 2
+takes x adds = 2
+takes x jumps = 1
+takes x jumpis = 2
+takes x lands = 0
+takes x halts = x .taken
+takes x plain = x .taken
 
-abbrev pub gives : ℕ → Does → ℕ
-gives b pushes-value = 1
-gives b pushes-pc = 1
-gives b (dups n) = suc (suc n)
-gives b (swaps n) = suc (suc n)
-gives b ands = 1
-gives b adds = 1
-gives b jumps = 0
-gives b jumpis = 0
-gives b lands = 0
-gives b halts = row b .given
-gives b plain = row b .given
+abbrev pub gives : Row → Does → ℕ
+gives x pushes-value = 1
+gives x pushes-pc = 1
+gives x (dups n) = suc (suc n)
+gives x (swaps n) = suc (suc n)
+gives x ands = 1
+gives x adds = 1
+gives x jumps = 0
+gives x jumpis = 0
+gives x lands = 0
+gives x halts = x .given
+gives x plain = x .given
 
-pub takes-row : (b : ℕ) → takes b (does b) ≡ row b .taken
-unfolding does row if
-takes-row = everywhere (λ b. takes b (does b)) (λ b. row b .taken) refl (λ b h. rw (past-plain b h))
+-- in a mode, by lawful rows
+module _ {row : ℕ → Row} (ok : Lawful row) where
+  pub takes-row : (m b : ℕ) → takes (row b) (does m b) ≡ row b .taken
+  unfolding does listed named if
+  takes-row zero = by-row ok (λ x b. takes x (does 0 b)) (λ x b. x .taken) refl (λ b h. rw (past-plain b h 0))
+  takes-row (suc m) = by-row ok (λ x b. takes x (does (suc m) b)) (λ x b. x .taken) refl (λ b h. rw (past-plain b h (suc m)))
 
-pub gives-row : (b : ℕ) → gives b (does b) ≡ row b .given
-unfolding does row if
-gives-row = everywhere (λ b. gives b (does b)) (λ b. row b .given) refl (λ b h. rw (past-plain b h))
-
-few-test : (b : ℕ) → leb (row b .taken) 17 ≡ true
-unfolding row if
-few-test = everywhere (λ b. leb (row b .taken) 17) (λ _. true) refl (λ b h. rw (past-unknown b h))
-
--- None takes more than 17.
-pub few : (b : ℕ) → row b .taken ≤ 17
-few b = leb-true _ _ (few-test b)
+  pub gives-row : (m b : ℕ) → gives (row b) (does m b) ≡ row b .given
+  unfolding does listed named if
+  gives-row zero = by-row ok (λ x b. gives x (does 0 b)) (λ x b. x .given) refl (λ b h. rw (past-plain b h 0))
+  gives-row (suc m) = by-row ok (λ x b. gives x (does (suc m) b)) (λ x b. x .given) refl (λ b h. rw (past-plain b h (suc m)))
 
 -- ---- YP's step
 
--- by what the instruction does; f are the words supplied to this one
-unfoldable pub does-to : (ℕ → ℕ) → Ins → Does → List ℕ → List ℕ
-does-to f i pushes-value st = i .arg ∷ st
-does-to f i pushes-pc st = i .pc ∷ st
-does-to f i (dups n) st = getD st n 0 ∷ st
-does-to f i (swaps n) st = exchanged (suc n) st
-does-to f i ands st = bitAnd (getD st 0 0) (getD st 1 0) ∷ drop 2 st
-does-to f i adds st = ((getD st 0 0 + getD st 1 0) % 2 ^ 256) ∷ drop 2 st
-does-to f i jumps st = drop 1 st
-does-to f i jumpis st = drop 2 st
-does-to f i lands st = st
-does-to f i halts st = supplied f (row (i .op) .given) ++ drop (row (i .op) .taken) st
-does-to f i plain st = supplied f (row (i .op) .given) ++ drop (row (i .op) .taken) st
+-- by what the instruction does; f are the words supplied to this one, x is its row
+unfoldable pub does-to : Row → (ℕ → ℕ) → Ins → Does → List ℕ → List ℕ
+does-to x f i pushes-value st = i .arg ∷ st
+does-to x f i pushes-pc st = i .pc ∷ st
+does-to x f i (dups n) st = getD st n 0 ∷ st
+does-to x f i (swaps n) st = exchanged (suc n) st
+does-to x f i ands st = bitAnd (getD st 0 0) (getD st 1 0) ∷ drop 2 st
+does-to x f i adds st = ((getD st 0 0 + getD st 1 0) % 2 ^ 256) ∷ drop 2 st
+does-to x f i jumps st = drop 1 st
+does-to x f i jumpis st = drop 2 st
+does-to x f i lands st = st
+does-to x f i halts st = supplied f (x .given) ++ drop (x .taken) st
+does-to x f i plain st = supplied f (x .given) ++ drop (x .taken) st
 
 -- a PUSH's word is its argument, also where the symbol is an Other
 abbrev pub told : (ℕ → ℕ → ℕ) → Ins → ℕ → ℕ
@@ -133,11 +161,18 @@ told supply i n = if (within 0x5F 0x7F (i .op)) (i .arg) (supply (i .pc) n)
 abbrev with-byte : Ins → ℕ → Ins
 with-byte i b = record { pc = i .pc; op = b; arg = i .arg }
 
-pub yields-does : (supply : ℕ → ℕ → ℕ) (i : Ins) (st : List ℕ) → yields supply i st ≡ does-to (told supply i) i (does (i .op)) st
-unfolding yields does-to does row if
-yields-does supply i st =
-    everywhere (λ b. yields supply (with-byte i b) st) (λ b. does-to (told supply (with-byte i b)) (with-byte i b) (does b) st) refl
-    (λ b h. simp (differs b h, above b h, and-off, tt {0})) (i .op)
+told-past : (supply : ℕ → ℕ → ℕ) (i : Ins) (b : ℕ) → 255 < b → told supply (with-byte i b) ≡ supply (i .pc)
+told-past supply i b h = λ j n. if-false _ (i .arg) (supply (i .pc) n) (and-false (leb 0x5F b) (above b h 0x7F tt)) j
+
+module _ {row : ℕ → Row} (ok : Lawful row) where
+  pub yields-does : (m : ℕ) (supply : ℕ → ℕ → ℕ) (i : Ins) (st : List ℕ) → yields row supply i st ≡ does-to (row (i .op)) (told supply i) i (does m (i .op)) st
+  unfolding yields does-to does listed named if
+  yields-does zero supply i st =
+      by-row ok (λ x b. yields (λ _. x) supply (with-byte i b) st) (λ x b. does-to x (told supply (with-byte i b)) (with-byte i b) (does 0 b) st) refl
+      (λ b h. simp (differs b h, above b h, and-off, told-past supply i b h, tt {0})) (i .op)
+  yields-does (suc m) supply i st =
+      by-row ok (λ x b. yields (λ _. x) supply (with-byte i b) st) (λ x b. does-to x (told supply (with-byte i b)) (with-byte i b) (does (suc m) b) st) refl
+      (λ b h. simp (differs b h, above b h, and-off, told-past supply i b h, tt {0})) (i .op)
 
 -- ---- where a run ends, and where the mask rule may be used
 
@@ -167,18 +202,22 @@ lands? d = eqb (case d) 8
 abbrev pub ands? : Does → Bool
 ands? d = eqb (case d) 4
 
-pub jumping-does : (b : ℕ) → jumping b ≡ jumps? (does b)
+pub jumping-does : (m b : ℕ) → jumping b ≡ jumps? (does m b)
 unfolding does jumping if
-jumping-does = everywhere jumping (λ b. jumps? (does b)) refl (λ b h. simp (differs b h, above b h, and-off, tt {0}))
+jumping-does zero = everywhere jumping (λ b. jumps? (does 0 b)) refl (λ b h. simp (differs b h, above b h, and-off, tt {0}))
+jumping-does (suc m) = everywhere jumping (λ b. jumps? (does (suc m) b)) refl (λ b h. simp (differs b h, above b h, and-off, tt {0}))
 
-pub closing-does : (b : ℕ) → closing b ≡ closes? (does b)
+pub closing-does : (m b : ℕ) → closing b ≡ closes? (does m b)
 unfolding does closing if
-closing-does = everywhere closing (λ b. closes? (does b)) refl (λ b h. simp (differs b h, above b h, and-off, tt {0}))
+closing-does zero = everywhere closing (λ b. closes? (does 0 b)) refl (λ b h. simp (differs b h, above b h, and-off, tt {0}))
+closing-does (suc m) = everywhere closing (λ b. closes? (does (suc m) b)) refl (λ b h. simp (differs b h, above b h, and-off, tt {0}))
 
-pub landing-does : (b : ℕ) → eqb b 0x5B ≡ lands? (does b)
+pub landing-does : (m b : ℕ) → eqb b 0x5B ≡ lands? (does m b)
 unfolding does if
-landing-does = everywhere (λ b. eqb b 0x5B) (λ b. lands? (does b)) refl (λ b h. simp (differs b h, above b h, and-off, tt {0}))
+landing-does zero = everywhere (λ b. eqb b 0x5B) (λ b. lands? (does 0 b)) refl (λ b h. simp (differs b h, above b h, and-off, tt {0}))
+landing-does (suc m) = everywhere (λ b. eqb b 0x5B) (λ b. lands? (does (suc m) b)) refl (λ b h. simp (differs b h, above b h, and-off, tt {0}))
 
-pub anding-does : (b : ℕ) → eqb b 0x16 ≡ ands? (does b)
+pub anding-does : (m b : ℕ) → eqb b 0x16 ≡ ands? (does m b)
 unfolding does if
-anding-does = everywhere (λ b. eqb b 0x16) (λ b. ands? (does b)) refl (λ b h. simp (differs b h, above b h, and-off, tt {0}))
+anding-does zero = everywhere (λ b. eqb b 0x16) (λ b. ands? (does 0 b)) refl (λ b h. simp (differs b h, above b h, and-off, tt {0}))
+anding-does (suc m) = everywhere (λ b. eqb b 0x16) (λ b. ands? (does (suc m) b)) refl (λ b h. simp (differs b h, above b h, and-off, tt {0}))

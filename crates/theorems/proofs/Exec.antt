@@ -1,5 +1,5 @@
 -- Document 01, "What changes shape": "panic! and assert!: shown never to occur". Here `exec` and `real_exec` of state.rs, lines 123 to 259, over a list with
--- the top first; `opi` is the row. A panic, or an assert, expect or index that fails, is none; sums of places are exact. From the stored form of any stack none
+-- the top first; `opi` is the row, and the mode is the plain one. A panic, or an assert, expect or index that fails, is none; sums of places are exact. From the stored form of any stack none
 -- occurs, and what they leave and return is what `runs` and `trim` give. Assumes nothing.
 use Prim.Native.Nat.{ℕ, zero, suc, _+_, _-_, _<_, _≤_}
 use native.Mathlib.Omega.{arith}
@@ -14,7 +14,7 @@ use lib.ListN.{length, take, drop, set, replicate, getElem?, length-append, leng
 use lib.Seq.{drop-append-le, drop-drop, set-split}
 use borrow.Author.Tests.{eqb-true, eqb-false, eq-eqb, ne-eqb, leb-true, le-leb, ltb-false}
 use Rattle.spec.specs.Lists.{if, within}
-use Rattle.spec.specs.Opcodes.{argument, row}
+use Rattle.spec.specs.Opcodes.{argument, Row, Rules}
 use Rattle.spec.specs.Walk.{Ins, big, walk, instructions}
 use Rattle.spec.specs.Stacks.{Sym, before, constant, jumpdest, other, Stack, entry, reads, read, pops, span, swap, trade, from-value, known-value, anded, summed, joins, settle, trims, trim, Does, pushes-value, pushes-pc, dups, swaps, ands, adds, jumps, jumpis, lands, halts, plain, does, act, Ran, after, runs, run}
 use Rattle.spec.specs.Blocks.{Block, blocks}
@@ -22,7 +22,7 @@ use Rattle.laws.proofs.Branch.{both, if-true, if-false, and-then}
 use Rattle.laws.proofs.Members.{In, and-both, and-true}
 use Rattle.theorems.proofs.Walking.{Stands, Walked, stops, steps, walks-from}
 use Rattle.theorems.proofs.Cutting.{block-afresh}
-use Rattle.theorems.proofs.Counts.{takes, takes-row}
+use Rattle.theorems.proofs.Counts.{takes, Lawful, takes-row}
 use Rattle.theorems.proofs.Stored.{bottom, stored, stored-cells, stored-bottom, from-depth}
 use Rattle.theorems.proofs.Trimming.{Same, trim-same, same-act, identity, run-any-depth}
 
@@ -57,12 +57,12 @@ pop-then [] k = none
 pop-then (x ∷ xs) k = k x xs
 
 -- "for _ in 0..opi.stack_in" a pop, "for _ in 0..opi.stack_out" a push of Other
-abbrev pub traded : Ins → List Sym → List Sym
-traded i xs = replicate (row (i .op) .given) (other (i .pc)) ++ drop (row (i .op) .taken) xs
+abbrev pub traded : (ℕ → Row) → Ins → List Sym → List Sym
+traded row i xs = replicate (row (i .op) .given) (other (i .pc)) ++ drop (row (i .op) .taken) xs
 
 -- lines 174 to 254: the match on the byte; `on` is the rest of the loop
-abbrev pub operated : List ℕ → ℕ → Ins → (List Sym → Option Out) → List Sym → Option Out
-operated code start i on xs =
+abbrev pub operated : (ℕ → Row) → List ℕ → ℕ → Ins → (List Sym → Option Out) → List Sym → Option Out
+operated row code start i on xs =
     if (within 0x60 0x63 (i .op)) (and-then (four-bytes code (i .pc + 1) (i .op - 0x5F)) (λ v. on (from-value code v ∷ xs)))
     (if (eqb (i .op) 0x58) (on (from-value code (i .pc) ∷ xs))
     (if (within 0x80 0x8F (i .op)) (and-then (getElem? xs (i .op - 0x80)) (λ x. on (x ∷ xs)))
@@ -73,12 +73,12 @@ operated code start i on xs =
     (if (eqb (i .op) 0x56) (pop-then xs (λ to ys. out ys (some to)))
     (if (eqb (i .op) 0x57) (pop-then xs (λ to ys. out (drop 1 ys) (some to)))
     (if (eqb (i .op) 0x5B) (if (eqb (i .pc) start) (on xs) (out xs none))
-    (if (eqb (i .op) 0x00 || eqb (i .op) 0xF3 || eqb (i .op) 0xFD || eqb (i .op) 0xFE || eqb (i .op) 0xFF) (out (traded i xs) none)
-    (on (traded i xs)))))))))))
+    (if (eqb (i .op) 0x00 || eqb (i .op) 0xF3 || eqb (i .op) 0xFD || eqb (i .op) 0xFE || eqb (i .op) 0xFF) (out (traded row i xs) none)
+    (on (traded row i xs)))))))))))
 
-abbrev pub real-exec : List ℕ → ℕ → List Ins → List Sym → Option Out
-real-exec code start [] xs = out xs none
-real-exec code start (i ∷ is) xs = and-then (ensured (row (i .op) .taken) xs) (operated code start i (real-exec code start is))
+abbrev pub real-exec : (ℕ → Row) → List ℕ → ℕ → List Ins → List Sym → Option Out
+real-exec row code start [] xs = out xs none
+real-exec row code start (i ∷ is) xs = and-then (ensured (row (i .op) .taken) xs) (operated row code start i (real-exec row code start is))
 
 -- ---- exec
 
@@ -103,9 +103,9 @@ abbrev minimal : ℕ → List Sym → Option (List Sym)
 minimal base xs = let n = prefix base 0 (reverse xs) in if (ltb 1 n) (drained (n - 1) xs) (some xs)
 
 -- lines 123 to 146: the bottom is asserted to be a Before, before and after
-abbrev pub exec : List ℕ → ℕ → List Ins → List Sym → Option Out
-exec code start is xs =
-    and-then (bottom xs) (λ _. and-then (real-exec code start is xs)
+abbrev pub exec : (ℕ → Row) → List ℕ → ℕ → List Ins → List Sym → Option Out
+exec row code start is xs =
+    and-then (bottom xs) (λ _. and-then (real-exec row code start is xs)
     (λ r. and-then (bottom (r .stack)) (λ base. and-then (minimal base (r .stack)) (λ ys. out ys (r .symbol)))))
 
 -- ---- cells of a stored stack
@@ -212,8 +212,8 @@ popped-twice s k h =
     popped-once s (λ a ys. pop-then ys (k a)) ∙ ap (λ (xs : List Sym). pop-then xs (k (read s 0))) (cell s 1 (omega arith))
     ∙ ap (k (read s 0) (read s 1)) (drop-stored s 2 h)
 
-traded-stored : (i : Ins) (s : Stack) → row (i .op) .taken ≤ length (s .above) → traded i (stored s) ≡ stored (trade i s)
-traded-stored i s h = rw (drop-stored s (row (i .op) .taken) h) (sym (append-assoc (replicate (row (i .op) .given) (other (i .pc))) _ _))
+traded-stored : (row : ℕ → Row) (i : Ins) (s : Stack) → row (i .op) .taken ≤ length (s .above) → traded row i (stored s) ≡ stored (trade row i s)
+traded-stored row i s h = rw (drop-stored s (row (i .op) .taken) h) (sym (append-assoc (replicate (row (i .op) .given) (other (i .pc))) _ _))
 
 -- a list with a at the top and b at the place n + 1: those two, and what lies between and below
 changed : {A : Type 0} (n : ℕ) (xs : List A) (a b : A) → suc n < length xs
@@ -244,25 +244,29 @@ four-bytes-whole {code} {i} s e =
     if-true _ _ _ (and-true _ _ (le-leb (i .op - 0x5F) 4 (omega (arith, leb-true))) (le-leb (i .pc + 1 + (i .op - 0x5F)) (length code) (omega arith)))
     ∙ ap some (big-zeros (4 - (i .op - 0x5F)) _ ∙ rw (add-one, ← n) (sym (s .number)))
 
+-- the Rust's mode, with these rows
+abbrev pub plainly : (ℕ → Row) → Rules
+plainly row = record { row = row; mode = 0 }
+
 -- one instruction that stands in the code, on the stored form of s, which reads the same as t; `on` is the rest of the loop, and right
-module _ {code : List ℕ} (start : ℕ) {i : Ins} (stands : Stands code i) (is : List Ins) (on : List Sym → Option Out)
-    (rest : (u v : Stack) → Same u v → Stores (runs code start is v) (on (stored u))) {s t : Stack} (h : Same s t) where
+module _ (row : ℕ → Row) {code : List ℕ} (start : ℕ) {i : Ins} (stands : Stands code i) (is : List Ins) (on : List Sym → Option Out)
+    (rest : (u v : Stack) → Same u v → Stores (runs (plainly row) code start is v) (on (stored u))) {s t : Stack} (h : Same s t) where
   abbrev Right : Does → Option Out → Type 0
-  Right d o = takes (i .op) d ≤ length (s .above) → Stores (after start i t (act code i d t) (runs code start is (act code i d t)) d) o
+  Right d o = takes (row (i .op)) d ≤ length (s .above) → Stores (after start i t (act row code i d t) (runs (plainly row) code start is (act row code i d t)) d) o
 
-  goes-on : (d : Does) {xs : List Sym} → xs ≡ stored (act code i d s) → Stores (runs code start is (act code i d t)) (on xs)
-  goes-on d e = rw e (rest _ _ (same-act code i d h))
+  goes-on : (d : Does) {xs : List Sym} → xs ≡ stored (act row code i d s) → Stores (runs (plainly row) code start is (act row code i d t)) (on xs)
+  goes-on d e = rw e (rest _ _ (same-act row code i d h))
 
-  returns : (d : Does) {xs : List Sym} {o p : Option Sym} → xs ≡ stored (act code i d s) → o ≡ p
-      → Stores (record { stack = act code i d t; goes = p }) (out xs o)
-  returns d e f = record { stack = act code i d s; form = ap₂ out e f; same = same-act code i d h }
+  returns : (d : Does) {xs : List Sym} {o p : Option Sym} → xs ≡ stored (act row code i d s) → o ≡ p
+      → Stores (record { stack = act row code i d t; goes = p }) (out xs o)
+  returns d e f = record { stack = act row code i d s; form = ap₂ out e f; same = same-act row code i d h }
 
   swaps-right : (n : ℕ)
       → Right (swaps n) (and-then (getElem? (stored s) 0) (λ a. and-then (getElem? (stored s) (suc n)) (λ b. on (set (set (stored s) 0 b) (suc n) a))))
   unfolding act
   swaps-right n l = rw (index-stored s 0 (omega arith), index-stored s (suc n) (omega arith)) (goes-on (swaps n) (swapped-stored n s l))
 
-  operate : Right (does (i .op)) (operated code start i on (stored s))
+  operate : Right (does 0 (i .op)) (operated row code start i on (stored s))
   unfolding does act
   operate =
       along Right (within 0x60 0x63 (i .op)) (λ e _. rw (four-bytes-whole stands e) (goes-on pushes-value refl))
@@ -276,17 +280,17 @@ module _ {code : List ℕ} (start : ℕ) {i : Ins} (stands : Stands code i) (is 
       (λ _. along Right (eqb (i .op) 0x5B)
       (λ _ _. along Stores (eqb (i .pc) start) (λ _. goes-on lands refl) (λ _. returns lands refl refl))
       (λ _. along Right (eqb (i .op) 0x00 || eqb (i .op) 0xF3 || eqb (i .op) 0xFD || eqb (i .op) 0xFE || eqb (i .op) 0xFF)
-      (λ _ l. returns halts (traded-stored i s l) refl) (λ _ l. goes-on plain (traded-stored i s l)))))))))))
+      (λ _ l. returns halts (traded-stored row i s l) refl) (λ _ l. goes-on plain (traded-stored row i s l)))))))))))
 
 -- The loop, over instructions that stand in the code, on the stored form of a stack that reads the same as the run's.
-pub real-exec-stored : {code : List ℕ} (start : ℕ) {at : ℕ} {is : List Ins} → Walked code at is → (s t : Stack) → Same s t
-    → Stores (runs code start is t) (real-exec code start is (stored s))
-real-exec-stored start (stops _) s t h = record { stack = s; form = refl; same = h }
-real-exec-stored {code} start (steps {i} {is} stands w) s t h =
+pub real-exec-stored : {row : ℕ → Row} → Lawful row → {code : List ℕ} (start : ℕ) {at : ℕ} {is : List Ins} → Walked code at is → (s t : Stack) → Same s t
+    → Stores (runs (plainly row) code start is t) (real-exec row code start is (stored s))
+real-exec-stored ok start (stops _) s t h = record { stack = s; form = refl; same = h }
+real-exec-stored {row} ok {code} start (steps {i} {is} stands w) s t h =
     let e = ensure (row (i .op) .taken) s in
     let same : Same (e .stack) t = record { at = λ n. e .same .at n ∙ h .at n } in
-    by (ap (λ (o : Option (List Sym)). and-then o (operated code start i (real-exec code start is))) (e .form))
-    (operate start stands is (real-exec code start is) (λ u v k. real-exec-stored start w u v k) same (rw (takes-row (i .op)) (e .enough)))
+    by (ap (λ (o : Option (List Sym)). and-then o (operated row code start i (real-exec row code start is))) (e .form))
+    (operate row start stands is (real-exec row code start is) (λ u v k. real-exec-stored ok start w u v k) same (rw (takes-row ok 0 (i .op)) (e .enough)))
 
 -- ---- lines 128 to 144
 
@@ -379,22 +383,22 @@ module _ (s : Stack) where
 
 -- From the stored form of any stack, over instructions that stand in the code, `exec` never panics: it leaves the stored form of the trimmed stack and
 -- returns the symbol that the jump takes.
-pub exec-stored : {code : List ℕ} (start : ℕ) {at : ℕ} {is : List Ins} → Walked code at is → (s : Stack)
-    → exec code start is (stored s) ≡ out (stored (trim (runs code start is s .stack))) (runs code start is s .goes)
-exec-stored {code} start {is} w s =
-    let r = real-exec-stored start w s s (record { at = λ _. refl }) in
+pub exec-stored : {row : ℕ → Row} → Lawful row → {code : List ℕ} (start : ℕ) {at : ℕ} {is : List Ins} → Walked code at is → (s : Stack)
+    → exec row code start is (stored s) ≡ out (stored (trim (runs (plainly row) code start is s .stack))) (runs (plainly row) code start is s .goes)
+exec-stored ok start w s =
+    let r = real-exec-stored ok start w s s (record { at = λ _. refl }) in
     rw (stored-bottom s, r .form, stored-bottom (r .stack), minimal-stored (r .stack), trim-same _ _ (r .same))
 
 -- of a block of the cut, from `State::new()`
-pub exec-block : (code : List ℕ) {b : Block} → In b (blocks code (instructions code))
-    → exec code (b .start) (walk (drop (b .start) code) (b .start) 0) (stored entry)
-    ≡ out (stored (run code (instructions code) (b .start) .stack)) (run code (instructions code) (b .start) .goes)
+pub exec-block : {row : ℕ → Row} → Lawful row → (code : List ℕ) {b : Block} → In b (blocks row code (instructions code))
+    → exec row code (b .start) (walk (drop (b .start) code) (b .start) 0) (stored entry)
+    ≡ out (stored (run (plainly row) code (instructions code) (b .start) .stack)) (run (plainly row) code (instructions code) (b .start) .goes)
 unfolding run
-exec-block code {b} n = rw (block-afresh code n) (exec-stored (b .start) (walks-from code (b .start)) entry)
+exec-block ok code {b} n = rw (block-afresh ok code n) (exec-stored ok (b .start) (walks-from code (b .start)) entry)
 
 -- `State::with_identity(depth)` leaves and returns the same.
-pub exec-deep : {code : List ℕ} (start : ℕ) {at : ℕ} {is : List Ins} → Walked code at is → (depth : ℕ)
-    → exec code start is (stored (identity depth)) ≡ exec code start is (stored entry)
-exec-deep {code} start {is} w depth =
-    exec-stored start w (identity depth) ∙ ap (λ (r : Ran). out (stored (r .stack)) (r .goes)) (run-any-depth code start is depth)
-    ∙ sym (exec-stored start w entry)
+pub exec-deep : {row : ℕ → Row} → Lawful row → {code : List ℕ} (start : ℕ) {at : ℕ} {is : List Ins} → Walked code at is → (depth : ℕ)
+    → exec row code start is (stored (identity depth)) ≡ exec row code start is (stored entry)
+exec-deep {row} ok {code} start {is} w depth =
+    exec-stored ok start w (identity depth) ∙ ap (λ (r : Ran). out (stored (r .stack)) (r .goes)) (run-any-depth (plainly row) code start is depth)
+    ∙ sym (exec-stored ok start w entry)

@@ -4,7 +4,7 @@ use mathlib.Core.Path.{_≡_, refl}
 use mathlib.Core.List.{List, [], _∷_, map}
 use lib.ListN.{length}
 use Rattle.spec.specs.Lists.{if}
-use Rattle.spec.specs.Opcodes.{row}
+use Rattle.spec.specs.Opcodes.{row, in-mode}
 use Rattle.spec.specs.Walk.{walk, instructions}
 use Rattle.spec.specs.Blocks.{cuts, blocks}
 use Rattle.spec.specs.Stacks.{read, does, act, trim, run as run-block, through, compose}
@@ -34,7 +34,7 @@ pub data Session : Type 0 where
   call : ℕ → ℕ → ℕ → List ℕ → Call → Session
 
 abbrev got : Session → Call
-got (call out room limit code says) = returned (json-answer (lent out) room limit code)
+got (call out room limit code says) = returned (json-answer (in-mode 0) (lent out) room limit code)
 
 abbrev said : Session → Call
 said (call out room limit code says) = says

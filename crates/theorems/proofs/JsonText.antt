@@ -7,6 +7,7 @@ use mathlib.Core.List.{List, [], _∷_, _++_, map}
 use mathlib.Core.Option.{Option, none, some}
 use lib.ListN.{length, length-map}
 use Rattle.spec.specs.Lists.{gather, little}
+use Rattle.spec.specs.Opcodes.{Rules}
 use Rattle.spec.specs.Blocks.{Kind, terminate, jump, jumpi, dynamic-jump, dynamic-jumpi}
 use Rattle.spec.specs.Search.{Found, nowhere, found, Rec}
 use Rattle.spec.specs.Ending.{Final}
@@ -15,6 +16,7 @@ use Rattle.spec.specs.Entries.{Map, item, destination, flag, path-bytes, path-e
 use Rattle.spec.specs.Answer.{answered, answer}
 use Rattle.spec.specs.Reader.{pieces, items, finals-in, stateless, plain-rec, plain-final}
 use Rattle.spec.specs.Json.{Way, BlockType, Terminate, Jump, Jumpi, DynamicJump, DynamicJumpi, Shown, dest-of, way-of, type-of, shown-of, listed, json, text}
+use Rattle.theorems.proofs.Counts.{Lawful}
 use Rattle.theorems.proofs.JsonReader.{blocks-in}
 use Rattle.theorems.proofs.JsonRead.{text-reads}
 use Rattle.theorems.proofs.ReaderRead.{blocks-written}
@@ -99,21 +101,21 @@ unfolding text
 text-names m = text-reads (listed m)
 
 -- of a run that is answered; where a call is, its run is: `gave-text`
-module _ (l : Lent) (limit : ℕ) (code : List ℕ) (a : Map) (e : answer l limit code ≡ answered a) where
+module _ (rules : Rules) (ok : Lawful (rules .row)) (l : Lent) (limit : ℕ) (code : List ℕ) (a : Map) (e : answer rules l limit code ≡ answered a) where
   -- Reading the block entries of an answer gives exactly its blocks.
   pub entries-name : blocks-listed (block-bytes a) ≡ listed a
   unfolding blocks-listed
-  entries-name = ap (map shown-of) (blocks-written a (answered-fits l limit code a e)) ∙ shown-plain (a .blocks)
+  entries-name = ap (map shown-of) (blocks-written a (answered-fits rules ok l limit code a e)) ∙ shown-plain (a .blocks)
 
   -- The text names the same blocks, paths and destinations as the entries, and no other.
   pub same-named : blocks-in (text a) ≡ some (blocks-listed (block-bytes a))
   same-named = text-names a ∙ ap some (sym entries-name)
 
--- Two answers, of any codes, limits and rooms, give the same text exactly when their block entries agree.
-pub same-text : (l k : Lent) (m n : ℕ) (c d : List ℕ) (a b : Map) → answer l m c ≡ answered a → answer k n d ≡ answered b
+-- Two answers, of any codes, limits, rooms and modes, give the same text exactly when their block entries agree.
+pub same-text : (rules others : Rules) → Lawful (rules .row) → Lawful (others .row) → (l k : Lent) (m n : ℕ) (c d : List ℕ) (a b : Map) → answer rules l m c ≡ answered a → answer others k n d ≡ answered b
     → (text a ≡ text b) ↔ (block-bytes a ≡ block-bytes b)
 unfolding text
-same-text l k m n c d a b e f = (agree, same)
+same-text rules others ok fine l k m n c d a b e f = (agree, same)
   where
     agree : text a ≡ text b → block-bytes a ≡ block-bytes b
     agree q =
@@ -123,4 +125,4 @@ same-text l k m n c d a b e f = (agree, same)
 
     same : block-bytes a ≡ block-bytes b → text a ≡ text b
     same q =
-        ap json (sym (entries-name l m c a e) ∙ ap blocks-listed q ∙ entries-name k n d b f)
+        ap json (sym (entries-name rules ok l m c a e) ∙ ap blocks-listed q ∙ entries-name others fine k n d b f)

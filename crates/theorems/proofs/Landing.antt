@@ -4,6 +4,7 @@ use mathlib.Core.Path.{_≡_, refl, subst}
 use mathlib.Core.List.{List}
 use mathlib.Core.Option.{Option, none, some}
 use lib.ListN.{length}
+use Rattle.spec.specs.Opcodes.{Rules}
 use Rattle.spec.specs.Walk.{Ins, from}
 use Rattle.spec.specs.Stacks.{Sym, before, constant, jumpdest, other, Stack, reads, read, Ran, run, through, compose}
 use Rattle.laws.proofs.Members.{In, here, there}
@@ -48,13 +49,13 @@ mark-ends code {r} m = record { goes = split (r .goes) refl; stack = record { at
     split (some x) e = mark-lands code x (m .goes x e)
 
 -- a block's own run
-pub run-ends : (code : List ℕ) (is : List Ins) (start : ℕ) → Ends (length code) (run code is start)
+pub run-ends : (rules : Rules) (code : List ℕ) (is : List Ins) (start : ℕ) → Ends (length code) (run rules code is start)
 unfolding run
-run-ends code is start = mark-ends code (marks-block code start (from start is))
+run-ends rules code is start = mark-ends code (marks-block code rules start (from start is))
 
-pub run-lands : (code : List ℕ) (is : List Ins) (start t : ℕ) → In (jumpdest t) (run code is start .stack .above) → t < length code
+pub run-lands : (rules : Rules) (code : List ℕ) (is : List Ins) (start t : ℕ) → In (jumpdest t) (run rules code is start .stack .above) → t < length code
 unfolding read
-run-lands code is start t i = let g = depth-of _ i in subst (Lands (length code)) (g .1) (run-ends code is start .stack .at (g .0))
+run-lands rules code is start t i = let g = depth-of _ i in subst (Lands (length code)) (g .1) (run-ends rules code is start .stack .at (g .0))
   where
     depth-of : {xs : List Sym} (base : ℕ) → In (jumpdest t) xs → (n : ℕ) × (reads xs base n ≡ jumpdest t)
     depth-of base here = (zero, refl)

@@ -7,6 +7,7 @@ pub mod Trimming
 pub mod Exec
 pub mod Beside
 pub mod Symbols
+pub mod Modes
 pub mod Counts
 pub mod Blockwise
 pub mod Aware
@@ -40,6 +41,7 @@ pub mod Extending
 pub mod AnyOrder
 pub mod Reaching
 pub mod RustSets
+pub mod Agreeing
 pub mod Sessions
 pub mod Landing
 pub mod Sides

@@ -10,7 +10,7 @@ use mathlib.Core.List.{List, [], _∷_}
 use lib.Dec.{eqb, ltb}
 use lib.ListN.{length, getD, replicate, List·getD-eq-default}
 use borrow.Author.Tests.{eqb-true}
-use Rattle.spec.specs.Opcodes.{row}
+use Rattle.spec.specs.Opcodes.{Row, Rules}
 use Rattle.spec.specs.Walk.{Ins}
 use Rattle.spec.specs.Stacks.{Sym, before, constant, jumpdest, other, Stack, entry, read, pops, push, pushes, from-value, known-value, mask, is, anded, summed, through, Does, pushes-value, pushes-pc, dups, swaps, ands, adds, jumps, jumpis, lands, halts, plain, does, act, Ran, still, after, runs, trimmed}
 use Rattle.laws.proofs.Branch.{both}
@@ -50,20 +50,20 @@ module _ (code : List ℕ) where
   marks-others pc zero h = h
   marks-others pc (suc m) h = marks-push (other pc) tt (marks-others pc m h)
 
-  marks-act : (i : Ins) (d : Does) {s : Stack} → Marks s → Marks (act code i d s)
+  marks-act : (row : ℕ → Row) (i : Ins) (d : Does) {s : Stack} → Marks s → Marks (act row code i d s)
   unfolding act
-  marks-act i pushes-value h = marks-push _ (mark-from (i .arg)) h
-  marks-act i pushes-pc h = marks-push _ (mark-from (i .pc)) h
-  marks-act i (dups n) h = marks-push _ (h .at n) h
-  marks-act i (swaps m) {s} h =
+  marks-act row i pushes-value h = marks-push _ (mark-from (i .arg)) h
+  marks-act row i pushes-pc h = marks-push _ (mark-from (i .pc)) h
+  marks-act row i (dups n) h = marks-push _ (h .at n) h
+  marks-act row i (swaps m) {s} h =
       record { at = λ n. rw (read-swap m s n) (both Mark (eqb n 0) (λ _. h .at (suc m)) (λ _. both Mark (eqb n (suc m)) (λ _. h .at 0) (λ _. h .at n))) }
-  marks-act i ands {s} h = marks-push _ (mark-anded (i .pc) (read s 0) (read s 1) (h .at 0) (h .at 1)) (marks-pops 2 h)
-  marks-act i adds {s} h = marks-push _ (mark-summed (i .pc) (known-value (read s 0)) (known-value (read s 1))) (marks-pops 2 h)
-  marks-act i jumps h = marks-pops 1 h
-  marks-act i jumpis h = marks-pops 2 h
-  marks-act i lands h = h
-  marks-act i halts h = marks-others (i .pc) (row (i .op) .given) (marks-pops (row (i .op) .taken) h)
-  marks-act i plain h = marks-others (i .pc) (row (i .op) .given) (marks-pops (row (i .op) .taken) h)
+  marks-act row i ands {s} h = marks-push _ (mark-anded (i .pc) (read s 0) (read s 1) (h .at 0) (h .at 1)) (marks-pops 2 h)
+  marks-act row i adds {s} h = marks-push _ (mark-summed (i .pc) (known-value (read s 0)) (known-value (read s 1))) (marks-pops 2 h)
+  marks-act row i jumps h = marks-pops 1 h
+  marks-act row i jumpis h = marks-pops 2 h
+  marks-act row i lands h = h
+  marks-act row i halts h = marks-others (i .pc) (row (i .op) .given) (marks-pops (row (i .op) .taken) h)
+  marks-act row i plain h = marks-others (i .pc) (row (i .op) .given) (marks-pops (row (i .op) .taken) h)
 
   -- of a run: of its stack, and of the symbol that its jump takes
   pub record MarksRan (r : Ran) : Type 0 where
@@ -89,18 +89,19 @@ module _ (code : List ℕ) where
   marks-after start i halts h k r = ran-still k
   marks-after start i plain h k r = r
 
-  marks-runs : (start : ℕ) (is : List Ins) (s : Stack) → Marks s → MarksRan (runs code start is s)
-  marks-runs start [] s h = ran-still h
-  marks-runs start (i ∷ is) s h = let k = marks-act i (does (i .op)) h in marks-after start i (does (i .op)) h k (marks-runs start is _ k)
+  marks-runs : (rules : Rules) (start : ℕ) (is : List Ins) (s : Stack) → Marks s → MarksRan (runs rules code start is s)
+  marks-runs rules start [] s h = ran-still h
+  marks-runs rules start (i ∷ is) s h =
+      let k = marks-act (rules .row) i (does (rules .mode) (i .op)) h in marks-after start i (does (rules .mode) (i .op)) h k (marks-runs rules start is _ k)
 
   marks-entry : Marks entry
   unfolding read
   marks-entry = record { at = λ n. tt }
 
   -- Of a block's run, trimmed.
-  pub marks-block : (start : ℕ) (is : List Ins) → MarksRan (trimmed (runs code start is entry))
-  marks-block start is =
-      let r = marks-runs start is entry marks-entry in record { stack = record { at = λ n. rw (read-trim _ n) (r .stack .at n) }; goes = r .goes }
+  pub marks-block : (rules : Rules) (start : ℕ) (is : List Ins) → MarksRan (trimmed (runs rules code start is entry))
+  marks-block rules start is =
+      let r = marks-runs rules start is entry marks-entry in record { stack = record { at = λ n. rw (read-trim _ n) (r .stack .at n) }; goes = r .goes }
 
   pub mark-through : {p : Stack} → Marks p → (x : Sym) → Mark x → Mark (through p x)
   unfolding through

@@ -6,6 +6,7 @@ use native.Mathlib.Omega.{arith}
 use mathlib.Core.Path.{_≡_, refl, sym, ap, subst, _∙_}
 use mathlib.Core.List.{List, [], _∷_, _++_}
 use Rattle.spec.specs.Lists.{lastOf}
+use Rattle.spec.specs.Opcodes.{Rules}
 use Rattle.spec.specs.Walk.{Ins}
 use Rattle.spec.specs.Blocks.{Block}
 use Rattle.spec.specs.Search.{Node, nodes, Parent, Rec, Level, reached-by, search}
@@ -23,34 +24,34 @@ last-append [] y ys = refl
 last-append (x ∷ []) y ys = refl
 last-append (x ∷ z ∷ xs) y ys = last-append (z ∷ xs) y ys
 
-module _ (code : List ℕ) (is : List Ins) (bs : List Block) where
+module _ (rules : Rules) (code : List ℕ) (is : List Ins) (bs : List Block) where
   abbrev ns : List Node
-  ns = nodes code is bs
+  ns = nodes rules code is bs
 
   -- a path is never empty: of a stored parent, reached or not, where get_parents takes `path[path.len() - 1]`
-  pub parent-has-last : (recs : List Rec) → Each (λ _. ReplaysRec code is bs) recs → {p : Parent} → Stored ns recs p → (b : ℕ) × (rest : List ℕ) × (p .path ≡ b ∷ rest)
-  parent-has-last recs all h = let r = parent-replays code is bs recs all h in (r .first, r .rest, r .path-is)
+  pub parent-has-last : (recs : List Rec) → Each (λ _. ReplaysRec rules code is bs) recs → {p : Parent} → Stored ns recs p → (b : ℕ) × (rest : List ℕ) × (p .path ≡ b ∷ rest)
+  parent-has-last recs all h = let r = parent-replays rules code is bs recs all h in (r .first, r .rest, r .path-is)
 
   -- and of a record
-  pub has-last : (r : Rec) → ReplaysRec code is bs r → (b : ℕ) × (rest : List ℕ) × (r .path ≡ b ∷ rest)
+  pub has-last : (r : Rec) → ReplaysRec rules code is bs r → (b : ℕ) × (rest : List ℕ) × (r .path ≡ b ∷ rest)
   has-last r (without e h) = (h .first, h .rest, h .path-is)
   has-last r (kept e h) = (h .first, h .rest, h .path-is)
 
   -- `assert!(self.reachable0.contains(&ls))`: the last block of the path that a parent makes of a level's is reached, recorded already or not
-  pub last-live : (reached : List ℕ) (recs : List Rec) → Each (λ _. ReplaysRec code is bs) recs → (l : Level) (p : Parent) → Parented ns reached recs l p
+  pub last-live : (reached : List ℕ) (recs : List Rec) → Each (λ _. ReplaysRec rules code is bs) recs → (l : Level) (p : Parent) → Parented ns reached recs l p
       → Live ns reached recs (lastOf (l .path ++ p .path))
   last-live reached recs all l p h =
       let e = parent-has-last recs all (h .stored) in
       subst (Live ns reached recs) (sym (ap (λ (q : List ℕ). lastOf (l .path ++ q)) (e .2) ∙ last-append (l .path) (e .0) (e .1) ∙ ap lastOf (sym (e .2)))) (h .live)
 
-  recorded-live : (reached : List ℕ) (recs : List Rec) → Each (λ _. ReplaysRec code is bs) recs → {r : Rec} → Recorded ns reached recs r → Live ns reached recs (lastOf (r .path))
+  recorded-live : (reached : List ℕ) (recs : List Rec) → Each (λ _. ReplaysRec rules code is bs) recs → {r : Rec} → Recorded ns reached recs r → Live ns reached recs (lastOf (r .path))
   recorded-live reached recs all (arrives o w h e) = last-live reached recs all _ _ h
   recorded-live reached recs all (is-lost o w h e) = last-live reached recs all _ _ h
   recorded-live reached recs all (too-heavy o h) = last-live reached recs all _ _ h
 
   -- of a record, with those before it: its path has a last block, which was reached in the round that began with the `older` ones
   pub record LastReached (before : List Rec) (r : Rec) : Type 0 where
-    pub replays : ReplaysRec code is bs r
+    pub replays : ReplaysRec rules code is bs r
     pub older : List Rec
     pub since : List Rec
     pub is-before : before ≡ older ++ since
@@ -64,7 +65,7 @@ module _ (code : List ℕ) (is : List Ins) (bs : List Block) where
       made before r all h =
           let replayed = each-map (λ b q known k. k .replays) all in
           record {
-            replays = record-replays code is bs before replayed _ r (h .made);
+            replays = record-replays rules code is bs before replayed _ r (h .made);
             older = h .older;
             since = h .since;
             is-before = h .is;

@@ -6,6 +6,7 @@ use mathlib.Core.Logic.{_⊎_, inl, inr}
 use mathlib.Core.List.{List, [], _∷_, _++_}
 use mathlib.Core.Option.{some}
 use lib.ListN.{length, length-append}
+use Rattle.spec.specs.Opcodes.{Rules}
 use Rattle.spec.specs.Walk.{instructions}
 use Rattle.spec.specs.Blocks.{Block, blocks}
 use Rattle.spec.specs.Stacks.{before, jumpdest, Stack, read, run, compose}
@@ -13,6 +14,7 @@ use Rattle.spec.specs.Search.{Node, node, sides, Parent, parent, direct, Found,
 use Rattle.spec.specs.Answer.{prepared}
 use Rattle.laws.proofs.Members.{In, here, in-only, in-cases, in-map, in-gather}
 use Rattle.theorems.proofs.Each.{Each, each-map, each-in}
+use Rattle.theorems.proofs.Counts.{Lawful}
 use Rattle.theorems.proofs.Cutting.{made}
 use Rattle.theorems.proofs.Records.{Stored, Opens, first-level, deeper-level, Recorded, arrives, is-lost, too-heavy, search-history}
 use Rattle.theorems.proofs.Replay.{turned}
@@ -27,15 +29,15 @@ pub record Inner (n : ℕ) (x : Node) : Type 0 where
   pub kind : Within n (x .block .kind)
   pub stack : Sound n (x .own .stack)
 
-pub inner : (code : List ℕ) (x : Node) → In x (prepared code) → Inner (length code) x
+pub inner : (rules : Rules) → Lawful (rules .row) → (code : List ℕ) (x : Node) → In x (prepared rules code) → Inner (length code) x
 unfolding prepared
-inner code x i =
-    let g = in-map (λ (b : Block). node b (run code (instructions code) (b .start))) (blocks code (instructions code)) i in
+inner rules ok code x i =
+    let g = in-map (λ (b : Block). node b (run rules code (instructions code) (b .start))) (blocks (rules .row) code (instructions code)) i in
     rw (g .2)
     record {
-      start = omega (arith, made code (g .1) .start-inside);
-      kind = node-within code (g .1);
-      stack = run-ends code (instructions code) (g .0 .start) .stack;
+      start = omega (arith, made ok code (g .1) .start-inside);
+      kind = node-within rules ok code (g .1);
+      stack = run-ends rules code (instructions code) (g .0 .start) .stack;
     }
 
 -- ---- paths, and the states along them
@@ -127,5 +129,5 @@ module _ (n : ℕ) (ns : List Node) (inside : (x : Node) → In x ns → Inner n
   search-passes : (limit : ℕ) → Each (λ _. Passes n) (search limit ns .recs)
   search-passes limit = each-map (λ before r known c. recorded-passes _ before (λ q i. each-in known i .1) (c .made)) (search-history limit ns)
 
-pub record-passes : (limit : ℕ) (code : List ℕ) (r : Rec) → In r (search limit (prepared code) .recs) → Passes (length code) r
-record-passes limit code r i = each-in (search-passes (length code) (prepared code) (inner code) limit) i .1
+pub record-passes : (rules : Rules) → Lawful (rules .row) → (limit : ℕ) (code : List ℕ) (r : Rec) → In r (search limit (prepared rules code) .recs) → Passes (length code) r
+record-passes rules ok limit code r i = each-in (search-passes (length code) (prepared rules code) (inner rules ok code) limit) i .1

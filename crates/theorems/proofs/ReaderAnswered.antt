@@ -3,6 +3,7 @@ use Prim.Native.Nat.{ℕ, _≤_, _<_}
 use native.Mathlib.Omega.{arith}
 use mathlib.Core.Path.{_≡_, ap}
 use mathlib.Core.List.{List}
+use Rattle.spec.specs.Opcodes.{Rules}
 use Rattle.spec.specs.Blocks.{Kind, terminate, jump, jumpi, dynamic-jump, dynamic-jumpi}
 use Rattle.spec.specs.Search.{Found, nowhere, found, Rec, dest}
 use Rattle.spec.specs.Ending.{Final}
@@ -11,6 +12,7 @@ use Rattle.spec.specs.Entries.{Map, bytes}
 use Rattle.spec.specs.Answer.{answered, answer}
 use Rattle.spec.specs.Reader.{holds, read, plain}
 use Rattle.laws.proofs.Members.{In, here}
+use Rattle.theorems.proofs.Counts.{Lawful}
 use Rattle.theorems.proofs.Sides.{Within}
 use Rattle.theorems.proofs.Bounds.{RecBounded, BlockBounded, Bounded, answered-bounded}
 use Rattle.theorems.proofs.ReaderRead.{FoundFits, KindFits, RecFits, FinalFits, MapFits, read-written}
@@ -57,20 +59,20 @@ bounded-fits n m b = record {
 
 -- ---- every answer
 
-module _ (l : Lent) (limit : ℕ) (code : List ℕ) (m : Map) (e : answer l limit code ≡ answered m) where
+module _ (rules : Rules) (ok : Lawful (rules .row)) (l : Lent) (limit : ℕ) (code : List ℕ) (m : Map) (e : answer rules l limit code ≡ answered m) where
   -- Every number of an answered map fits its bytes, and a destination that was found is never the number of a missing one.
   pub answered-fits : MapFits m
-  answered-fits = bounded-fits _ m (answered-bounded l limit code m e)
+  answered-fits = bounded-fits _ m (answered-bounded rules ok l limit code m e)
 
   -- Reading what was written gives it back.
   pub read-answered : read (bytes m) ≡ holds (plain m)
   read-answered = read-written m answered-fits
 
--- Equal bytes, equal maps, but for the states that a search keeps for destinations, which are not written.
-pub answered-once : (l k : Lent) (limit bound : ℕ) (code text : List ℕ) (m a : Map) → answer l limit code ≡ answered m → answer k bound text ≡ answered a
-    → bytes m ≡ bytes a → plain m ≡ plain a
-answered-once l k limit bound code text m a e f q =
-    let one = read-answered l limit code m e in
-    let other = read-answered k bound text a f in
-    let same : read (bytes m) ≡ read (bytes a) = ap read q in
+-- Equal bytes, equal maps, whatever the two runs' modes, but for the states that a search keeps for destinations, which are not written.
+pub answered-once : (r q : Rules) → Lawful (r .row) → Lawful (q .row) → (l k : Lent) (limit bound : ℕ) (code text : List ℕ) (m a : Map)
+    → answer r l limit code ≡ answered m → answer q k bound text ≡ answered a → bytes m ≡ bytes a → plain m ≡ plain a
+answered-once r q ok fine l k limit bound code text m a e f w =
+    let one = read-answered r ok l limit code m e in
+    let other = read-answered q fine k bound text a f in
+    let same : read (bytes m) ≡ read (bytes a) = ap read w in
     cc

@@ -6,6 +6,8 @@ use mathlib.Core.List.{List}
 use lib.Dec.{leb, ltb}
 use lib.ListN.{length}
 use borrow.Author.Tests.{ltb-true, ltb-false, lt-ltb, le-ltb, leb-true, leb-false, le-leb, lt-leb}
+use Rattle.spec.specs.Lists.{if}
+use Rattle.spec.specs.Opcodes.{Rules}
 use Rattle.spec.specs.Search.{Room, P, S, T, R, Q, Need}
 use Rattle.spec.specs.Rooms.{Lent, units, room, shortage, longest, work-need}
 use Rattle.spec.specs.Entries.{Map, bytes}
@@ -21,25 +23,27 @@ room-capped l T = omega arith
 room-capped l R = omega arith
 room-capped l Q = omega arith
 
-module _ (l : Lent) (limit : ℕ) (code : List ℕ) where
+module _ (r : Rules) (l : Lent) (limit : ℕ) (code : List ℕ) where
   -- what the run asks of its rooms, and the map that it makes
   abbrev pub asked : List Need
-  asked = searched limit code .needs
+  asked = searched r limit code .needs
 
   abbrev pub made : Map
-  made = mapped code (searched limit code)
+  made = mapped r code (searched r limit code)
 
-  -- 1, 2 and 3 do not apply
+  -- 1, 2, 13 and 3 do not apply
   pub record Taken : Type 0 where
     pub code-fits : length code ≤ longest
     pub limit-fits : limit ≤ 500000
+    pub mode-fits : r .mode ≤ 1
     pub work-fits : work-need (length code) ≤ l .w
 
   -- The document's table: each number, given when.
   pub data Verdict : Answer → Type 0 where
     code-over : longest < length code → Verdict (refused 1)
     limit-over : length code ≤ longest → 500000 < limit → Verdict (refused 2)
-    work-short : length code ≤ longest → limit ≤ 500000 → l .w < work-need (length code) → Verdict (refused 3)
+    mode-over : length code ≤ longest → limit ≤ 500000 → 1 < r .mode → Verdict (refused 13)
+    work-short : length code ≤ longest → limit ≤ 500000 → r .mode ≤ 1 → l .w < work-need (length code) → Verdict (refused 3)
     room-short : {k : ℕ} → Taken → FirstShort l asked k → Verdict (refused (suc k))
     output-short : Taken → Fits l asked → units (l .out) 1 < length (bytes made) → Verdict (refused 9)
     all-fits : Taken → Fits l asked → length (bytes made) ≤ units (l .out) 1 → Verdict (answered made)
@@ -51,27 +55,37 @@ module _ (l : Lent) (limit : ℕ) (code : List ℕ) where
   verdict-rooms t (suc k) e = room-short t (first-short l asked k e)
 
   -- The answer is one of the table's,
-  pub verdict : Verdict (answer l limit code)
+  pub verdict : Verdict (answer r l limit code)
   unfolding answer
   verdict =
       both Verdict (ltb longest (length code)) (λ on. code-over (ltb-true _ _ on))
       (λ c. both Verdict (ltb 500000 limit) (λ on. limit-over (ltb-false _ _ c) (ltb-true _ _ on))
-      (λ m. both Verdict (ltb (l .w) (work-need (length code))) (λ on. work-short (ltb-false _ _ c) (ltb-false _ _ m) (ltb-true _ _ on))
-      (λ w. verdict-rooms (record { code-fits = ltb-false _ _ c; limit-fits = ltb-false _ _ m; work-fits = ltb-false _ _ w }) (shortage l asked) refl)))
+      (λ n. both Verdict (ltb 1 (r .mode)) (λ on. mode-over (ltb-false _ _ c) (ltb-false _ _ n) (ltb-true _ _ on))
+      (λ m. both Verdict (ltb (l .w) (work-need (length code))) (λ on. work-short (ltb-false _ _ c) (ltb-false _ _ n) (ltb-false _ _ m) (ltb-true _ _ on))
+      (λ w. verdict-rooms (record { code-fits = ltb-false _ _ c; limit-fits = ltb-false _ _ n; mode-fits = ltb-false _ _ m; work-fits = ltb-false _ _ w }) (shortage l asked) refl))))
 
-  taken-run : Taken → answer l limit code ≡ within-rooms (within-out l made) (shortage l asked)
+  -- the tests one after the other, each passed
+  past-code : length code ≤ longest → (a b : Answer) → if (ltb longest (length code)) a b ≡ b
+  past-code h a b = if-false _ a b (le-ltb longest (length code) h)
+
+  past-limit : limit ≤ 500000 → (a b : Answer) → if (ltb 500000 limit) a b ≡ b
+  past-limit h a b = if-false _ a b (le-ltb 500000 limit h)
+
+  past-mode : r .mode ≤ 1 → (a b : Answer) → if (ltb 1 (r .mode)) a b ≡ b
+  past-mode h a b = if-false _ a b (le-ltb 1 (r .mode) h)
+
+  taken-run : Taken → answer r l limit code ≡ within-rooms (within-out l made) (shortage l asked)
   unfolding answer
   taken-run t =
-      if-false _ _ _ (le-ltb longest (length code) (t .code-fits)) ∙ if-false _ _ _ (le-ltb 500000 limit (t .limit-fits))
-      ∙ if-false _ _ _ (le-ltb (l .w) (work-need (length code)) (t .work-fits))
+      past-code (t .code-fits) _ _ ∙ past-limit (t .limit-fits) _ _ ∙ past-mode (t .mode-fits) _ _ ∙ if-false _ _ _ (le-ltb (l .w) (work-need (length code)) (t .work-fits))
 
   -- and the table has no other: what it gives is the answer.
-  pub verdict-only : {a : Answer} → Verdict a → answer l limit code ≡ a
+  pub verdict-only : {a : Answer} → Verdict a → answer r l limit code ≡ a
   unfolding answer
   verdict-only (code-over h) = if-true _ _ _ (lt-ltb longest (length code) h)
-  verdict-only (limit-over c h) = if-false _ _ _ (le-ltb longest (length code) c) ∙ if-true _ _ _ (lt-ltb 500000 limit h)
-  verdict-only (work-short c m h) =
-      if-false _ _ _ (le-ltb longest (length code) c) ∙ if-false _ _ _ (le-ltb 500000 limit m) ∙ if-true _ _ _ (lt-ltb (l .w) (work-need (length code)) h)
+  verdict-only (limit-over c h) = past-code c _ _ ∙ if-true _ _ _ (lt-ltb 500000 limit h)
+  verdict-only (mode-over c n h) = past-code c _ _ ∙ past-limit n _ _ ∙ if-true _ _ _ (lt-ltb 1 (r .mode) h)
+  verdict-only (work-short c n m h) = past-code c _ _ ∙ past-limit n _ _ ∙ past-mode m _ _ ∙ if-true _ _ _ (lt-ltb (l .w) (work-need (length code)) h)
   verdict-only (room-short {k} t f) = taken-run t ∙ ap (within-rooms (within-out l made)) (short-first l asked k f)
   verdict-only (output-short t f h) =
       taken-run t ∙ ap (within-rooms (within-out l made)) (fits-none l asked f) ∙ if-false _ _ _ (lt-leb (length (bytes made)) (units (l .out) 1) h)

@@ -10,6 +10,7 @@ use mathlib.Core.Option.{Option, none, some}
 use mathlib.Core.List.{List, [], _∷_, _++_}
 use lib.Dec.{ltb}
 use Rattle.spec.specs.Lists.{if}
+use Rattle.spec.specs.Opcodes.{Rules}
 use Rattle.spec.specs.Walk.{Ins, from}
 use Rattle.spec.specs.Blocks.{Kind, terminate, jump, jumpi, dynamic-jump, dynamic-jumpi, Block}
 use Rattle.spec.specs.Stacks.{Sym, before, constant, jumpdest, other, Stack, cells, Ran, runs, trimmed, run, compose}
@@ -49,16 +50,16 @@ kind-takes n (dynamic-jumpi f) e i = taker-is n (λ q. let z : _≡_ {A = ℕ} 0
 pub turned : {ns : List Node} {k : Taker} → In k (takers ns) → (n : Node) × In n ns × Takes n k
 turned {ns} i = let g = in-gather (λ (n : Node). takes n (n .block .kind)) ns i in (g .0, g .1, kind-takes (g .0) (g .0 .block .kind) refl (g .2))
 
-module _ (code : List ℕ) (is : List Ins) where
+module _ (rules : Rules) (code : List ℕ) (is : List Ins) where
   -- a block's own stack
   abbrev pub own : ℕ → Stack
-  own b = run code is b .stack
+  own b = run rules code is b .stack
 
   -- ---- the Rust's replay
 
   -- get_state_with_depth: the block run from an identity depth, trimmed
   abbrev pub deep : ℕ → ℕ → Stack
-  deep d b = trimmed (runs code b (from b is) (identity d)) .stack
+  deep d b = trimmed (runs rules code b (from b is) (identity d)) .stack
 
   -- the loop of materialize_path_state; `depth` is how deep the next block is run, by the state so far
   abbrev pub replays-on : (Stack → ℕ) → Stack → List ℕ → Stack
@@ -77,7 +78,7 @@ module _ (code : List ℕ) (is : List Ins) where
 
   deep-own : (d b : ℕ) → deep d b ≡ own b
   unfolding run
-  deep-own d b = ap (λ (r : Ran). r .stack) (run-any-depth code b (from b is) d)
+  deep-own d b = ap (λ (r : Ran). r .stack) (run-any-depth rules code b (from b is) d)
 
   replays-composed : (depth : Stack → ℕ) (s : Stack) (bs : List ℕ) → replays-on depth s bs ≡ composed-on s bs
   unfolding composed-on
@@ -129,11 +130,11 @@ module _ (code : List ℕ) (is : List Ins) where
 
   module _ (bs : List Block) where
     abbrev ns : List Node
-    ns = nodes code is bs
+    ns = nodes rules code is bs
 
     -- a node has its block's own run
-    pub own-run : {n : Node} → In n ns → n .own ≡ run code is (n .block .start)
-    own-run i = let g = in-map (λ (b : Block). node b (run code is (b .start))) bs i in rw (g .2)
+    pub own-run : {n : Node} → In n ns → n .own ≡ run rules code is (n .block .start)
+    own-run i = let g = in-map (λ (b : Block). node b (run rules code is (b .start))) bs i in rw (g .2)
 
     direct-replays : {p : Parent} → In p (direct ns) → Replays (p .path) (p .stack)
     direct-replays {p} i =

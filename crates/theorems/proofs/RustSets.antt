@@ -10,6 +10,7 @@ use lib.Dec.{eqb, ltb}
 use lib.ListN.{length, drop, length-append}
 use lib.Seq.{drop-append-seam}
 use Rattle.spec.specs.Lists.{if, mem, lastOf}
+use Rattle.spec.specs.Opcodes.{Rules}
 use Rattle.spec.specs.Walk.{Ins, instructions}
 use Rattle.spec.specs.Blocks.{Kind, terminate, jump, jumpi, dynamic-jump, dynamic-jumpi, Block, starts, blocks}
 use Rattle.spec.specs.Reach.{Edge, closure}
@@ -20,6 +21,7 @@ use Rattle.laws.proofs.Branch.{both, and-then}
 use Rattle.laws.proofs.Members.{In, here, there, in-keep, in-map}
 use Rattle.laws.proofs.Lists.{Rising}
 use Rattle.theorems.proofs.Each.{each-in}
+use Rattle.theorems.proofs.Counts.{Lawful}
 use Rattle.theorems.proofs.Cutting.{starts-rise}
 use Rattle.theorems.proofs.Replay.{search-replays}
 use Rattle.theorems.proofs.Panics.{has-last}
@@ -49,25 +51,25 @@ ended-entry b es (jumpi t f) i = elim i [ ]
 ended-entry b es dynamic-jump i = in-keep (λ (r : Rec). not (is-nowhere (r .to))) es (merged-entry b _ (dests es) i) .1
 ended-entry b es (dynamic-jumpi f) i = i
 
-module _ (code : List ℕ) (limit : ℕ) where
+module _ (rules : Rules) (ok : Lawful (rules .row)) (code : List ℕ) (limit : ℕ) where
   abbrev recs : List Rec
-  recs = search limit (prepared code) .recs
+  recs = search limit (prepared rules code) .recs
 
-  pathed : (f : Final) → In f (finals (prepared code) recs) → Pathed (f .entries)
+  pathed : (f : Final) → In f (finals (prepared rules code) recs) → Pathed (f .entries)
   unfolding prepared
   pathed f i r j =
-      let m = in-map (λ (n : Node). ended (n .block) (entries-of (n .block .start) recs) (n .block .kind)) (prepared code) i in
+      let m = in-map (λ (n : Node). ended (n .block) (entries-of (n .block .start) recs) (n .block .kind)) (prepared rules code) i in
       let k = ended-entry (m .0 .block) (entries-of (m .0 .block .start) recs) (m .0 .block .kind) (subst (λ (f : Final). In r (f .entries)) (m .2) j) in
       let h = in-keep (λ (r : Rec). eqb (m .0 .block .start) (r .start)) recs k in
-      last-there (r .path) (has-last code (instructions code) (blocks code (instructions code)) r (each-in (search-replays code (instructions code) (blocks code (instructions code)) limit) (h .1) .1))
+      last-there (r .path) (has-last rules code (instructions code) (blocks (rules .row) code (instructions code)) r (each-in (search-replays rules code (instructions code) (blocks (rules .row) code (instructions code)) limit) (h .1) .1))
 
   -- mod.rs, line 107: `get_reachable_nodes(&blocks, 0, None)` on the blocks that the search leaves does not panic, and gives the set by which they are pruned.
-  pub pruning-set : (n k : ℕ) → suc (suc (entries-of-all (finals (prepared code) recs))) ≤ n → suc (suc (length (final-edges (finals (prepared code) recs)))) ≤ k
-      → Reaches (final-edges (finals (prepared code) recs)) 0 (get-reachable-nodes n (finals (prepared code) recs) 0 k [])
+  pub pruning-set : (n k : ℕ) → suc (suc (entries-of-all (finals (prepared rules code) recs))) ≤ n → suc (suc (length (final-edges (finals (prepared rules code) recs)))) ≤ k
+      → Reaches (final-edges (finals (prepared rules code) recs)) 0 (get-reachable-nodes n (finals (prepared rules code) recs) 0 k [])
   unfolding prepared
   pruning-set n k h l =
-      getting (finals (prepared code) recs)
-      (subst (Rising 0) (sym (final-starts code (instructions code) (blocks code (instructions code)) recs)) (starts-rise code)) pathed 0 n h k l
+      getting (finals (prepared rules code) recs)
+      (subst (Rising 0) (sym (final-starts rules code (instructions code) (blocks (rules .row) code (instructions code)) recs)) (starts-rise ok code)) pathed 0 n h k l
 
 -- ---- the search's first set
 
@@ -173,18 +175,18 @@ module _ (cut : List ℕ → List (List ℕ)) (whole : (xs : List ℕ) → joine
 
 -- ---- of a code
 
-held-starts : (code : List ℕ) (is : List Ins) (bs : List Block) (entries : Node → List Rec) → finals-at (held (nodes code is bs) entries) ≡ starts bs
-held-starts code is [] entries = refl
-held-starts code is (b ∷ bs) entries = ap {B = List ℕ} (λ (xs : List ℕ). b .start ∷ xs) (held-starts code is bs entries)
+held-starts : (rules : Rules) (code : List ℕ) (is : List Ins) (bs : List Block) (entries : Node → List Rec) → finals-at (held (nodes rules code is bs) entries) ≡ starts bs
+held-starts rules code is [] entries = refl
+held-starts rules code is (b ∷ bs) entries = ap {B = List ℕ} (λ (xs : List ℕ). b .start ∷ xs) (held-starts rules code is bs entries)
 
-held-rising : (code : List ℕ) (entries : Node → List Rec) → Rising 0 (finals-at (held (prepared code) entries))
+held-rising : (rules : Rules) → Lawful (rules .row) → (code : List ℕ) (entries : Node → List Rec) → Rising 0 (finals-at (held (prepared rules code) entries))
 unfolding prepared
-held-rising code entries = subst (Rising 0) (sym (held-starts code (instructions code) (blocks code (instructions code)) entries)) (starts-rise code)
+held-rising rules ok code entries = subst (Rising 0) (sym (held-starts rules code (instructions code) (blocks (rules .row) code (instructions code)) entries)) (starts-rise ok code)
 
 -- As resolver.rs hands them over, all at once,
-pub at-once : (limit : ℕ) (code : List ℕ) → rust-search (λ xs. xs ∷ []) limit (prepared code) ≡ some (search limit (prepared code))
-at-once limit code = rust-search-same (λ xs. xs ∷ []) append-nil limit (prepared code) (held-rising code)
+pub at-once : (rules : Rules) → Lawful (rules .row) → (limit : ℕ) (code : List ℕ) → rust-search (λ xs. xs ∷ []) limit (prepared rules code) ≡ some (search limit (prepared rules code))
+at-once rules ok limit code = rust-search-same (λ xs. xs ∷ []) append-nil limit (prepared rules code) (held-rising rules ok code)
 
 -- and in batches of 64.
-pub in-batches : (limit : ℕ) (code : List ℕ) → rust-search (λ xs. batched (length xs) xs) limit (prepared code) ≡ some (search limit (prepared code))
-in-batches limit code = rust-search-same (λ xs. batched (length xs) xs) (λ xs. batched-join (length xs) xs) limit (prepared code) (held-rising code)
+pub in-batches : (rules : Rules) → Lawful (rules .row) → (limit : ℕ) (code : List ℕ) → rust-search (λ xs. batched (length xs) xs) limit (prepared rules code) ≡ some (search limit (prepared rules code))
+in-batches rules ok limit code = rust-search-same (λ xs. batched (length xs) xs) (λ xs. batched-join (length xs) xs) limit (prepared rules code) (held-rising rules ok code)

@@ -6,6 +6,7 @@ use mathlib.Core.Path.{_≡_, refl, sym, ap, subst, _∙_}
 use mathlib.Core.List.{List, [], _∷_, _++_, map, append-assoc, append-nil}
 use lib.ListN.{length, take, drop, length-append, length-drop, take-append-drop}
 use Rattle.spec.specs.Lists.{gather}
+use Rattle.spec.specs.Opcodes.{Rules}
 use Rattle.spec.specs.Search.{Rec}
 use Rattle.spec.specs.Ending.{Final}
 use Rattle.spec.specs.Rooms.{Lent}
@@ -14,6 +15,7 @@ use Rattle.spec.specs.Entries.{bytes, Map, joined}
 use Rattle.spec.specs.Forms.{Entry, sort}
 use Rattle.spec.specs.Reader.{Reading, holds, bad, Piece, whole, cut, pieces, first, Item, a-record, item-of, items, read, plain}
 use Rattle.spec.specs.Salvage.{first-map, Salvaged, salvage}
+use Rattle.theorems.proofs.Counts.{Lawful}
 use Rattle.theorems.proofs.ReaderPlaces.{never}
 use Rattle.theorems.proofs.ReaderSplit.{Split, done, cut-off, more, moved, split, split-once}
 use Rattle.theorems.proofs.ReaderItems.{way-of, block-items, items-of}
@@ -130,5 +132,5 @@ cut-archive bs h b w k l =
 
 -- ---- what was stored reads whole
 
-pub answered-whole : (l : Lent) (limit : ℕ) (code : List ℕ) (m : Map) → answer l limit code ≡ answered m → ReadsWhole (bytes m)
-answered-whole l limit code m e = (plain m, read-answered l limit code m e)
+pub answered-whole : (rules : Rules) → Lawful (rules .row) → (l : Lent) (limit : ℕ) (code : List ℕ) (m : Map) → answer rules l limit code ≡ answered m → ReadsWhole (bytes m)
+answered-whole rules ok l limit code m e = (plain m, read-answered rules ok l limit code m e)

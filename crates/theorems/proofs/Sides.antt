@@ -10,6 +10,7 @@ use mathlib.Core.Option.{Option, none, some}
 use lib.Dec.{eqb, leb}
 use lib.ListN.{length}
 use Rattle.spec.specs.Lists.{mem}
+use Rattle.spec.specs.Opcodes.{Rules}
 use Rattle.spec.specs.Walk.{Ins, instructions}
 use Rattle.spec.specs.Blocks.{Kind, terminate, jump, jumpi, dynamic-jump, dynamic-jumpi, Block, with-kind, Mode, opened, waiting, pushed, branching, jumping, Cut, JUMPDEST, JUMPI, JUMP, UNKNOWN, OTHER, ENDS, cut, closes, cuts, lands, checked, starts, blocks}
 use Rattle.spec.specs.Stacks.{Sym, before, constant, jumpdest, other, run}
@@ -17,6 +18,7 @@ use Rattle.spec.specs.Search.{settled, sides}
 use Rattle.laws.proofs.Branch.{both}
 use Rattle.laws.proofs.Members.{In, here, there, in-only, in-cases, mem-in, in-map, and-both}
 use Rattle.theorems.proofs.Walking.{Walked, stops, steps, walked}
+use Rattle.theorems.proofs.Counts.{Lawful}
 use Rattle.theorems.proofs.Cutting.{made, starts-checked}
 use Rattle.theorems.proofs.Landing.{Goes, run-ends}
 
@@ -65,14 +67,14 @@ module _ (n : ℕ) where
   closes-falls id start prev push pc on h more OTHER = more (opened id start)
   closes-falls id start prev push pc on h more (ENDS success) = and-more tt (more waiting)
 
-cuts-falls : {code : List ℕ} {at : ℕ} {is : List Ins} → Walked code at is → (m : Mode) (prev : ℕ) (push : Option ℕ) → All (length code) (cuts is m prev push)
+cuts-falls : (rules : Rules) {code : List ℕ} {at : ℕ} {is : List Ins} → Walked code at is → (m : Mode) (prev : ℕ) (push : Option ℕ) → All (length code) (cuts (rules .row) is m prev push)
 unfolding cuts
-cuts-falls (stops h) waiting prev push = no-more
-cuts-falls {code} (stops h) (opened id start) prev push = both (All (length code)) (leb start prev) (λ _. and-more tt no-more) (λ _. no-more)
-cuts-falls {code} (steps {i} s w) waiting prev push =
-    both (All (length code)) (eqb (i .op) 0x5B) (λ _. cuts-falls w (opened (i .pc) (i .pc)) (i .pc) (pushed i)) (λ _. cuts-falls w waiting (i .pc) (pushed i))
-cuts-falls {code} (steps {i} s w) (opened id start) prev push =
-    closes-falls (length code) id start prev push (i .pc) _ (omega arith) (λ m. cuts-falls w m (i .pc) (pushed i)) (cut (i .op))
+cuts-falls rules (stops h) waiting prev push = no-more
+cuts-falls rules {code} (stops h) (opened id start) prev push = both (All (length code)) (leb start prev) (λ _. and-more tt no-more) (λ _. no-more)
+cuts-falls rules {code} (steps {i} s w) waiting prev push =
+    both (All (length code)) (eqb (i .op) 0x5B) (λ _. cuts-falls rules w (opened (i .pc) (i .pc)) (i .pc) (pushed i)) (λ _. cuts-falls rules w waiting (i .pc) (pushed i))
+cuts-falls rules {code} (steps {i} s w) (opened id start) prev push =
+    closes-falls (length code) id start prev push (i .pc) _ (omega arith) (λ m. cuts-falls rules w m (i .pc) (pushed i)) (cut (rules .row) (i .op))
 
 -- ---- the checks: of the others
 
@@ -89,20 +91,20 @@ module _ (code ss : List ℕ) (n : ℕ) (inside : (t : ℕ) → mem t ss ≡ tru
   checked-within dynamic-jump h = tt
   checked-within (dynamic-jumpi f) h = h
 
-pub block-within : (code : List ℕ) {b : Block} → In b (blocks code (instructions code)) → Within (length code) (b .kind)
+pub block-within : (rules : Rules) → Lawful (rules .row) → (code : List ℕ) {b : Block} → In b (blocks (rules .row) code (instructions code)) → Within (length code) (b .kind)
 unfolding blocks
-block-within [] i = elim i [ ]
-block-within (x ∷ code) {b} i =
-    let bs : List Block = cuts (instructions (x ∷ code)) (opened 0 0) 0 none in
-    let all : All (length (x ∷ code)) bs = cuts-falls (walked (x ∷ code)) (opened 0 0) 0 none in
+block-within rules ok [] i = elim i [ ]
+block-within rules ok (x ∷ code) {b} i =
+    let bs : List Block = cuts (rules .row) (instructions (x ∷ code)) (opened 0 0) 0 none in
+    let all : All (length (x ∷ code)) bs = cuts-falls rules (walked (x ∷ code)) (opened 0 0) 0 none in
     let inside : (t : ℕ) → mem t (starts bs) ≡ true → t < length (x ∷ code) = λ t e. started t (rw (← starts-checked (x ∷ code) bs) at e) in
     let g = in-map (λ (c : Block). with-kind (checked (x ∷ code) (starts bs) (c .kind)) c) bs i in
     rw (g .2) (checked-within (x ∷ code) (starts bs) (length (x ∷ code)) inside (g .0 .kind) (all-in (length (x ∷ code)) all (g .1)))
   where
-    started : (t : ℕ) → mem t (starts (blocks (x ∷ code) (instructions (x ∷ code)))) ≡ true → t < length (x ∷ code)
+    started : (t : ℕ) → mem t (starts (blocks (rules .row) (x ∷ code) (instructions (x ∷ code)))) ≡ true → t < length (x ∷ code)
     started t e =
-        let m = in-map (λ (c : Block). c .start) (blocks (x ∷ code) (instructions (x ∷ code))) (mem-in t _ e) in
-        omega (arith, made (x ∷ code) (m .1) .start-inside, m .2)
+        let m = in-map (λ (c : Block). c .start) (blocks (rules .row) (x ∷ code) (instructions (x ∷ code))) (mem-in t _ e) in
+        omega (arith, made ok (x ∷ code) (m .1) .start-inside, m .2)
 
 -- ---- the first stage
 
@@ -117,11 +119,11 @@ settled-within n (some (jumpdest t)) (jumpi u f) h w = w
 settled-within n (some (jumpdest t)) dynamic-jump h w = h
 settled-within n (some (jumpdest t)) (dynamic-jumpi f) h w = (h, w .1)
 
-pub node-within : (code : List ℕ) {b : Block} → In b (blocks code (instructions code))
-    → Within (length code) (settled (run code (instructions code) (b .start) .goes) (b .kind))
-node-within code {b} i =
+pub node-within : (rules : Rules) → Lawful (rules .row) → (code : List ℕ) {b : Block} → In b (blocks (rules .row) code (instructions code))
+    → Within (length code) (settled (run rules code (instructions code) (b .start) .goes) (b .kind))
+node-within rules ok code {b} i =
     let is = instructions code in
-    settled-within (length code) (run code is (b .start) .goes) (b .kind) (run-ends code is (b .start) .goes) (block-within code i)
+    settled-within (length code) (run rules code is (b .start) .goes) (b .kind) (run-ends rules code is (b .start) .goes) (block-within rules ok code i)
 
 pub sides-within : (n : ℕ) (k : Kind) → Within n k → {t : ℕ} → In t (sides k) → t ≤ n
 sides-within n (terminate success) h i = elim i [ ]

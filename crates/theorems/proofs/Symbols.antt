@@ -12,12 +12,12 @@ use lib.Bits.{bitAnd, and-mask, and-comm}
 use lib.Dec.{eqb, ltb}
 use lib.ListN.{length, getD, drop, length-append, length-drop, length-replicate, length-set}
 use borrow.Author.Tests.{eqb-true, ltb-true}
-use Rattle.spec.specs.Opcodes.{row}
+use Rattle.spec.specs.Opcodes.{Row}
 use Rattle.spec.specs.Walk.{Ins}
 use Rattle.spec.specs.Stacks.{Sym, before, constant, jumpdest, other, Stack, read, span, from-value, known-value, mask, is, anded, summed, Does, pushes-value, pushes-pc, dups, swaps, ands, adds, jumps, jumpis, lands, halts, plain, does, act}
 use Rattle.spec.specs.Meaning.{supplied, yields, Means, Tells, Holds, Deep, Small, Masked}
 use Rattle.laws.proofs.Branch.{both}
-use Rattle.theorems.proofs.Counts.{takes, gives, takes-row, gives-row, does-to, told, yields-does, ands?, anding-does}
+use Rattle.theorems.proofs.Counts.{takes, gives, Lawful, takes-row, gives-row, does-to, told, yields-does, ands?, anding-does}
 use Rattle.theorems.proofs.Beside.{Follows, beside-act}
 
 -- ---- words that AND and ADD make
@@ -75,10 +75,10 @@ module _ (ws : List ℕ) where
     sum = λ pc a b u w m k. means-summed code pc a b u w m k (known-value a) (known-value b) refl refl;
   }
 
-  tells-act : (code : List ℕ) (f : ℕ → ℕ) (i : Ins) (d : Does) {s : Stack} {st : List ℕ} → Tells ws s st
-      → takes (i .op) d ≤ length st → (ands? d ≡ true → Small s st) → Tells ws (act code i d s) (does-to f i d st)
-  tells-act code f i d {s} {st} h l o =
-      record { at = beside-act (Means ws) code (follows code) f i d (record { at = h .at }) l (λ e m k. means-anded (i .pc) s st (o e) m k) .at }
+  tells-act : (row : ℕ → Row) (code : List ℕ) (f : ℕ → ℕ) (i : Ins) (d : Does) {s : Stack} {st : List ℕ} → Tells ws s st
+      → takes (row (i .op)) d ≤ length st → (ands? d ≡ true → Small s st) → Tells ws (act row code i d s) (does-to (row (i .op)) f i d st)
+  tells-act row code f i d {s} {st} h l o =
+      record { at = beside-act (Means ws) row code (follows code) f i d (record { at = h .at }) l (λ e m k. means-anded (i .pc) s st (o e) m k) .at }
 
 -- ---- the number of words
 
@@ -89,59 +89,63 @@ length-supplied f (suc n) = ap suc (length-supplied f n)
 length-trade : (f : ℕ → ℕ) (g t : ℕ) (st : List ℕ) → length (supplied f g ++ drop t st) ≡ length st - t + g
 length-trade f g t st = simp (length-append, length-supplied, length-drop) (omega arith)
 
-length-does : (f : ℕ → ℕ) (i : Ins) (d : Does) (st : List ℕ) → takes (i .op) d ≤ length st
-    → length (does-to f i d st) ≡ length st - takes (i .op) d + gives (i .op) d
+length-does : (x : Row) (f : ℕ → ℕ) (i : Ins) (d : Does) (st : List ℕ) → takes x d ≤ length st
+    → length (does-to x f i d st) ≡ length st - takes x d + gives x d
 unfolding does-to
-length-does f i pushes-value st h = omega arith
-length-does f i pushes-pc st h = omega arith
-length-does f i (dups n) st h = omega arith
-length-does f i (swaps n) st h = simp length-set (omega arith)
-length-does f i ands st h = omega (arith, length-drop 2 st)
-length-does f i adds st h = omega (arith, length-drop 2 st)
-length-does f i jumps st h = omega (arith, length-drop 1 st)
-length-does f i jumpis st h = omega (arith, length-drop 2 st)
-length-does f i lands st h = omega arith
-length-does f i halts st h = length-trade f (row (i .op) .given) (row (i .op) .taken) st
-length-does f i plain st h = length-trade f (row (i .op) .given) (row (i .op) .taken) st
-
--- YP's instruction leaves the words that its row does not take, and those that the row gives.
-pub leaves : (supply : ℕ → ℕ → ℕ) (i : Ins) (st : List ℕ) → row (i .op) .taken ≤ length st
-    → length (yields supply i st) ≡ length st - row (i .op) .taken + row (i .op) .given
-leaves supply i st h =
-    rw (yields-does supply i st, ← takes-row (i .op), ← gives-row (i .op)) (length-does (told supply i) i (does (i .op)) st (rw (takes-row (i .op)) h))
+length-does x f i pushes-value st h = omega arith
+length-does x f i pushes-pc st h = omega arith
+length-does x f i (dups n) st h = omega arith
+length-does x f i (swaps n) st h = simp length-set (omega arith)
+length-does x f i ands st h = omega (arith, length-drop 2 st)
+length-does x f i adds st h = omega (arith, length-drop 2 st)
+length-does x f i jumps st h = omega (arith, length-drop 1 st)
+length-does x f i jumpis st h = omega (arith, length-drop 2 st)
+length-does x f i lands st h = omega arith
+length-does x f i halts st h = length-trade f (x .given) (x .taken) st
+length-does x f i plain st h = length-trade f (x .given) (x .taken) st
 
 length-span : (s : Stack) (i n : ℕ) → length (span s i n) ≡ n
 length-span s i zero = refl
 length-span s i (suc n) = ap suc (length-span s (suc i) n)
 
-height-does : (code : List ℕ) (i : Ins) (d : Does) (s : Stack)
-    → length (act code i d s .above) + s .base + takes (i .op) d ≡ length (s .above) + act code i d s .base + gives (i .op) d
+height-does : (row : ℕ → Row) (code : List ℕ) (i : Ins) (d : Does) (s : Stack)
+    → length (act row code i d s .above) + s .base + takes (row (i .op)) d ≡ length (s .above) + act row code i d s .base + gives (row (i .op)) d
 unfolding act
-height-does code i pushes-value s = omega arith
-height-does code i pushes-pc s = omega arith
-height-does code i (dups n) s = omega arith
-height-does code i (swaps n) s = simp (length-append, length-span, length-drop) (omega arith)
-height-does code i ands s = omega (arith, length-drop 2 (s .above))
-height-does code i adds s = omega (arith, length-drop 2 (s .above))
-height-does code i jumps s = omega (arith, length-drop 1 (s .above))
-height-does code i jumpis s = omega (arith, length-drop 2 (s .above))
-height-does code i lands s = omega arith
-height-does code i halts s = simp (length-append, length-replicate, length-drop) (omega arith)
-height-does code i plain s = simp (length-append, length-replicate, length-drop) (omega arith)
+height-does row code i pushes-value s = omega arith
+height-does row code i pushes-pc s = omega arith
+height-does row code i (dups n) s = omega arith
+height-does row code i (swaps n) s = simp (length-append, length-span, length-drop) (omega arith)
+height-does row code i ands s = omega (arith, length-drop 2 (s .above))
+height-does row code i adds s = omega (arith, length-drop 2 (s .above))
+height-does row code i jumps s = omega (arith, length-drop 1 (s .above))
+height-does row code i jumpis s = omega (arith, length-drop 2 (s .above))
+height-does row code i lands s = omega arith
+height-does row code i halts s = simp (length-append, length-replicate, length-drop) (omega arith)
+height-does row code i plain s = simp (length-append, length-replicate, length-drop) (omega arith)
 
--- The symbols' stack stands for as many words more, and as many fewer.
-height-act : (code : List ℕ) (i : Ins) (s : Stack)
-    → length (act code i (does (i .op)) s .above) + s .base + row (i .op) .taken ≡ length (s .above) + act code i (does (i .op)) s .base + row (i .op) .given
-height-act code i s = rw (← takes-row (i .op), ← gives-row (i .op)) (height-does code i (does (i .op)) s)
+-- ---- the instruction, by lawful rows
 
--- ---- the instruction
+module _ {row : ℕ → Row} (ok : Lawful row) where
+  -- YP's instruction leaves the words that its row does not take, and those that the row gives.
+  pub leaves : (supply : ℕ → ℕ → ℕ) (i : Ins) (st : List ℕ) → row (i .op) .taken ≤ length st
+      → length (yields row supply i st) ≡ length st - row (i .op) .taken + row (i .op) .given
+  leaves supply i st h =
+      rw (yields-does ok 0 supply i st)
+      (rw (takes-row ok 0 (i .op), gives-row ok 0 (i .op)) at (length-does (row (i .op)) (told supply i) i (does 0 (i .op)) st (rw (takes-row ok 0 (i .op)) h)))
 
--- "Meaning to prove", of one instruction
-pub holds-act : (code : List ℕ) (supply : ℕ → ℕ → ℕ) (i : Ins) {ws : List ℕ} {s : Stack} {st : List ℕ} → Holds ws s st → Deep i s st → Masked i s st
-    → Holds ws (act code i (does (i .op)) s) (yields supply i st)
-holds-act code supply i {ws} {s} {st} h deep mask-ok = record {
-  truth =
-      rw (yields-does supply i st)
-      (tells-act ws code (told supply i) i (does (i .op)) (h .truth) (rw (takes-row (i .op)) deep) (λ e. mask-ok (eqb-true _ _ (anding-does (i .op) ∙ e))));
-  size = omega (arith, leaves supply i st deep, height-act code i s);
-}
+  -- The symbols' stack stands for as many words more, and as many fewer.
+  height-act : (m : ℕ) (code : List ℕ) (i : Ins) (s : Stack)
+      → length (act row code i (does m (i .op)) s .above) + s .base + row (i .op) .taken
+      ≡ length (s .above) + act row code i (does m (i .op)) s .base + row (i .op) .given
+  height-act m code i s = rw (takes-row ok m (i .op), gives-row ok m (i .op)) at (height-does row code i (does m (i .op)) s)
+
+  -- "Meaning to prove", of one instruction, in any mode
+  pub holds-act : (m : ℕ) (code : List ℕ) (supply : ℕ → ℕ → ℕ) (i : Ins) {ws : List ℕ} {s : Stack} {st : List ℕ} → Holds ws s st → Deep row i s st → Masked i s st
+      → Holds ws (act row code i (does m (i .op)) s) (yields row supply i st)
+  holds-act m code supply i {ws} {s} {st} h deep mask-ok = record {
+    truth =
+        rw (yields-does ok m supply i st)
+        (tells-act ws row code (told supply i) i (does m (i .op)) (h .truth) (rw (takes-row ok m (i .op)) deep)
+        (λ e. mask-ok (eqb-true _ _ (anding-does m (i .op) ∙ e))));
+    size = omega (arith, leaves supply i st deep, height-act m code i s);
+  }

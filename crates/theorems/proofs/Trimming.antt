@@ -12,7 +12,7 @@ use borrow.Author.Tests.{eq-eqb}
 use Rattle.laws.proofs.Branch.{if-true}
 use Rattle.spec.specs.Lists.{if}
 use Rattle.spec.specs.Walk.{Ins}
-use Rattle.spec.specs.Opcodes.{row}
+use Rattle.spec.specs.Opcodes.{Row, Rules}
 use Rattle.spec.specs.Stacks.{Sym, before, other, Stack, entry, reads, read, pops, push, pushes, span, settle, trims, trim, trade, Does, pushes-value, pushes-pc, dups, swaps, ands, adds, jumps, jumpis, lands, halts, plain, does, act, Ran, after, runs, trimmed}
 use Rattle.theorems.proofs.Composing.{reads-drop}
 
@@ -62,22 +62,22 @@ same-span : {s t : Stack} → Same s t → (i n : ℕ) → span s i n ≡ span t
 same-span h i zero = refl
 same-span h i (suc n) = ap₂ {C = List Sym} (λ (x : Sym) (xs : List Sym). x ∷ xs) (h .at i) (same-span h (suc i) n)
 
-same-trade : (i : Ins) {s t : Stack} → Same s t → Same (trade i s) (trade i t)
-same-trade i h = same-pushes (replicate (row (i .op) .given) (other (i .pc))) (same-pops (row (i .op) .taken) h)
+same-trade : (row : ℕ → Row) (i : Ins) {s t : Stack} → Same s t → Same (trade row i s) (trade row i t)
+same-trade row i h = same-pushes (replicate (row (i .op) .given) (other (i .pc))) (same-pops (row (i .op) .taken) h)
 
-pub same-act : (code : List ℕ) (i : Ins) (d : Does) {s t : Stack} → Same s t → Same (act code i d s) (act code i d t)
+pub same-act : (row : ℕ → Row) (code : List ℕ) (i : Ins) (d : Does) {s t : Stack} → Same s t → Same (act row code i d s) (act row code i d t)
 unfolding act
-same-act code i pushes-value h = same-push _ h
-same-act code i pushes-pc h = same-push _ h
-same-act code i (dups k) h = rw (h .at) (same-push _ h)
-same-act code i (swaps n) {s} {t} h = rw (h .at (suc n), h .at 0, same-span h 1 n) (same-pushes (read t (suc n) ∷ span t 1 n ++ (read t 0 ∷ [])) (same-pops (suc (suc n)) h))
-same-act code i ands h = rw (h .at, h .at) (same-push _ (same-pops 2 h))
-same-act code i adds h = rw (h .at, h .at) (same-push _ (same-pops 2 h))
-same-act code i jumps h = same-pops 1 h
-same-act code i jumpis h = same-pops 2 h
-same-act code i lands h = h
-same-act code i halts h = same-trade i h
-same-act code i plain h = same-trade i h
+same-act row code i pushes-value h = same-push _ h
+same-act row code i pushes-pc h = same-push _ h
+same-act row code i (dups k) h = rw (h .at) (same-push _ h)
+same-act row code i (swaps n) {s} {t} h = rw (h .at (suc n), h .at 0, same-span h 1 n) (same-pushes (read t (suc n) ∷ span t 1 n ++ (read t 0 ∷ [])) (same-pops (suc (suc n)) h))
+same-act row code i ands h = rw (h .at, h .at) (same-push _ (same-pops 2 h))
+same-act row code i adds h = rw (h .at, h .at) (same-push _ (same-pops 2 h))
+same-act row code i jumps h = same-pops 1 h
+same-act row code i jumpis h = same-pops 2 h
+same-act row code i lands h = h
+same-act row code i halts h = same-trade row i h
+same-act row code i plain h = same-trade row i h
 
 pub record SameRan (r q : Ran) : Type 0 where
   pub stack : Same (r .stack) (q .stack)
@@ -102,9 +102,9 @@ same-after start i lands h k r = same-if (eqb (i .pc) start) r (record { stack =
 same-after start i halts h k r = record { stack = k; goes = refl }
 same-after start i plain h k r = r
 
-same-runs : (code : List ℕ) (start : ℕ) (is : List Ins) {s t : Stack} → Same s t → SameRan (runs code start is s) (runs code start is t)
-same-runs code start [] h = record { stack = h; goes = refl }
-same-runs code start (i ∷ is) h = same-after start i (does (i .op)) h (same-act code i _ h) (same-runs code start is (same-act code i _ h))
+same-runs : (r : Rules) (code : List ℕ) (start : ℕ) (is : List Ins) {s t : Stack} → Same s t → SameRan (runs r code start is s) (runs r code start is t)
+same-runs r code start [] h = record { stack = h; goes = refl }
+same-runs r code start (i ∷ is) h = same-after start i (does (r .mode) (i .op)) h (same-act (r .row) code i _ h) (same-runs r code start is (same-act (r .row) code i _ h))
 
 -- ---- identity depths
 
@@ -123,7 +123,7 @@ unfolding identity read
 same-identity d = record { at = λ n. rw (zero-add d) at (reads-span 0 d n) }
 
 -- A block run from any identity depth trims to the same stack, and its jump takes the same symbol.
-pub run-any-depth : (code : List ℕ) (start : ℕ) (is : List Ins) (d : ℕ) → trimmed (runs code start is (identity d)) ≡ trimmed (runs code start is entry)
-run-any-depth code start is d =
-    let r = same-runs code start is (same-identity d) in
-    λ i. record { stack = trim-same _ _ (r .stack) i; goes = r .goes i }
+pub run-any-depth : (r : Rules) (code : List ℕ) (start : ℕ) (is : List Ins) (d : ℕ) → trimmed (runs r code start is (identity d)) ≡ trimmed (runs r code start is entry)
+run-any-depth r code start is d =
+    let h = same-runs r code start is (same-identity d) in
+    λ i. record { stack = trim-same _ _ (h .stack) i; goes = h .goes i }

@@ -13,7 +13,7 @@ pub struct Family {
     pub next: fn(&mut Random) -> Vec<u8>,
 }
 
-pub const FAMILIES: [Family; 9] = [
+pub const FAMILIES: [Family; 10] = [
     Family {
         name: "noise",
         share: 100,
@@ -85,6 +85,15 @@ pub const FAMILIES: [Family; 9] = [
         next: |random| {
             let shape = Shape::large(random);
             solidity::code(random, shape)
+        },
+    },
+    Family {
+        name: "zeros",
+        share: 50,
+        next: |random| {
+            let zeros = random.between(1, 4);
+            let shape = Shape::middle(random);
+            solidity::code(random, Shape { zeros, ..shape })
         },
     },
 ];

@@ -12,12 +12,17 @@ extern "C" {
 #define AZNIFREM_LONGEST_CODE 24576u
 #define AZNIFREM_HIGHEST_LIMIT 500000u
 
+/* The modes: what PUSH0 puts is not known, or is known to be 0. */
+#define AZNIFREM_PLAIN 0
+#define AZNIFREM_KNOWN_ZERO 1
+
 /* Bytes that w must have for a code of n bytes. */
 #define AZNIFREM_WORK(n) (64u * (size_t)(n) + 256u)
 
-/* What a call gives instead of an answer. 1 to 3 touch nothing. */
+/* What a call gives instead of an answer. 1 to 3 and 13 touch nothing. */
 #define AZNIFREM_CODE_TOO_LONG 1
 #define AZNIFREM_LIMIT_TOO_HIGH 2
+#define AZNIFREM_NO_SUCH_MODE 13 /* tested after 2 and before 3 */
 #define AZNIFREM_W_SHORT 3
 #define AZNIFREM_P_SHORT 4
 #define AZNIFREM_S_SHORT 5
@@ -27,7 +32,10 @@ extern "C" {
 #define AZNIFREM_OUT_SHORT 9
 #define AZNIFREM_TEXT_SHORT 11 /* of aznifrem_json alone */
 
-/* Maps a code with an energy limit, in memory that the caller lends; no other is used.
+/* Whether what aznifrem_map or aznifrem_json gave is a refusal's number: an answer has 18 bytes at the least. */
+#define AZNIFREM_REFUSED(given) ((given) < 18u)
+
+/* Maps a code with an energy limit and in a mode, in memory that the caller lends; no other is used.
  *
  *   w    work, AZNIFREM_WORK(code_len) bytes     r    records, 32 bytes each
  *   p    the path in hand, 2 bytes an address    q    recorded paths, 2 bytes an address
@@ -37,7 +45,7 @@ extern "C" {
  * The lent memory may hold anything; no two parts may overlap, nor overlap the code. A part of
  * length 0 still needs a pointer that is not NULL.
  *
- * Gives the number of a refusal, 1 to 9, or the bytes written to out, never fewer than 18. After
+ * Gives the number of a refusal, 1 to 9 or 13, or the bytes written to out, never fewer than 18. After
  * 4 to 9: lend more of the named part, and call again. On an answer and on 4 to 9 all of w to q is
  * zero bytes afterwards. On a refusal out is untouched; on an answer its bytes after the written
  * ones are.
@@ -53,7 +61,7 @@ extern "C" {
  *   7 path of the dynamic block before it: to, path length, path
  *   8 record        start, to, path length, path
  * Order: head, blocks by start each with its 7s, records as found. */
-uint64_t aznifrem_map(uint64_t limit, const uint8_t *code, size_t code_len,
+uint64_t aznifrem_map(uint64_t limit, uint64_t mode, const uint8_t *code, size_t code_len,
                       uint8_t *w, size_t w_len, uint8_t *p, size_t p_len,
                       uint8_t *s, size_t s_len, uint8_t *t, size_t t_len,
                       uint8_t *r, size_t r_len, uint8_t *q, size_t q_len,
@@ -64,10 +72,10 @@ uint64_t aznifrem_map(uint64_t limit, const uint8_t *code, size_t code_len,
  *   text  a list of objects with id, start, end, type and data, as serde makes it of evmole's
  *         blocks; no spaces, a missing destination is null. There is no zero byte at its end.
  *
- * Gives the number of a refusal, 1 to 9 or 11, which comes last; or the bytes written to out and,
+ * Gives the number of a refusal, 1 to 9, 13 or 11, which comes last; or the bytes written to out and,
  * times 2^32, those written to text: AZNIFREM_OUT_BYTES and AZNIFREM_TEXT_BYTES. On a refusal text
  * is untouched; on an answer its bytes after the written ones are. On 11 the others are as on 9. */
-uint64_t aznifrem_json(uint64_t limit, const uint8_t *code, size_t code_len,
+uint64_t aznifrem_json(uint64_t limit, uint64_t mode, const uint8_t *code, size_t code_len,
                        uint8_t *w, size_t w_len, uint8_t *p, size_t p_len,
                        uint8_t *s, size_t s_len, uint8_t *t, size_t t_len,
                        uint8_t *r, size_t r_len, uint8_t *q, size_t q_len,

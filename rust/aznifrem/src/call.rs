@@ -22,7 +22,7 @@ pub struct Lent<'a> {
     pub out: &'a mut [u8],
 }
 
-/// The library's own call: the refusal's number, 1 to 9, or the bytes written to `out`, never
+/// The library's own call, in mode 0: the refusal's number, 1 to 9, or the bytes written to `out`, never
 /// fewer than 18. Refusals 1 to 3 touch nothing; else the rooms W to Q are zero bytes afterwards,
 /// and `out` is touched by an answer alone, in the bytes written.
 ///
@@ -42,14 +42,42 @@ pub struct Lent<'a> {
 /// On a machine that is not x86-64, if the library cannot be reached there: [`NotRelayed`] says
 /// why. A [`Mapper`](crate::Mapper) gives that as an error.
 pub fn call(code: &[u8], limit: u64, lent: &mut Lent) -> u64 {
-    match called(code, limit, lent) {
+    call_in(0, code, limit, lent)
+}
+
+/// The same in a mode, by its number: refusal 13 where that is neither 0 nor 1, which comes after 2
+/// and before 3 and touches nothing.
+///
+/// ```
+/// use aznifrem::{Lent, Mode, call_in};
+///
+/// let (mut w, mut room, mut out) = ([0; 832], [[0; 64]; 5], [0; 128]);
+/// let [p, s, t, r, q] = &mut room;
+/// let mut lent = Lent { w: &mut w, p, s, t, r, q, out: &mut out };
+/// // JUMPDEST, PUSH1 0, POP, PUSH0, JUMP: a loop, seen where PUSH0 is known to be 0.
+/// let code = [0x5b, 0x60, 0, 0x50, 0x5f, 0x56];
+/// assert_eq!(call_in(Mode::Plain.number(), &code, 500_000, &mut lent), 32);
+/// assert_eq!(call_in(Mode::KnownZero.number(), &code, 500_000, &mut lent), 30);
+/// assert_eq!(call_in(2, &code, 500_000, &mut lent), 13);
+/// ```
+///
+/// # Panics
+///
+/// As [`call`].
+pub fn call_in(mode: u64, code: &[u8], limit: u64, lent: &mut Lent) -> u64 {
+    match called(mode, code, limit, lent) {
         Ok(number) => number,
         Err(not_relayed) => panic!("{not_relayed}"),
     }
 }
 
 /// The same; an error only where the machine is not x86-64.
-pub(crate) fn called(code: &[u8], limit: u64, lent: &mut Lent) -> Result<u64, NotRelayed> {
+pub(crate) fn called(
+    mode: u64,
+    code: &[u8],
+    limit: u64,
+    lent: &mut Lent,
+) -> Result<u64, NotRelayed> {
     let Lent {
         w,
         p,
@@ -59,10 +87,10 @@ pub(crate) fn called(code: &[u8], limit: u64, lent: &mut Lent) -> Result<u64, No
         q,
         out,
     } = lent;
-    exported::aznifrem_map(limit, code, w, p, s, t, r, q, out)
+    exported::aznifrem_map(limit, mode, code, w, p, s, t, r, q, out)
 }
 
-/// The library's call that also writes the blocks as JSON, to `text`: the refusal's number, 1 to 9 or
+/// The library's call that also writes the blocks as JSON, to `text`, in mode 0: the refusal's number, 1 to 9 or
 /// 11; or the bytes written to `out` and, times 2^32, those written to `text`. Of the rooms and of
 /// `out` all is as after [`call`], on 11 as on 9; `text` is touched by an answer alone, in the bytes
 /// written.
@@ -83,7 +111,16 @@ pub(crate) fn called(code: &[u8], limit: u64, lent: &mut Lent) -> Result<u64, No
 ///
 /// As [`call`].
 pub fn call_json(code: &[u8], limit: u64, lent: &mut Lent, text: &mut [u8]) -> u64 {
-    match called_json(code, limit, lent, text) {
+    call_json_in(0, code, limit, lent, text)
+}
+
+/// The same in a mode, by its number, as [`call_in`].
+///
+/// # Panics
+///
+/// As [`call`].
+pub fn call_json_in(mode: u64, code: &[u8], limit: u64, lent: &mut Lent, text: &mut [u8]) -> u64 {
+    match called_json(mode, code, limit, lent, text) {
         Ok(number) => number,
         Err(not_relayed) => panic!("{not_relayed}"),
     }
@@ -91,6 +128,7 @@ pub fn call_json(code: &[u8], limit: u64, lent: &mut Lent, text: &mut [u8]) -> u
 
 /// The same; an error only where the machine is not x86-64.
 pub(crate) fn called_json(
+    mode: u64,
     code: &[u8],
     limit: u64,
     lent: &mut Lent,
@@ -105,5 +143,5 @@ pub(crate) fn called_json(
         q,
         out,
     } = lent;
-    exported::aznifrem_json(limit, code, w, p, s, t, r, q, out, text)
+    exported::aznifrem_json(limit, mode, code, w, p, s, t, r, q, out, text)
 }

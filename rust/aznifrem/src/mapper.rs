@@ -4,6 +4,7 @@ use crate::bounds::LONGEST_CODE;
 use crate::call::{called, called_json};
 use crate::error::Error;
 use crate::map::Map;
+use crate::mode::Mode;
 use crate::room::Room;
 use crate::rooms::Rooms;
 
@@ -35,6 +36,7 @@ const TEXT_UNIT: u64 = 1 << 32;
 #[derive(Debug)]
 pub struct Mapper {
     rooms: Rooms,
+    mode: Mode,
     calls: u64,
 }
 
@@ -65,8 +67,26 @@ impl Mapper {
     pub fn with_ceiling(bytes: usize) -> Mapper {
         Mapper {
             rooms: Rooms::new(bytes),
+            mode: Mode::default(),
             calls: 0,
         }
+    }
+
+    /// The mapper with all its maps made in this mode; without it they are made in [`Mode::Plain`].
+    ///
+    /// ```
+    /// use aznifrem::{BlockType, Mapper, Mode};
+    ///
+    /// // PUSH1 6, PUSH0, ADD; 4: JUMPDEST, JUMP; 6: JUMPDEST: a sum that is 6 where PUSH0 is known.
+    /// let code = [0x60, 6, 0x5f, 0x01, 0x5b, 0x56, 0x5b];
+    /// let jump = |mode| Mapper::new().in_mode(mode).map(&code, 500_000).map(|map| map.blocks[&4].btype.clone());
+    /// assert!(matches!(jump(Mode::Plain)?, BlockType::DynamicJump { .. }));
+    /// assert_eq!(jump(Mode::KnownZero)?, BlockType::Jump { to: 6 });
+    /// # Ok::<(), aznifrem::Error>(())
+    /// ```
+    pub fn in_mode(mut self, mode: Mode) -> Mapper {
+        self.mode = mode;
+        self
     }
 
     /// The map of a code, made with this energy limit.
@@ -131,11 +151,12 @@ impl Mapper {
         self.rooms.ready(length, texted)?;
         loop {
             self.calls += 1;
+            let mode = self.mode.number();
             let (mut lent, text) = self.rooms.lent(length);
             let number = if texted {
-                called_json(code, limit, &mut lent, text)?
+                called_json(mode, code, limit, &mut lent, text)?
             } else {
-                called(code, limit, &mut lent)?
+                called(mode, code, limit, &mut lent)?
             };
             if number >= LEAST_WRITTEN {
                 return Ok(number);

@@ -2,7 +2,7 @@
 
 use std::sync::{Mutex, PoisonError, RwLock};
 
-use aznifrem::{Error, Mapper};
+use aznifrem::{Error, Mapper, Mode};
 
 /// The threads share the ceiling evenly. A contract that needs more than a share is mapped again with
 /// all of it, while the others wait and hold nothing: so what is refused does not depend on how many
@@ -10,17 +10,19 @@ use aznifrem::{Error, Mapper};
 pub struct Mappers {
     ceiling: usize,
     share: usize,
+    mode: Mode,
     each: Vec<Mutex<Mapper>>,
     alone: RwLock<()>,
 }
 
 impl Mappers {
-    pub fn new(ceiling: usize, threads: usize) -> Mappers {
+    pub fn new(ceiling: usize, threads: usize, mode: Mode) -> Mappers {
         let share = ceiling / threads.max(1);
-        let mapper = |_| Mutex::new(Mapper::with_ceiling(share));
+        let mapper = |_| Mutex::new(Mapper::with_ceiling(share).in_mode(mode));
         Mappers {
             ceiling,
             share,
+            mode,
             each: (0..threads).map(mapper).collect(),
             alone: RwLock::new(()),
         }
@@ -40,9 +42,9 @@ impl Mappers {
         }
         let _alone = self.alone.write().unwrap_or_else(PoisonError::into_inner);
         for mapper in &self.each {
-            *locked(mapper) = Mapper::with_ceiling(self.share);
+            *locked(mapper) = Mapper::with_ceiling(self.share).in_mode(self.mode);
         }
-        work(&mut Mapper::with_ceiling(self.ceiling))
+        work(&mut Mapper::with_ceiling(self.ceiling).in_mode(self.mode))
     }
 
     fn beside_others<R>(&self, thread: usize, work: impl Fn(&mut Mapper) -> R) -> R {
@@ -63,7 +65,7 @@ fn wants_more(error: &Error) -> bool {
 #[cfg(test)]
 mod tests {
     use super::Mappers;
-    use aznifrem::{Error, Mapper};
+    use aznifrem::{Error, Mapper, Mode};
 
     /// W of this code alone is 64 KiB and more.
     const CODE: [u8; 1024] = [0x5b; 1024];
@@ -77,9 +79,10 @@ mod tests {
     fn a_contract_may_have_the_whole_ceiling() {
         let needed = 256 << 10;
         for threads in [1, 2, 64] {
-            let mappers = Mappers::new(needed, threads);
+            let mappers = Mappers::new(needed, threads, Mode::Plain);
             assert_eq!(mapped(&mappers, threads - 1), Ok(1024));
-            let Err(Error::RoomFull { ceiling, .. }) = mapped(&Mappers::new(1000, threads), 0)
+            let Err(Error::RoomFull { ceiling, .. }) =
+                mapped(&Mappers::new(1000, threads, Mode::Plain), 0)
             else {
                 panic!("it needs more");
             };

@@ -9,7 +9,7 @@ use std::sync::Arc;
 use std::thread::available_parallelism;
 use std::time::Duration;
 
-use aznifrem::{HIGHEST_LIMIT, Mapper};
+use aznifrem::{HIGHEST_LIMIT, Mapper, Mode};
 
 use crate::contracts::Contracts;
 use crate::given::Given;
@@ -84,6 +84,10 @@ pub const COMMAND: Command = Command {
                     Value::word("N"),
                     "energy that the search may use, 0 to 500000 (default 500000)",
                 ),
+                Opt::flag(
+                    "--known-zero",
+                    "PUSH0 is known to put 0, so that more jumps are resolved where the compiler writes it; evmole does not know it, and maps of both kinds are not to be compared",
+                ),
                 Opt::with(
                     "--ceiling",
                     Value::word("MIB"),
@@ -133,6 +137,7 @@ pub struct Options {
     pub form: Form,
     pub print: Option<Print>,
     pub limit: u64,
+    pub mode: Mode,
     pub ceiling: usize,
 }
 
@@ -159,6 +164,11 @@ impl Options {
             form: Form::asked(given),
             print: Print::asked(given).or_else(|| to.is_none().then(by_default)),
             limit: limit.unwrap_or(HIGHEST_LIMIT),
+            mode: if given.has("--known-zero") {
+                Mode::KnownZero
+            } else {
+                Mode::Plain
+            },
             ceiling: ceiling.map_or(Mapper::DEFAULT_CEILING, |count| (count as usize) << 20),
         })
     }

@@ -54,6 +54,18 @@ fn the_summary_can_be_read() {
     assert!(out.contains("dynamic 1, unresolved 1;"), "{out}");
 }
 
+#[test]
+fn push0_is_known_to_put_0_if_it_is_asked_for() {
+    // PUSH1 6, PUSH0, ADD; 4: JUMPDEST, JUMP; 6: JUMPDEST: resolved, the second block is a Jump to 6.
+    let resolved = |words: &[&str]| {
+        let (exit, out, _) = all(&run_with("60065f015b565b", words));
+        assert_eq!(exit, 0);
+        out.contains("060000000300040005000600")
+    };
+    assert!(resolved(&["--known-zero", "-"]));
+    assert!(!resolved(&["-"]));
+}
+
 const JSON: &str = r#"[{"id":0,"start":0,"end":4,"type":"Jump","data":{"to":7}},{"id":5,"start":5,"end":6,"type":"Terminate","data":{"success":true}},{"id":7,"start":7,"end":8,"type":"Jump","data":{"to":5}}]"#;
 
 #[test]

@@ -4,6 +4,8 @@
 pub struct Assembler {
     code: Vec<u8>,
     width: usize,
+    zeros: usize,
+    values: usize,
     places: Vec<Option<usize>>,
     pushes: Vec<(usize, Label)>,
 }
@@ -17,9 +19,16 @@ impl Assembler {
         Assembler {
             code: Vec::new(),
             width,
+            zeros: 0,
+            values: 0,
             places: Vec::new(),
             pushes: Vec::new(),
         }
+    }
+
+    /// Each so many-th label that is pushed as a value is written as its sum with PUSH0; 0: none is.
+    pub fn summing(self, zeros: usize) -> Assembler {
+        Assembler { zeros, ..self }
     }
 
     pub fn length(&self) -> usize {
@@ -46,7 +55,16 @@ impl Assembler {
         self.code.extend(&value.to_be_bytes()[8 - width..]);
     }
 
+    /// A label as a value: a return address, or a function that is passed on.
     pub fn push_label(&mut self, label: Label) {
+        self.put_label(label);
+        self.values += 1;
+        if self.zeros != 0 && self.values.is_multiple_of(self.zeros) {
+            self.ops(&[0x5f, 0x01]);
+        }
+    }
+
+    fn put_label(&mut self, label: Label) {
         self.code.push(0x5f + self.width as u8);
         self.pushes.push((self.code.len(), label));
         self.code.extend(std::iter::repeat_n(0, self.width));
@@ -59,12 +77,12 @@ impl Assembler {
     }
 
     pub fn jump(&mut self, label: Label) {
-        self.push_label(label);
+        self.put_label(label);
         self.op(0x56);
     }
 
     pub fn jump_if(&mut self, label: Label) {
-        self.push_label(label);
+        self.put_label(label);
         self.op(0x57);
     }
 

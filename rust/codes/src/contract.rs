@@ -41,6 +41,7 @@ fn plain(functions: usize, bytes: usize) -> Shape {
         statements: 5,
         width: if bytes <= 256 { 1 } else { 2 },
         odd: 0,
+        zeros: 0,
     }
 }
 

@@ -13,6 +13,8 @@ pub struct Shape {
     pub width: usize,
     /// Of a hundred statements, those that do something a compiler would not.
     pub odd: usize,
+    /// Each so many-th address that is pushed as a value is a sum with PUSH0; 0: none is.
+    pub zeros: usize,
 }
 
 impl Shape {
@@ -24,6 +26,7 @@ impl Shape {
             statements: random.between(1, 3),
             width: 1,
             odd: random.pick(&[0, 10, 30]),
+            zeros: 0,
         }
     }
 
@@ -35,6 +38,7 @@ impl Shape {
             statements: random.between(1, 5),
             width: 2,
             odd: random.pick(&[0, 5, 15]),
+            zeros: 0,
         }
     }
 
@@ -46,6 +50,7 @@ impl Shape {
             statements: random.between(4, 10),
             width: 2,
             odd: random.pick(&[0, 0, 1]),
+            zeros: 0,
         }
     }
 }
@@ -61,7 +66,7 @@ struct Writer<'a> {
 
 /// A code of this shape.
 pub fn code(random: &mut Random, shape: Shape) -> Vec<u8> {
-    let mut asm = Assembler::new(shape.width);
+    let mut asm = Assembler::new(shape.width).summing(shape.zeros);
     let functions: Vec<Label> = (0..shape.functions).map(|_| asm.label()).collect();
     let mut writer = Writer {
         asm,

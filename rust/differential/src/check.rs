@@ -13,7 +13,7 @@ use crate::lend::{self, Given};
 use crate::mismatch::{Mismatch, different, mismatch};
 use crate::nearby::{longer, short};
 use crate::panics::caught;
-use crate::port::{JsonPort, Port};
+use crate::port::{JsonModePort, JsonPort, ModePort, Port};
 
 /// What came of one code.
 #[derive(Clone, Copy, Debug, PartialEq, Eq)]
@@ -32,6 +32,8 @@ pub enum Verdict {
 pub struct Checker {
     pub port: Port,
     pub json: JsonPort,
+    pub in_mode: ModePort,
+    pub json_in: JsonModePort,
 }
 
 impl Checker {
@@ -39,6 +41,8 @@ impl Checker {
     pub const LIBRARY: Checker = Checker {
         port: aznifrem::call,
         json: aznifrem::call_json,
+        in_mode: aznifrem::call_in,
+        json_in: aznifrem::call_json_in,
     };
 
     /// All calls on one code; the seed chooses rooms and limits beyond the plain call.
@@ -78,7 +82,65 @@ impl Checker {
             let number = self.call(code, over, &exact, random)?.number;
             json::refused(self.json, code, over, (&exact, number), random)?;
         }
+        self.modes(code, verdict, random)?;
         Ok(verdict)
+    }
+
+    /// Mode 1 against the model, with a text too, and against the copy of the Rust that knows PUSH0 to
+    /// be 0; at a lower limit; then modes that are none.
+    fn modes(&self, code: &[u8], plain: Verdict, random: &mut Random) -> Result<(), Mismatch> {
+        if let Ok(map) = model::map_in(1, &ENOUGH, HIGHEST_LIMIT, code) {
+            let exact = map.needs.lent(code.len());
+            let given = self.in_mode(1, code, HIGHEST_LIMIT, &exact, random)?;
+            if plain == Verdict::Same {
+                let theirs = caught("panic of the Rust's copy", || zero::blocks(code))?;
+                same_blocks(&theirs, &given.written)?;
+            }
+            let text = agree::json::of_model(&map.blocks);
+            json::in_mode(self.json_in, 1, code, (&map, &text), random)?;
+            self.in_mode(1, code, HIGHEST_LIMIT, &short(&exact, random), random)?;
+            let lower = random.below(map.energy as usize + 2) as u64;
+            self.in_mode(1, code, lower, &longer(&exact, random), random)?;
+        } else {
+            let most = Lent {
+                w: rooms::work(code.len()),
+                ..ENOUGH
+            };
+            self.in_mode(1, code, HIGHEST_LIMIT, &most, random)?;
+        }
+        self.no_mode(code, random)
+    }
+
+    /// A number that is no mode: refused after 1 and 2 and before a short W is, however large it is.
+    fn no_mode(&self, code: &[u8], random: &mut Random) -> Result<(), Mismatch> {
+        let none = random.pick(&[2, 3, 255, 256, 257, 1 << 32, (1 << 32) + 1, u64::MAX]);
+        let limit = random.pick(&[0, HIGHEST_LIMIT, HIGHEST_LIMIT, HIGHEST_LIMIT + 1, u64::MAX]);
+        let lent = Lent::each(random.below(200) as u64);
+        let number = self.in_mode(none, code, limit, &lent, random)?.number;
+        let port = |code: &[u8], limit, rooms: &mut aznifrem::Lent, text: &mut [u8]| {
+            (self.json_in)(none, code, limit, rooms, text)
+        };
+        json::refused(port, code, limit, (&lent, number), random)
+    }
+
+    fn in_mode(
+        &self,
+        mode: u64,
+        code: &[u8],
+        limit: u64,
+        lent: &Lent,
+        random: &mut Random,
+    ) -> Result<Given, Mismatch> {
+        let port = |code: &[u8], limit, rooms: &mut aznifrem::Lent| {
+            (self.in_mode)(mode, code, limit, rooms)
+        };
+        let expected = model::answer_in(mode, lent, limit, code);
+        let circumstances = format!("mode {mode}, limit {limit}, {lent:?}");
+        held(
+            lend::call(port, code, limit, lent, random),
+            &expected,
+            &circumstances,
+        )
     }
 
     /// Refusal 1 comes before 2 and 3: at any limit, with W enough, short or not there.
@@ -97,6 +159,7 @@ impl Checker {
                 return Err(mismatch("number", sentence));
             }
             json::refused(self.json, code, limit, (&lent, number), random)?;
+            self.no_mode(code, random)?;
         }
         Ok(Verdict::TooLong)
     }
@@ -109,32 +172,40 @@ impl Checker {
         lent: &Lent,
         random: &mut Random,
     ) -> Result<Given, Mismatch> {
-        let circumstances = || format!("limit {limit}, {lent:?}");
-        let given = lend::call(self.port, code, limit, lent, random);
-        let given = given
-            .map_err(|fault| mismatch("lent bytes", format!("{fault}; {}", circumstances())))?;
         let expected = model::answer(lent, limit, code);
-        let number = match &expected {
-            Answer::Refused(refusal) => u64::from(refusal.number()),
-            Answer::Answered(bytes) => bytes.len() as u64,
-        };
-        if given.number != number {
-            let sentence = format!(
-                "the call gives {}, the model {number}; {}",
-                given.number,
-                circumstances()
-            );
-            return Err(mismatch("number", sentence));
-        }
-        if given.written != expected.written() {
-            let sentence = different(&given.written, expected.written());
-            return Err(mismatch(
-                "bytes",
-                format!("{sentence}; {}", circumstances()),
-            ));
-        }
-        Ok(given)
+        let circumstances = format!("limit {limit}, {lent:?}");
+        held(
+            lend::call(self.port, code, limit, lent, random),
+            &expected,
+            &circumstances,
+        )
     }
+}
+
+/// What a call gave, where it is what the model answers.
+fn held(
+    given: Result<Given, String>,
+    expected: &Answer,
+    circumstances: &str,
+) -> Result<Given, Mismatch> {
+    let given =
+        given.map_err(|fault| mismatch("lent bytes", format!("{fault}; {circumstances}")))?;
+    let number = match expected {
+        Answer::Refused(refusal) => u64::from(refusal.number()),
+        Answer::Answered(bytes) => bytes.len() as u64,
+    };
+    if given.number != number {
+        let sentence = format!(
+            "the call gives {}, the model {number}; {circumstances}",
+            given.number
+        );
+        return Err(mismatch("number", sentence));
+    }
+    if given.written != expected.written() {
+        let sentence = different(&given.written, expected.written());
+        return Err(mismatch("bytes", format!("{sentence}; {circumstances}")));
+    }
+    Ok(given)
 }
 
 /// Every block, type, path and destination in order: the library's entries and the Rust's map.

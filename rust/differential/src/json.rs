@@ -6,7 +6,7 @@ use model::{HIGHEST_LIMIT, Lent, Map, entries};
 use crate::lend::{self, Given};
 use crate::mismatch::{Mismatch, different, mismatch};
 use crate::nearby::short;
-use crate::port::JsonPort;
+use crate::port::{JsonModePort, JsonPort};
 
 /// The refusal of a text room that is short.
 const TEXT_SHORT: u64 = 11;
@@ -32,9 +32,23 @@ pub fn calls(
     Ok(())
 }
 
+/// The call in a mode, at the highest limit in exactly the rooms that it needs.
+pub fn in_mode(
+    port: JsonModePort,
+    mode: u64,
+    code: &[u8],
+    (map, text): (&Map, &str),
+    random: &mut Random,
+) -> Result<(), Mismatch> {
+    let port = |code: &[u8], limit, rooms: &mut aznifrem::Lent, text: &mut [u8]| {
+        port(mode, code, limit, rooms, text)
+    };
+    exactly(port, code, HIGHEST_LIMIT, (map, text), random)
+}
+
 /// In exactly the rooms that it needs: the number, the entries and the text.
 fn exactly(
-    port: JsonPort,
+    port: impl FnOnce(&[u8], u64, &mut aznifrem::Lent, &mut [u8]) -> u64,
     code: &[u8],
     limit: u64,
     (map, text): (&Map, &str),
@@ -79,9 +93,9 @@ fn scantly(
     expect(&given, number, HIGHEST_LIMIT)
 }
 
-/// A refusal that looks at no room, 1 or 2: it has the same number here, and touches nothing.
+/// A refusal that looks at no room, 1, 2 or 13: it has the same number here, and touches nothing.
 pub fn refused(
-    port: JsonPort,
+    port: impl FnOnce(&[u8], u64, &mut aznifrem::Lent, &mut [u8]) -> u64,
     code: &[u8],
     limit: u64,
     (lent, number): (&Lent, u64),
@@ -93,7 +107,7 @@ pub fn refused(
 }
 
 fn call(
-    port: JsonPort,
+    port: impl FnOnce(&[u8], u64, &mut aznifrem::Lent, &mut [u8]) -> u64,
     code: &[u8],
     limit: u64,
     lent: (Lent, u64),

@@ -5,5 +5,11 @@ use aznifrem::Lent;
 /// The library's entry, or what stands in for it in a test.
 pub type Port = fn(&[u8], u64, &mut Lent) -> u64;
 
+/// The library's entry in a mode, by its number, or what stands in for it.
+pub type ModePort = fn(u64, &[u8], u64, &mut Lent) -> u64;
+
 /// The library's call that also writes the text, or what stands in for it.
 pub type JsonPort = fn(&[u8], u64, &mut Lent, &mut [u8]) -> u64;
+
+/// The same in a mode, by its number.
+pub type JsonModePort = fn(u64, &[u8], u64, &mut Lent, &mut [u8]) -> u64;

@@ -19,6 +19,8 @@ pub struct Tally {
     pub heavy: u64,
     pub long: u64,
     pub different: u64,
+    /// Of the same, those in which PUSH0 stands as an instruction.
+    pub zeros: u64,
     /// The first mismatches, each with its origin and a smaller code.
     pub written_out: Vec<String>,
     /// For how long each is made smaller, if not for the usual time.
@@ -29,7 +31,10 @@ impl Tally {
     /// Checks one code; the origin says where it is from.
     pub fn add(&mut self, checker: &Checker, code: &[u8], seed: u64, origin: &str) {
         match checker.check(code, seed) {
-            Ok(Verdict::Same) => self.same += 1,
+            Ok(Verdict::Same) => {
+                self.same += 1;
+                self.zeros += u64::from(model::ops::walk(code, 0).any(|(_, byte)| byte == 0x5f));
+            }
             Ok(Verdict::OutsideTheDomain) => self.outside += 1,
             Ok(Verdict::TooHeavy) => self.heavy += 1,
             Ok(Verdict::TooLong) => self.long += 1,
@@ -55,6 +60,7 @@ impl Tally {
         self.heavy += other.heavy;
         self.long += other.long;
         self.different += other.different;
+        self.zeros += other.zeros;
         self.written_out.extend(other.written_out);
     }
 }

@@ -8,20 +8,30 @@ use crate::reach::pruned;
 use crate::rooms::{Lent, Needs, Refusal, Room, Rooms, work};
 use crate::search::{Found, Record, search};
 
-/// The map of a code, or the first refusal met.
+/// The map of a code in mode 0, or the first refusal met.
 pub fn map(lent: &Lent, limit: u64, code: &[u8]) -> Result<Map, Refusal> {
+    map_in(0, lent, limit, code)
+}
+
+/// The same in a mode, by its number.
+pub fn map_in(mode: u64, lent: &Lent, limit: u64, code: &[u8]) -> Result<Map, Refusal> {
     if code.len() > LONGEST_CODE {
         return Err(Refusal::CodeTooLong);
     }
     if limit > HIGHEST_LIMIT {
         return Err(Refusal::LimitTooHigh);
     }
+    let zero_known = match mode {
+        0 => false,
+        1 => true,
+        _ => return Err(Refusal::NoSuchMode),
+    };
     if lent.w < work(code.len()) {
         return Err(Refusal::WorkShort);
     }
     let mut rooms = Rooms::new(lent);
     let mut cut = blocks(code);
-    let Found { records, energy } = search(code, &mut cut, limit, &mut rooms)?;
+    let Found { records, energy } = search(code, zero_known, &mut cut, limit, &mut rooms)?;
     for record in &records {
         enter(&mut cut, record);
     }

@@ -20,7 +20,7 @@ pub mod stack;
 
 pub use blocks::{Block, Entry, Kind};
 pub use bounds::{HIGHEST_LIMIT, LONGEST_CODE};
-pub use call::map;
+pub use call::{map, map_in};
 pub use follow::{Followed, NotFollowed, follow_bytes};
 pub use map::Map;
 pub use reader::{Bad, Held, Refused, read};
@@ -53,9 +53,14 @@ impl Answer {
     }
 }
 
-/// The answer to one call with these lent rooms, this limit and this code.
+/// The answer to one call with these lent rooms, this limit and this code, in mode 0.
 pub fn answer(lent: &Lent, limit: u64, code: &[u8]) -> Answer {
-    match map(lent, limit, code) {
+    answer_in(0, lent, limit, code)
+}
+
+/// The same in a mode, by its number.
+pub fn answer_in(mode: u64, lent: &Lent, limit: u64, code: &[u8]) -> Answer {
+    match map_in(mode, lent, limit, code) {
         Ok(map) => Answer::Answered(entries::write(code.len(), &map)),
         Err(refusal) => Answer::Refused(refusal),
     }

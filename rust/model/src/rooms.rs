@@ -46,6 +46,8 @@ pub enum Refusal {
     RecordsShort = 7,
     KeptPathsShort = 8,
     OutputShort = 9,
+    /// "13, mode neither 0 nor 1".
+    NoSuchMode = 13,
 }
 
 impl Refusal {

@@ -64,18 +64,19 @@ struct Search<'a> {
 /// Resolves what own runs show, in place, and searches for the rest.
 pub fn search(
     code: &[u8],
+    zero_known: bool,
     blocks: &mut [Block],
     limit: u64,
     rooms: &mut Rooms,
 ) -> Result<Found, Refusal> {
-    let seekers = own_runs(code, blocks);
+    let seekers = own_runs(code, zero_known, blocks);
     let addresses = code.len() + 1;
     let mut search = Search {
         blocks,
         rooms,
         limit,
         energy: 0,
-        parents: direct_parents(code, blocks),
+        parents: direct_parents(code, zero_known, blocks),
         reached: vec![false; addresses],
         records: Vec::new(),
         recorded: HashSet::new(),
@@ -95,7 +96,7 @@ pub fn search(
 }
 
 /// "Each dynamic block whose own run ends in Jumpdest becomes static"; Before(p) has to seek.
-fn own_runs(code: &[u8], blocks: &mut [Block]) -> Vec<Seeker> {
+fn own_runs(code: &[u8], zero_known: bool, blocks: &mut [Block]) -> Vec<Seeker> {
     let mut seekers = Vec::new();
     for block in blocks {
         if !matches!(
@@ -104,7 +105,7 @@ fn own_runs(code: &[u8], blocks: &mut [Block]) -> Vec<Seeker> {
         ) {
             continue;
         }
-        let (own, jump) = run(code, block.start, block.end);
+        let (own, jump) = run(code, zero_known, block.start, block.end);
         match jump {
             Some(Symbol::Jumpdest(to)) => block.kind = resolved(&block.kind, to as usize),
             Some(Symbol::Before(position)) => seekers.push(Seeker {
@@ -126,7 +127,7 @@ fn resolved(kind: &Kind, to: usize) -> Kind {
 }
 
 /// "In address order: each block with its own stack, for every static side (equal sides once)".
-fn direct_parents(code: &[u8], blocks: &[Block]) -> Vec<Vec<Rc<Parent>>> {
+fn direct_parents(code: &[u8], zero_known: bool, blocks: &[Block]) -> Vec<Vec<Rc<Parent>>> {
     let mut parents = vec![Vec::new(); code.len() + 1];
     for block in blocks {
         let mut sides = static_sides(&block.kind);
@@ -134,7 +135,7 @@ fn direct_parents(code: &[u8], blocks: &[Block]) -> Vec<Vec<Rc<Parent>>> {
         if sides.is_empty() {
             continue;
         }
-        let (own, _) = run(code, block.start, block.end);
+        let (own, _) = run(code, zero_known, block.start, block.end);
         let parent = Rc::new(Parent {
             path: vec![block.start],
             state: Rc::new(own),

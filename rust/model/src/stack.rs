@@ -97,7 +97,7 @@ impl Stack {
     }
 
     /// One instruction; a jump gives the symbol of its destination.
-    fn act(&mut self, code: &[u8], pc: usize, byte: u8) -> Option<Symbol> {
+    fn act(&mut self, code: &[u8], zero_known: bool, pc: usize, byte: u8) -> Option<Symbol> {
         let row = ops::row(byte);
         self.deepen(row.taken);
         match byte {
@@ -105,6 +105,8 @@ impl Stack {
                 let value = ops::pushed(code, pc).expect("the byte is PUSH1 to PUSH4");
                 self.0.push(Symbol::of(code, value as u64));
             }
+            // "Add a mode in which PUSH0 gives the known value 0, a Jumpdest if byte 0 is 5B."
+            ops::PUSH0 if zero_known => self.0.push(Symbol::of(code, 0)),
             ops::PC => self.0.push(Symbol::of(code, pc as u64)),
             ops::DUP1..=ops::DUP16 => self.0.push(self.read(ops::copied(byte) - 1)),
             ops::SWAP1..=ops::SWAP16 => {
@@ -152,11 +154,11 @@ fn added(code: &[u8], pc: usize, first: Symbol, second: Symbol) -> Symbol {
 }
 
 /// A block's stack, trimmed at its end, and the symbol that its jump reads if it ends in one.
-pub fn run(code: &[u8], start: usize, end: usize) -> (Stack, Option<Symbol>) {
+pub fn run(code: &[u8], zero_known: bool, start: usize, end: usize) -> (Stack, Option<Symbol>) {
     let mut stack = Stack::identity();
     let mut jump = None;
     for (pc, byte) in ops::walk(code, start).take_while(|(pc, _)| *pc <= end) {
-        jump = stack.act(code, pc, byte);
+        jump = stack.act(code, zero_known, pc, byte);
     }
     (stack.trimmed(), jump)
 }

@@ -13,5 +13,7 @@ pub mod trials;
 pub mod word;
 
 pub use path::{Seen, Wrong, check};
-pub use trials::{Source, Tally, library, model, trials};
+pub use trials::{
+    Source, Tally, library, library_known_zero, model, model_known_zero, trials, trials_in,
+};
 pub use word::Word;

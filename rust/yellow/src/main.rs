@@ -3,7 +3,7 @@
 use std::process::ExitCode;
 use std::time::Instant;
 
-use yellow::{Source, Tally, trials};
+use yellow::{Source, Tally, trials_in};
 
 const HELP: &str = "\
 yellow [OPTIONS]: runs the paths of records of generated codes on random deep stacks. The last jump must pop the recorded
@@ -12,6 +12,7 @@ destination, the byte there must be 5B, and control must go from each block to t
   --records N   records with a destination to run (default 5000)
   --seed S      where the codes begin (default 1); the same seed, the same codes and stacks
   --model       records of the model, in the place of the proved library's
+  --known-zero  records of mode 1, in which PUSH0 is known to put 0
 
 Exit: 0 if all are true, 1 if one is not or if fewer came than were asked for, 2 if the command is not understood.
 ";
@@ -41,7 +42,7 @@ fn main() -> ExitCode {
 /// What came of it, and how many records were asked for.
 fn run() -> Result<Option<(Tally, u64)>, String> {
     let (mut records, mut seed) = (5_000, 1);
-    let mut source: Source = yellow::library;
+    let (mut of_model, mut known_zero) = (false, false);
     let mut words = std::env::args().skip(1);
     while let Some(word) = words.next() {
         let mut value = || words.next().ok_or(format!("{word} needs a value"));
@@ -49,11 +50,21 @@ fn run() -> Result<Option<(Tally, u64)>, String> {
             "--help" | "-h" => return Ok(None),
             "--records" => records = number(&value()?)?,
             "--seed" => seed = number(&value()?)?,
-            "--model" => source = yellow::model,
+            "--model" => of_model = true,
+            "--known-zero" => known_zero = true,
             _ => return Err(format!("'{word}' is no option")),
         }
     }
-    Ok(Some((trials(source, records, seed), records)))
+    let source: Source = match (of_model, known_zero) {
+        (false, false) => yellow::library,
+        (false, true) => yellow::library_known_zero,
+        (true, false) => yellow::model,
+        (true, true) => yellow::model_known_zero,
+    };
+    Ok(Some((
+        trials_in(known_zero, source, records, seed),
+        records,
+    )))
 }
 
 fn number(text: &str) -> Result<u64, String> {

@@ -1,6 +1,7 @@
 //! Document 02's premise, "wherever the mask rule was used the other word below 2^32", by document 01's sentences on which
 //! numbers a block knows: "PUSH1 to PUSH4 and PC", "ADD of two known values .. if the sum fits 64 bits", "AND with the known
-//! value 0xffffffff, top looked at first, leaves the other symbol unmasked".
+//! value 0xffffffff, top looked at first, leaves the other symbol unmasked". In mode 1 of document 02, No. 6, "PUSH0 gives the
+//! known value 0" too.
 
 use crate::machine::{AND, Fetched, taken_given};
 use crate::stack::Stack;
@@ -10,6 +11,8 @@ const MASK: u64 = 0xffff_ffff;
 /// The numbers that the block in hand knows, and how often the rule was used.
 #[derive(Clone, Debug, Default, PartialEq, Eq)]
 pub struct Mask {
+    /// Whether PUSH0 gives a number that is known.
+    known_zero: bool,
     /// Top last; below it nothing is known.
     known: Vec<Option<u64>>,
     /// Times the rule was used, and of them those where the other word was not below 2^32.
@@ -18,6 +21,14 @@ pub struct Mask {
 }
 
 impl Mask {
+    /// In mode 1, or in mode 0.
+    pub fn of(known_zero: bool) -> Mask {
+        Mask {
+            known_zero,
+            ..Mask::default()
+        }
+    }
+
     /// A block begins: it knows nothing of the words that it finds.
     pub fn enter(&mut self) {
         self.known.clear();
@@ -36,6 +47,7 @@ impl Mask {
     pub fn before(&mut self, now: &Fetched, stack: &mut Stack) {
         let op = now.op;
         match op {
+            0x5f if self.known_zero => self.known.push(Some(0)),
             0x60..=0x63 => self.known.push(now.argument.small()),
             0x58 => self.known.push(Some(now.pc as u64)),
             0x80..=0x8f => self.known.push(self.at(usize::from(op - 0x80))),

@@ -39,18 +39,18 @@ pub enum Wrong {
 }
 
 /// Runs a record with this destination on a stack as deep as it needs, whose words `supply` makes, as it makes the results
-/// that are computed elsewhere.
+/// that are computed elsewhere; `mask` begins as that of the record's mode.
 pub fn check(
     code: &[u8],
     record: &Record,
     to: usize,
+    mut mask: Mask,
     supply: &mut dyn FnMut() -> Word,
 ) -> Result<Seen, Wrong> {
     if record.path.first() != Some(&record.start) {
         return Err(Wrong::NotOfItsBlock);
     }
     let mut stack = Stack::new(supply);
-    let mut mask = Mask::default();
     let mut way = Way::Halt;
     for (place, block) in record.path.iter().enumerate().rev() {
         way = leave(code, *block, &mut stack, &mut mask);

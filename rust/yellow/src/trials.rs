@@ -2,11 +2,13 @@
 
 use agree::ENOUGH;
 use agree::families::{FAMILIES, Family};
+use aznifrem::{Mapper, Mode};
 use codes::Random;
 use codes::contract::{Style, sized};
 use model::Record;
 
 use crate::machine::fetch;
+use crate::mask::Mask;
 use crate::path::{Wrong, check};
 use crate::word::Word;
 
@@ -34,9 +36,19 @@ const CONTRACTS: Family = Family {
     },
 };
 
-/// The proved library's, each in memory of its own: rooms that one code made large would be wiped for every later one.
+/// The proved library's in mode 0.
 pub fn library(code: &[u8]) -> Option<Vec<Record>> {
-    let map = aznifrem::map(code, LIMIT).ok()?;
+    library_in(Mode::Plain, code)
+}
+
+/// The proved library's in mode 1.
+pub fn library_known_zero(code: &[u8]) -> Option<Vec<Record>> {
+    library_in(Mode::KnownZero, code)
+}
+
+/// Each in memory of its own: rooms that one code made large would be wiped for every later one.
+fn library_in(mode: Mode, code: &[u8]) -> Option<Vec<Record>> {
+    let map = Mapper::new().in_mode(mode).map(code, LIMIT).ok()?;
     let records = map.records.into_iter().map(|record| Record {
         start: record.start,
         to: record.jump.to,
@@ -45,15 +57,23 @@ pub fn library(code: &[u8]) -> Option<Vec<Record>> {
     Some(records.collect())
 }
 
-/// The model's.
+/// The model's in mode 0.
 pub fn model(code: &[u8]) -> Option<Vec<Record>> {
     let map = model::map(&ENOUGH, LIMIT, code).ok()?;
+    Some(map.records)
+}
+
+/// The model's in mode 1.
+pub fn model_known_zero(code: &[u8]) -> Option<Vec<Record>> {
+    let map = model::map_in(1, &ENOUGH, LIMIT, code).ok()?;
     Some(map.records)
 }
 
 /// What came of it. A record counts once, however many stacks it was run on.
 #[derive(Clone, Debug, Default, PartialEq, Eq)]
 pub struct Tally {
+    /// Whether the records are of mode 1.
+    pub known_zero: bool,
     pub codes: u64,
     pub refused: u64,
     /// Records with a destination that were run, and those of them that were wrong on a stack.
@@ -72,9 +92,17 @@ pub struct Tally {
     pub written_out: Vec<String>,
 }
 
-/// Runs records until so many with a destination were, or a source that gives too few is given up.
+/// Runs records of mode 0 until so many with a destination were, or a source that gives too few is given up.
 pub fn trials(source: Source, records: u64, seed: u64) -> Tally {
-    let mut tally = Tally::default();
+    trials_in(false, source, records, seed)
+}
+
+/// The same for records of mode 1, or of mode 0.
+pub fn trials_in(known_zero: bool, source: Source, records: u64, seed: u64) -> Tally {
+    let mut tally = Tally {
+        known_zero,
+        ..Tally::default()
+    };
     let mut seeds = Random::new(seed);
     while tally.records < records && tally.codes < records.saturating_mul(CODES) {
         for family in FAMILIES.iter().chain([&CONTRACTS]) {
@@ -114,7 +142,8 @@ impl Tally {
                 0 => Word::ZERO,
                 _ => word(random, code.len()),
             };
-            let seen = check(code, record, to, &mut supply);
+            let mask = Mask::of(self.known_zero);
+            let seen = check(code, record, to, mask, &mut supply);
             match seen {
                 Ok(seen) if stack == 0 => self.unmet += u64::from(seen.broken > 0),
                 Ok(seen) => {

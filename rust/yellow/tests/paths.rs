@@ -3,7 +3,10 @@
 use codes::from_hex;
 use model::Record;
 use yellow::machine::{Way, fetch};
-use yellow::{Seen, Source, Word, Wrong, check, library, model, trials};
+use yellow::mask::Mask;
+use yellow::{
+    Seen, Source, Word, Wrong, check, library, library_known_zero, model, trials, trials_in,
+};
 
 /// Document 01's Return, and its one record.
 const RETURN: &str = "60056007565b005b56";
@@ -19,7 +22,7 @@ fn record(path: &[usize], to: usize) -> Record {
 /// Runs a path on a stack of one word only, which the results from elsewhere are too.
 fn run(code: &str, path: &[usize], to: usize, word: Word) -> Result<Seen, Wrong> {
     let code = from_hex(code).expect("hexadecimal");
-    check(&code, &record(path, to), to, &mut || word)
+    check(&code, &record(path, to), to, Mask::default(), &mut || word)
 }
 
 #[test]
@@ -52,7 +55,7 @@ fn each_thing_that_can_be_wrong_is_told() {
         ..record(&[7, 0], 5)
     };
     assert_eq!(
-        check(&code, &stray, 5, &mut || Word::ONE),
+        check(&code, &stray, 5, Mask::default(), &mut || Word::ONE),
         Err(Wrong::NotOfItsBlock)
     );
 }
@@ -140,6 +143,18 @@ fn records_of_the_library_are_true() {
     // The codes are such that the premise is met and not met, and that paths are of more than two blocks.
     assert!(tally.held > 100 && tally.broken > 10, "{tally:?}");
     assert!(tally.longest > 4, "{tally:?}");
+}
+
+/// "Holds in both modes of No. 6": of a code whose record has its destination in mode 1 alone, and of generated ones.
+#[test]
+fn records_of_mode_1_are_true() {
+    let sum = from_hex("60065f015b565b").expect("hexadecimal");
+    let to = |source: Source| source(&sum).expect("it is answered")[0].to;
+    assert_eq!([library, library_known_zero].map(to), [None, Some(6)]);
+    let tally = trials_in(true, library_known_zero, 1_500, 3);
+    assert_eq!(tally.written_out, Vec::<String>::new());
+    assert_eq!(tally.wrong, 0);
+    assert!(tally.held > 100 && tally.longest > 4, "{tally:?}");
 }
 
 /// Whether a source that is wrong is told from a right one.

@@ -1,14 +1,15 @@
 use borrow.Author.Needs.{needs}
+use Rattle.state.specs.Modes.{modeOf}
 use Rattle.parents.proofs.Ends.{prepared-all}
 use Rattle.parents.proofs.Pass.{Pass, pass-none, pass-settles, pass-sides, pass-more}
 use Rattle.parents.proofs.prepare.Statement.{statement}
 use Rattle.parents.proofs.prepare.Tie as tie
 
 abbrev Inv-loop : tie.InvT-loop
-Inv-loop code w₀ end a₀ head₀ w a head = Pass code w₀ end w a head
+Inv-loop mode code w₀ end a₀ head₀ w a head = Pass (modeOf mode) code w₀ end w a head
 
 abbrev μ-loop : tie.MeasureT-loop
-μ-loop code w₀ end a₀ head₀ w a head = a
+μ-loop mode code w₀ end a₀ head₀ w a head = a
 
 loop-holds : tie.Need-loop-holds Inv-loop μ-loop
 loop-holds c = search pass-none

@@ -10,6 +10,12 @@ use Rattle.resolver.proofs.rounds.search.Tie as tie
 reach-requires : tie.Need-reach-requires
 reach-requires c κs = (search search-room, search known-within)
 
+add-wipe-part : tie.Need-add-wipe-part
+add-wipe-part c = record { fits = omega (arith, c .before .before .before .before .before .before .before .before .before .before .before .before .before .before .before .before .before .before .before .pre .short) }
+
+mul-wipe-part : tie.Need-mul-wipe-part
+mul-wipe-part c = record { fits = omega (arith, c .before .before .before .before .before .before .before .before .before .before .before .before .before .before .before .before .before .before .before .pre .short) }
+
 mul-wipe-part-2 : tie.Need-mul-wipe-part-2
 mul-wipe-part-2 c = record { fits = omega (arith, search-heads (c .before .before .before .before .before .before .plan-of .ensures) (c .before .before .before .before .before .before .before .before .before .before .before .before .before .before .before .before .before .before .before .before .pre) .1) }
 
@@ -39,8 +45,8 @@ search-spec =
     (λ c κs. search needs)
     (λ c κs. search needs)
     reach-requires
-    (λ c. search needs)
-    (λ c. search needs)
+    add-wipe-part
+    mul-wipe-part
     mul-wipe-part-2
     wipe-part-requires
     begin-rows-requires

@@ -3,15 +3,16 @@ use Prim.Native.Nat.{_-_}
 use native.Mathlib.Omega.{arith}
 use lib.ListN.{length}
 use borrow.Author.Needs.{needs}
+use Rattle.state.specs.Modes.{modeOf}
 use Rattle.state.proofs.Owns.{Running, running-start, running-steps, running-less, running-on, ended-none, ended-ends, ended-jumps}
 use Rattle.state.proofs.run.to_end.Statement.{statement}
 use Rattle.state.proofs.run.to_end.Tie as tie
 
 abbrev Inv-loop : tie.InvT-loop
-Inv-loop code start w₀ end at₀ t₀ w at t = Running code start w₀ end w at t
+Inv-loop mode code start w₀ end at₀ t₀ w at t = Running (modeOf mode) code start w₀ end w at t
 
 abbrev μ-loop : tie.MeasureT-loop
-μ-loop code start w₀ end at₀ t₀ w at t = length code - at
+μ-loop mode code start w₀ end at₀ t₀ w at t = length code - at
 
 loop-holds : tie.Need-loop-holds Inv-loop μ-loop
 loop-holds c = search running-start
