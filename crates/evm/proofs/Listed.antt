@@ -66,7 +66,7 @@ named =
     (0x00 ∷ 0x5B ∷ 0xFE ∷ [])
     ∷ (0x20 ∷ [])
     ∷ (0xF0 ∷ [])
-    ∷ (0x15 ∷ 0x19 ∷ 0x31 ∷ 0x35 ∷ 0x3B ∷ 0x49 ∷ 0x51 ∷ 0x54 ∷ 0x5C ∷ [])
+    ∷ (0x15 ∷ 0x19 ∷ 0x1E ∷ 0x31 ∷ 0x35 ∷ 0x3B ∷ 0x49 ∷ 0x51 ∷ 0x54 ∷ 0x5C ∷ [])
     ∷ (0x30 ∷ 0x36 ∷ 0x38 ∷ 0x3A ∷ 0x3D ∷ 0x4A ∷ [])
     ∷ (0x37 ∷ 0x39 ∷ 0x3E ∷ 0x5E ∷ [])
     ∷ (0x3C ∷ [])
@@ -91,14 +91,6 @@ named-or w k = among named k || fits (w k) k
 pub ranged : (w : ℕ → Words) (a n : ℕ) → T (every (named-or w) a n) → {x : ℕ} {r : Words} → Others (Unit {0}) named x → a ≤ x → x < a + n → r ≡ w x → WordsAre x r
 unfolding named-or
 ranged w a n t {x} o h g e = rw e (words-are (w x) x (or-else (among named x) (fits (w x) x) (every-at (named-or w) n a x t h g) (unnamed (Unit {0}) named x o)))
-
--- ---- known and unknown bytes, a range each
-
-abbrev pub known-as : Bool → ℕ → Bool
-known-as v k = Bool·beq v (row k .known)
-
-pub known-range : (v : Bool) (a n : ℕ) → T (every (known-as v) a n) → {x : ℕ} → a ≤ x → x < a + n → v ≡ row x .known
-known-range v a n t {x} h g = beq→eq v (row x .known) (every-at (known-as v) n a x t h g)
 
 -- ---- the whole row
 

@@ -1,13 +1,17 @@
--- Rules that agree on the code's instructions give one answer; so code with no PUSH0 as an instruction has the same answer in both modes (document 02,
--- No. 6). Assumes nothing.
-use Prim.Native.Nat.{ℕ}
-use mathlib.Core.Path.{_≡_, refl, ap, ap₂}
+-- Rules that agree on the code's instructions give one answer. So "maps of code without 1E as an instruction do not move" (document 02, No. 3), and code
+-- with no PUSH0 as an instruction has the same answer in both modes (No. 6). Assumes nothing.
+use Prim.Native.Nat.{ℕ, _≤_}
+use native.Mathlib.Omega.{arith}
+use mathlib.Core.Path.{_≡_, refl, sym, ap, ap₂, _∙_}
+use mathlib.Core.Bool.{true, false, not, true≢false}
 use mathlib.Core.List.{List, [], _∷_, map}
 use mathlib.Core.Option.{Option, none}
 use lib.Dec.{eqb, leb, ltb}
 use lib.ListN.{replicate}
-use Rattle.spec.specs.Lists.{if}
-use Rattle.spec.specs.Opcodes.{Row, Rules, in-mode}
+use borrow.Author.Tests.{ne-eqb}
+use Rattle.spec.specs.Lists.{if, some?, mem}
+use Rattle.spec.specs.Opcodes.{Row, unknown, Rules, in-mode, row as listed}
+use Rattle.spec.specs.Domain.{differing, in-domain}
 use Rattle.spec.specs.Walk.{Ins, instructions, from}
 use Rattle.spec.specs.Blocks.{Block, Mode, opened, waiting, pushed, cut, closes, cuts, check-all, blocks}
 use Rattle.spec.specs.Stacks.{Stack, entry, other, pops, pushes, Does, pushes-value, pushes-pc, dups, swaps, ands, adds, jumps, jumpis, lands, halts, plain, does, act, runs, trimmed, run}
@@ -15,8 +19,9 @@ use Rattle.spec.specs.Search.{node}
 use Rattle.spec.specs.Rooms.{Lent}
 use Rattle.spec.specs.Answer.{prepared, searched, mapped, answer}
 use Rattle.spec.specs.JsonAnswer.{within-text, json-answer}
-use Rattle.laws.proofs.Branch.{both}
+use Rattle.laws.proofs.Branch.{both, if-false}
 use Rattle.laws.proofs.Members.{In, here, there}
+use Rattle.theorems.proofs.Counts.{named, Lawful, lawful}
 use Rattle.theorems.proofs.Modes.{same-elsewhere}
 
 -- of each of these instructions the rules say the same: its row, and what it does
@@ -100,3 +105,46 @@ pub zero-moves-no-text : (code : List ℕ) → ((i : Ins) → In i (instructions
     → (l : Lent) (room limit : ℕ) → json-answer (in-mode 1) l room limit code ≡ json-answer (in-mode 0) l room limit code
 unfolding json-answer
 zero-moves-no-text code h l room limit = ap (within-text room) (zero-moves-nothing code h l limit)
+
+-- ---- No. 3: byte 1E was unknown
+
+-- the rows before the change, which stand in this file alone
+pub old-row : ℕ → Row
+old-row b = if (eqb b 0x1E) unknown (listed b)
+
+not-clz : (b : ℕ) → ¬ (b ≡ 0x1E) → old-row b ≡ listed b
+unfolding old-row
+not-clz b ne = if-false _ _ _ (ne-eqb b 0x1E ne)
+
+-- What is proved of lawful rows holds of the old ones too.
+pub old-lawful : Lawful old-row
+unfolding old-row named if
+old-lawful = record {
+  named-as = λ b n. not-clz b (λ e. true≢false (sym n ∙ ap named e));
+  few = λ b. both (λ (x : Row). x .taken ≤ 17) (eqb b 0x1E) (λ _. omega arith) (λ _. lawful .few b);
+}
+
+-- the rules before the change, in a mode
+abbrev pub before-clz : ℕ → Rules
+before-clz m = record { row = old-row; mode = m }
+
+-- Where no 1E stands as an instruction, the whole answer is what it was: at any limit, in any rooms, in any mode.
+pub clz-moves-nothing : (code : List ℕ) → ((i : Ins) → In i (instructions code) → ¬ (i .op ≡ 0x1E))
+    → (m : ℕ) (l : Lent) (limit : ℕ) → answer (before-clz m) l limit code ≡ answer (in-mode m) l limit code
+clz-moves-nothing code h m = same-answer (before-clz m) (in-mode m) code (record { row = λ i n. not-clz (i .op) (h i n); step = λ _ _. refl }) refl
+
+-- nor does the answer of the call with a text
+pub clz-moves-no-text : (code : List ℕ) → ((i : Ins) → In i (instructions code) → ¬ (i .op ≡ 0x1E))
+    → (m : ℕ) (l : Lent) (room limit : ℕ) → json-answer (before-clz m) l room limit code ≡ json-answer (in-mode m) l room limit code
+unfolding json-answer
+clz-moves-no-text code h m l room limit = ap (within-text room) (clz-moves-nothing code h m l limit)
+
+-- ---- demand 2's domain: no row differs from the Rust's
+
+none-differ : (is : List Ins) → some? (λ (i : Ins). mem (i .op) differing) is ≡ false
+none-differ [] = refl
+none-differ (i ∷ is) = none-differ is
+
+pub every-code : (code : List ℕ) → in-domain code ≡ true
+unfolding in-domain
+every-code code = ap not (none-differ (instructions code))

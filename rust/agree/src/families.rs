@@ -13,7 +13,7 @@ pub struct Family {
     pub next: fn(&mut Random) -> Vec<u8>,
 }
 
-pub const FAMILIES: [Family; 10] = [
+pub const FAMILIES: [Family; 11] = [
     Family {
         name: "noise",
         share: 100,
@@ -96,7 +96,31 @@ pub const FAMILIES: [Family; 10] = [
             solidity::code(random, Shape { zeros, ..shape })
         },
     },
+    Family {
+        name: "clz",
+        share: 50,
+        next: |random| {
+            let shape = Shape::small(random);
+            let code = match random.below(3) {
+                0 => jumpy(random, 60),
+                1 => woven::code(random, 5, 3),
+                _ => solidity::code(random, shape),
+            };
+            with_clz(random, code)
+        },
+    },
 ];
+
+/// The code with CLZ in the place of some of its instructions.
+fn with_clz(random: &mut Random, mut code: Vec<u8>) -> Vec<u8> {
+    let starts: Vec<usize> = model::ops::walk(&code, 0).map(|(at, _)| at).collect();
+    for at in starts {
+        if random.percent(10) {
+            code[at] = 0x1e;
+        }
+    }
+    code
+}
 
 /// The family of this name; a name that none has is a fault of the program.
 pub fn named(name: &str) -> &'static Family {

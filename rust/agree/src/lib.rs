@@ -6,9 +6,6 @@ pub mod json;
 use model::{Block, Entry, HIGHEST_LIMIT, Kind, Lent};
 use oracle::control_flow_graph::{Block as RustBlock, BlockType, DynamicJump};
 
-/// The byte whose row differs: document 01 does not know it, the Rust has it as CLZ.
-pub const OTHER_ROW: u8 = 0x1e;
-
 /// Rooms in which the model must answer; codes that need more would keep the Rust busy for long.
 pub const ENOUGH: Lent = Lent {
     w: u64::MAX,
@@ -24,8 +21,6 @@ pub const ENOUGH: Lent = Lent {
 #[derive(Clone, Debug, PartialEq, Eq)]
 pub enum Verdict {
     Same,
-    /// The byte 1E stands as an instruction in it.
-    OutsideTheDomain,
     /// It needs more than `ENOUGH`.
     TooHeavy,
     /// A sentence with both maps.
@@ -34,9 +29,6 @@ pub enum Verdict {
 
 /// Whether the two give one map of this code.
 pub fn compare(code: &[u8]) -> Verdict {
-    if has_other_row(code) {
-        return Verdict::OutsideTheDomain;
-    }
     let Ok(ours) = model::map(&ENOUGH, HIGHEST_LIMIT, code) else {
         return Verdict::TooHeavy;
     };
@@ -49,11 +41,6 @@ pub fn compare(code: &[u8]) -> Verdict {
         "on {code} the Rust has {rust:?}, the model {:?}",
         ours.blocks
     ))
-}
-
-/// Whether 1E stands as an instruction, by the walk from 0.
-pub fn has_other_row(code: &[u8]) -> bool {
-    model::ops::walk(code, 0).any(|(_, byte)| byte == OTHER_ROW)
 }
 
 /// The unchanged Rust's map, in the model's words.
@@ -105,7 +92,6 @@ fn entries(jumps: &[DynamicJump]) -> Vec<Entry> {
 #[derive(Clone, Debug, Default)]
 pub struct Tally {
     pub same: u64,
-    pub outside: u64,
     pub heavy: u64,
     pub different: u64,
     pub first: Option<String>,
@@ -115,7 +101,6 @@ impl Tally {
     pub fn add(&mut self, code: &[u8]) {
         match compare(code) {
             Verdict::Same => self.same += 1,
-            Verdict::OutsideTheDomain => self.outside += 1,
             Verdict::TooHeavy => self.heavy += 1,
             Verdict::Different(sentence) => {
                 self.different += 1;
@@ -126,7 +111,6 @@ impl Tally {
 
     pub fn join(&mut self, other: Tally) {
         self.same += other.same;
-        self.outside += other.outside;
         self.heavy += other.heavy;
         self.different += other.different;
         self.first = self.first.take().or(other.first);

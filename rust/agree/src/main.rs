@@ -70,10 +70,9 @@ fn show(all: &mut Tally, name: &str, run: impl FnOnce(&mut Tally)) {
 
 fn report(name: &str, tally: &Tally, begun: Instant) {
     println!(
-        "{name}: {} the same, {} different, {} with 1E, {} too heavy, {:.1} s",
+        "{name}: {} the same, {} different, {} too heavy, {:.1} s",
         tally.same,
         tally.different,
-        tally.outside,
         tally.heavy,
         begun.elapsed().as_secs_f64()
     );

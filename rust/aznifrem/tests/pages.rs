@@ -134,10 +134,6 @@ fn the_change_changes_no_answer() {
         } else {
             jumpy(&mut random, 60)
         };
-        // Document 01 does not know CLZ: docs/DIFFERENCES.md.
-        if code.contains(&0x1e) {
-            continue;
-        }
         let found = after::found(&mut mapper, &code);
         assert_eq!(before::found(&code), found);
         *lengths.entry(number % 2 == 0).or_default() += found.len();

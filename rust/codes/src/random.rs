@@ -47,7 +47,8 @@ pub fn noise(random: &mut Random, length: usize) -> Vec<u8> {
 
 fn likely(random: &mut Random) -> u8 {
     let byte = random.byte();
-    let gap = matches!(byte, 0x0c..=0x0f | 0x1e..=0x2f | 0x4b..=0x4f | 0xa5..=0xef | 0xf6..=0xfc);
+    let gap =
+        matches!(byte, 0x0c..=0x0f | 0x1f | 0x21..=0x2f | 0x4b..=0x4f | 0xa5..=0xef | 0xf6..=0xfc);
     if gap && random.percent(97) {
         likely(random)
     } else {
@@ -66,7 +67,7 @@ pub fn jumpy(random: &mut Random, length: usize) -> Vec<u8> {
         match random.below(100) {
             0..=39 => push(random, &mut code, length),
             40..=95 => code.push(random.pick(&PLAIN)),
-            96 => code.push(random.pick(&[0x0c, 0xef, 0x1f, 0xf1, 0x5e, 0xa4])),
+            96 => code.push(random.pick(&[0x0c, 0xef, 0x1f, 0x1e, 0xf1, 0x5e, 0xa4])),
             97 => code.push(random.pick(&[0x8f, 0x9f, 0x87, 0x97])),
             98 => code.extend([0x63, 0xff, 0xff, 0xff, 0xff, 0x16]),
             _ => code.push(random.byte()),

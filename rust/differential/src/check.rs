@@ -2,7 +2,7 @@
 
 use std::collections::BTreeMap;
 
-use agree::{ENOUGH, has_other_row};
+use agree::ENOUGH;
 use aznifrem::{Block, BlockType, DynamicJump, Map};
 use codes::Random;
 use model::{Answer, HIGHEST_LIMIT, LONGEST_CODE, Lent, Refusal, rooms};
@@ -19,8 +19,6 @@ use crate::port::{JsonModePort, JsonPort, ModePort, Port};
 #[derive(Clone, Copy, Debug, PartialEq, Eq)]
 pub enum Verdict {
     Same,
-    /// The byte 1E stands as an instruction in it: held against the model alone.
-    OutsideTheDomain,
     /// It needs more than `agree::ENOUGH`: its refusal was held against the model's.
     TooHeavy,
     /// It has more than 24,576 bytes: its refusals were held against the model's, and are 1.
@@ -65,14 +63,9 @@ impl Checker {
         };
         let exact = map.needs.lent(code.len());
         let given = self.call(code, HIGHEST_LIMIT, &exact, random)?;
-        let (verdict, text) = if has_other_row(code) {
-            let text = agree::json::of_model(&map.blocks);
-            (Verdict::OutsideTheDomain, text)
-        } else {
-            let theirs = caught("panic of the Rust", || oracle::blocks(code))?;
-            same_blocks(&theirs, &given.written)?;
-            (Verdict::Same, agree::json::text(theirs.values()))
-        };
+        let theirs = caught("panic of the Rust", || oracle::blocks(code))?;
+        same_blocks(&theirs, &given.written)?;
+        let text = agree::json::text(theirs.values());
         json::calls(self.json, code, &map, &text, random)?;
         self.call(code, HIGHEST_LIMIT, &short(&exact, random), random)?;
         let lower = random.below(map.energy as usize + 2) as u64;
@@ -82,20 +75,18 @@ impl Checker {
             let number = self.call(code, over, &exact, random)?.number;
             json::refused(self.json, code, over, (&exact, number), random)?;
         }
-        self.modes(code, verdict, random)?;
-        Ok(verdict)
+        self.modes(code, random)?;
+        Ok(Verdict::Same)
     }
 
     /// Mode 1 against the model, with a text too, and against the copy of the Rust that knows PUSH0 to
     /// be 0; at a lower limit; then modes that are none.
-    fn modes(&self, code: &[u8], plain: Verdict, random: &mut Random) -> Result<(), Mismatch> {
+    fn modes(&self, code: &[u8], random: &mut Random) -> Result<(), Mismatch> {
         if let Ok(map) = model::map_in(1, &ENOUGH, HIGHEST_LIMIT, code) {
             let exact = map.needs.lent(code.len());
             let given = self.in_mode(1, code, HIGHEST_LIMIT, &exact, random)?;
-            if plain == Verdict::Same {
-                let theirs = caught("panic of the Rust's copy", || zero::blocks(code))?;
-                same_blocks(&theirs, &given.written)?;
-            }
+            let theirs = caught("panic of the Rust's copy", || zero::blocks(code))?;
+            same_blocks(&theirs, &given.written)?;
             let text = agree::json::of_model(&map.blocks);
             json::in_mode(self.json_in, 1, code, (&map, &text), random)?;
             self.in_mode(1, code, HIGHEST_LIMIT, &short(&exact, random), random)?;
@@ -260,16 +251,18 @@ mod tests {
     use super::same_blocks;
     use model::{HIGHEST_LIMIT, Lent, answer};
 
-    fn against_the_rust(code: &[u8]) -> Result<(), String> {
-        let answer = answer(&Lent::ALL, HIGHEST_LIMIT, code);
-        same_blocks(&oracle::blocks(code), answer.written()).map_err(|found| found.kind.into())
+    /// The model's map of one code beside the Rust's of another.
+    fn beside(ours: &[u8], theirs: &[u8]) -> Result<(), String> {
+        let answer = answer(&Lent::ALL, HIGHEST_LIMIT, ours);
+        same_blocks(&oracle::blocks(theirs), answer.written()).map_err(|found| found.kind.into())
     }
 
     #[test]
     fn a_block_that_is_not_the_rusts_is_found() {
-        // Document 01 does not know 1E, the Rust does: the one code on which both are right.
-        assert_eq!(against_the_rust(&[0x1e, 0x00]), Err("blocks".into()));
-        assert_eq!(against_the_rust(&[0x1d, 0x00]), Ok(()));
+        // An unknown byte ends its block, CLZ does not.
+        let (unknown, clz) = ([0x0c, 0x00], [0x1e, 0x00]);
+        assert_eq!(beside(&unknown, &clz), Err("blocks".into()));
+        assert_eq!(beside(&clz, &clz), Ok(()));
     }
 
     #[test]

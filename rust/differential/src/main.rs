@@ -167,13 +167,12 @@ fn of_family(checker: &Checker, family: &Family, count: u64, first: u64) -> Tall
 
 fn report(title: &str, tally: &Tally, begun: Instant) {
     println!(
-        "{title}: {} codes, {} the same, of them {} with PUSH0, {} different, {} with 1E, {} too heavy, {} too long, \
+        "{title}: {} codes, {} the same, of them {} with PUSH0, {} different, {} too heavy, {} too long, \
          {:.1} s",
         tally.codes(),
         tally.same,
         tally.zeros,
         tally.different,
-        tally.outside,
         tally.heavy,
         tally.long,
         begun.elapsed().as_secs_f64()

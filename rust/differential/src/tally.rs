@@ -15,7 +15,6 @@ const LONGEST_PRINTED: usize = 1_000;
 #[derive(Clone, Debug, Default)]
 pub struct Tally {
     pub same: u64,
-    pub outside: u64,
     pub heavy: u64,
     pub long: u64,
     pub different: u64,
@@ -35,7 +34,6 @@ impl Tally {
                 self.same += 1;
                 self.zeros += u64::from(model::ops::walk(code, 0).any(|(_, byte)| byte == 0x5f));
             }
-            Ok(Verdict::OutsideTheDomain) => self.outside += 1,
             Ok(Verdict::TooHeavy) => self.heavy += 1,
             Ok(Verdict::TooLong) => self.long += 1,
             Err(mismatch) => {
@@ -51,12 +49,11 @@ impl Tally {
 
     /// All codes that were checked.
     pub fn codes(&self) -> u64 {
-        self.same + self.outside + self.heavy + self.long + self.different
+        self.same + self.heavy + self.long + self.different
     }
 
     pub fn join(&mut self, other: Tally) {
         self.same += other.same;
-        self.outside += other.outside;
         self.heavy += other.heavy;
         self.long += other.long;
         self.different += other.different;

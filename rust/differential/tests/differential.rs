@@ -386,16 +386,14 @@ fn a_room_that_is_touched_because_the_code_is_too_long_is_found() {
 }
 
 #[test]
-fn a_code_with_1e_is_held_against_the_model_alone() {
+fn a_code_with_1e_is_held_against_the_rust() {
     let checker = Checker {
         port: honest,
         ..Checker::LIBRARY
     };
     let clz = [0x1e, 0x00];
-    let verdict = checker
-        .check(&clz, 1)
-        .expect("it is held against the model");
-    assert_eq!(verdict, Verdict::OutsideTheDomain);
+    let verdict = checker.check(&clz, 1).expect("it is held against the Rust");
+    assert_eq!(verdict, Verdict::Same);
 }
 
 /// The plain writer's text of a code that is answered.

@@ -20,7 +20,7 @@ const LIGHT: RangeInclusive<u64> = 0..=60;
 const LONGER: RangeInclusive<u64> = 61..=200;
 
 /// How many codes of which family, and how much energy their search uses.
-const PARTS: [(&str, usize, RangeInclusive<u64>); 10] = [
+const PARTS: [(&str, usize, RangeInclusive<u64>); 11] = [
     ("noise", 25, LIGHT),
     ("jumpy", 60, LIGHT),
     ("jumpy-long", 20, LIGHT),
@@ -31,6 +31,7 @@ const PARTS: [(&str, usize, RangeInclusive<u64>); 10] = [
     ("calls-middle", 30, LIGHT),
     ("calls-small", 2, LONGER),
     ("calls-middle", 6, LONGER),
+    ("clz", 25, LIGHT),
 ];
 
 /// The empty code, and codes that are not among those taken already.
@@ -44,8 +45,7 @@ pub fn lines(mut taken: HashSet<Vec<u8>>) -> Vec<Vec<u8>> {
     );
     for (name, count, energy) in PARTS {
         let test = |code: &Vec<u8>| {
-            let fits = code.len() <= LONGEST && !agree::has_other_row(code);
-            fits && !taken.contains(code) && telling(code, &energy) && wanted(code)
+            code.len() <= LONGEST && !taken.contains(code) && telling(code, &energy) && wanted(code)
         };
         let new = chosen(families::named(name), &mut random, count, test);
         taken.extend(new.iter().cloned());

@@ -206,10 +206,9 @@ fn rust_codes() -> Vec<Vec<u8>> {
     let taken = answers::lines().into_iter().map(|line| line.code);
     let mut codes = maps::lines(taken.collect());
     let answered = |code: &Vec<u8>| in_buffers(HIGHEST_LIMIT, code).answer().number() == 0;
-    let test = |code: &Vec<u8>| !agree::has_other_row(code) && answered(code);
     let mut random = Random::new(31);
     for (name, count) in LONGER {
-        codes.extend(chosen(families::named(name), &mut random, count, test));
+        codes.extend(chosen(families::named(name), &mut random, count, answered));
     }
     for bytes in CONTRACTS {
         for style in [Style::Plain, Style::Calls] {

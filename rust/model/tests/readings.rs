@@ -98,9 +98,10 @@ fn at_full_weight_a_path_is_recorded_with_no_room_for_states() {
 }
 
 #[test]
-fn clz_is_unknown() {
-    assert_eq!(blocks(&whole("1e00")), ["0-0 false"]);
+fn clz_is_known() {
+    assert_eq!(blocks(&whole("1e00")), ["0-1 true"]);
     assert_eq!(blocks(&whole("1e")), ["0-0 false"]);
+    assert_eq!(blocks(&whole("6005601e1e56")), ["0-5 DynamicJump"]);
 }
 
 #[test]

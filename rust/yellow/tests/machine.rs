@@ -116,15 +116,13 @@ fn control_leaves() {
     assert_eq!(way("30", 0), Way::Halt);
 }
 
-/// Two tables that were written apart: document 01's rows and the Yellow Paper's. FE is a row of the first alone; 1E, EIP-7939's, is one here whatever
-/// the first says.
+/// Two tables that were written apart: document 01's rows and the Yellow Paper's. FE is a row of the first alone.
 #[test]
 fn the_rows_are_those_of_document_01() {
     for byte in 0..=255 {
         let row = model::ops::row(byte);
         match byte {
             0xfe => assert_eq!(taken_given(byte), None),
-            0x1e => assert_eq!(taken_given(byte), Some((1, 1))),
             _ if row.known => assert_eq!(
                 taken_given(byte),
                 Some((row.taken, row.given)),
