@@ -8,4 +8,5 @@ exports! {
     aznifrem_report_join(; write report, read other);
     aznifrem_salvage(; read archive, write out, write report);
     aznifrem_follow(; read map, read code, read log, write work, write counts);
+    aznifrem_inspect(mode; read code, read map, write w, write place);
 }

@@ -10,6 +10,7 @@ use Rattle.aznifrem.specs.Contracts.{Exported, ExportedJson}
 use Rattle.aznifrem.specs.Reports.{ExportedReport}
 use Rattle.aznifrem.specs.Archives.{ExportedSalvage}
 use Rattle.aznifrem.specs.FollowContract.{ExportedFollow}
+use Rattle.aznifrem.specs.InspectContract.{ExportedInspect}
 
 pub one-exported : {limit mode x y : ℕ} {code out u v : List ℕ} {m m′ m″ : Mem} → Exported limit mode code m out m′ u x → Exported limit mode code m out m″ v y
     → (x ≡ y) × (m′ ≡ m″) × (u ≡ v)
@@ -39,3 +40,7 @@ one-exported-salvage c d = (c .number ∙ sym (d .number), c .out-is ∙ sym (d 
 pub one-exported-follow : {map code log work counts v w c d : List ℕ} {x y : ℕ} → ExportedFollow map code log work counts v c x → ExportedFollow map code log work counts w d y
     → (x ≡ y) × (v ≡ w) × (c ≡ d)
 one-exported-follow p q = (p .number ∙ sym (q .number), p .work-is ∙ sym (q .work-is), p .counts-are ∙ sym (q .counts-are))
+
+pub one-exported-inspect : {mode : ℕ} {code map w place v u p q : List ℕ} {x y : ℕ} → ExportedInspect mode code map w place v p x → ExportedInspect mode code map w place u q y
+    → (x ≡ y) × (v ≡ u) × (p ≡ q)
+one-exported-inspect c d = (c .number ∙ sym (d .number), c .w-is ∙ sym (d .w-is), c .place-is ∙ sym (d .place-is))

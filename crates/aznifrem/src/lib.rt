@@ -3,6 +3,7 @@
 // slices."
 mod archive;
 mod release;
+mod second;
 mod trace;
 
 use answer::map_code;
@@ -10,6 +11,7 @@ use answer::map_json;
 use reader::read;
 pub use release::aznifrem_report_add;
 pub use release::aznifrem_report_join;
+pub use second::aznifrem_inspect;
 pub use trace::aznifrem_follow;
 ghost use mathlib.Core.Path.{_≡_};
 ghost use Rattle.spec.specs.Reader as definitions;

@@ -1,12 +1,12 @@
 -- Members of lists, and of what the definitions make of lists. Assumes nothing.
-use Prim.Native.Nat.{ℕ, _≤_}
+use Prim.Native.Nat.{ℕ, zero, suc, _≤_, _<_}
 use native.Mathlib.Omega.{arith}
 use mathlib.Core.Path.{_≡_, refl, sym, ap, subst}
 use mathlib.Core.Logic.{_⊎_, inl, inr}
 use mathlib.Core.Bool.{Bool, true, false, _&&_, _||_, true≢false, or-assoc}
 use mathlib.Core.List.{List, [], _∷_, _++_, map, append-assoc}
 use lib.Dec.{eqb}
-use lib.ListN.{length}
+use lib.ListN.{length, getD}
 use borrow.Author.Tests.{eqb-true, eq-eqb}
 use Rattle.spec.specs.Lists.{mem, some?, keep, gather}
 pub use Rattle.laws.specs.Lists.{In, here, there}
@@ -141,3 +141,17 @@ in-map f (a ∷ xs) (there i) = let g = in-map f xs i in (g .0, there (g .1), g 
 pub map-in : {A B : Type 0} {x : A} (f : A → B) {xs : List A} → In x xs → In (f x) (map f xs)
 map-in f here = here
 map-in f (there i) = there (map-in f i)
+
+pub in-split : {A : Type 0} {x : A} {xs : List A} → In x xs → (before : List A) × (rest : List A) × (xs ≡ before ++ x ∷ rest)
+in-split (here {xs}) = ([], xs, refl)
+in-split {A} (there {y} i) = let g = in-split i in (y ∷ g .0, g .1, ap {B = List A} (λ (l : List A). y ∷ l) (g .2))
+
+-- by its place
+pub in-at : {a : ℕ} {xs : List ℕ} → In a xs → (i : ℕ) × (i < length xs) × (getD xs i 0 ≡ a)
+in-at here = (0, omega arith, refl)
+in-at (there i) = let g = in-at i in (suc (g .0), omega (arith, g .1), g .2)
+
+pub at-in : (xs : List ℕ) (i : ℕ) → i < length xs → In (getD xs i 0) xs
+at-in [] i h = absurd (omega arith)
+at-in (x ∷ xs) zero h = here
+at-in (x ∷ xs) (suc i) h = there (at-in xs i (omega arith))

@@ -9,7 +9,7 @@ use borrow.Author.Tests.{eq-eqb, ne-eqb, lt-ltb, le-ltb}
 use Rattle.spec.specs.Opcodes.{in-mode}
 use Rattle.spec.specs.Lists.{little}
 use Rattle.spec.specs.Walk.{instructions}
-use Rattle.spec.specs.Stacks.{run}
+use Rattle.spec.specs.Stacks.{Ran as Run-of, run}
 use Rattle.lent.specs.Bytes.{numAt, Holds, Stored}
 use Rattle.laws.proofs.Branch.{if-true, if-false}
 use Rattle.layout.specs.Parts.{rowPlace}
@@ -22,6 +22,7 @@ use Rattle.state.specs.declared.sym.StackSym.the-variants.{Before, Constant, Ju
 use Rattle.state.specs.declared.run.Goes.the-variants.{To, Nowhere}
 use Rattle.state.specs.declared.run.Own.{Own}
 use Rattle.parents.specs.Writes.{link, linkSides, takeTurn, staticType, place, goesAt}
+use Rattle.state.proofs.States.{own-walked}
 use Rattle.parents.specs.Contracts.{Sides, LinkRoom, Wrote, Settles, Ran, Settled, Placed, Number}
 
 pub number-is : {k at r : ℕ} {w : List ℕ} → Holds k w at r → Number r (numAt k w at) k
@@ -140,8 +141,8 @@ module _ {code w : List ℕ} {end a : ℕ} (s : Settles code w end a) {t : Block
       let e = if-true (ltb (tagAt w a) 5) none (run (in-mode mode) code (instructions code) a .goes) (lt-ltb (tagAt w a) 5 (omega (arith, tag-is))) in
       record { after = w; ran = record { front = refl; back = refl; kept = refl }; is = rw e; first = rw e; kept = refl }
 
-  pub settle-runs : 5 ≤ t .kind → Runs code a w end
-  settle-runs h = record { stands = s .stands (omega (arith, tag-is)); short = s .short; inside = s .inside; room = omega (arith, s .room) }
+  pub settle-runs : 5 ≤ t .kind → Runs code w end
+  settle-runs h = record { short = s .short; inside = s .inside; room = omega (arith, s .room) }
 
   module _ {mode : ℕ} {w₁ : List ℕ} {o : Own} (h : 5 ≤ t .kind) (d : Owned mode code a w end w₁ o) where
     ran-in : Ran code w end w₁
@@ -154,7 +155,7 @@ module _ {code w : List ℕ} {end a : ℕ} (s : Settles code w end a) {t : Block
 
     goes-is : goesAt mode code w a ≡ goesOf (o .goes)
     unfolding goesAt
-    goes-is = if-false _ _ _ (le-ltb (tagAt w a) 5 (omega (arith, tag-is))) ∙ sym (d .goes)
+    goes-is = if-false _ _ _ (le-ltb (tagAt w a) 5 (omega (arith, tag-is))) ∙ sym (ap (λ (r : Run-of). r .goes) (own-walked mode code a (s .stands (omega (arith, tag-is))))) ∙ sym (d .goes)
 
     pub settle-nowhere : (head : ℕ) → o .goes ≡ Nowhere → Settled mode code w end a head w₁ head
     unfolding place

@@ -1,5 +1,5 @@
 -- How a turn begins: the block's own state at the bottom of S, and its start in P, counted. Assumes nothing.
-use mathlib.Core.Path.{_≡_, refl, sym, ap, _∙_}
+use mathlib.Core.Path.{_≡_, refl, sym, ap, subst, _∙_}
 use mathlib.Core.List.{List, [], _∷_}
 use Prim.Native.Nat.{ℕ, _+_, _-_, _*_, _^_, _≤_, _<_}
 use native.Mathlib.Omega.{arith}
@@ -7,7 +7,7 @@ use lib.ListN.{length, take, drop}
 use Rattle.spec.specs.Opcodes.{in-mode}
 use Rattle.spec.specs.Lists.{little, total}
 use Rattle.spec.specs.Walk.{instructions}
-use Rattle.spec.specs.Stacks.{cells, run}
+use Rattle.spec.specs.Stacks.{cells, Ran, run}
 use Rattle.spec.specs.Search.{Taker, Rec, Met, kept, St, Turn, turn-of, direct, in-use}
 use Rattle.laws.proofs.Members.{in-only}
 use Rattle.theorems.proofs.Older.{clear}
@@ -21,7 +21,7 @@ use Rattle.state.specs.Modes.{modeOf}
 use Rattle.state.specs.Cells.{Lies}
 use Rattle.state.specs.Owns.{Runs, Owned}
 use Rattle.state.specs.declared.run.Own.{Own}
-use Rattle.state.proofs.States.{lies-copied, lies-count}
+use Rattle.state.proofs.States.{lies-copied, lies-count, own-walked}
 use Rattle.tables.specs.Addrs.{addrs}
 use Rattle.tables.specs.Rows.{metOf, usedOf}
 use Rattle.tables.proofs.Counted.{recs-kept-cells}
@@ -93,14 +93,17 @@ module _ {code : List ℕ} {k : Plan} {reached : List ℕ} {since : ℕ} {m : Me
     pub taker-small : start < 2 ^ 16
     taker-small = omega (arith, taking .inside, idle .planned .lentW .short)
 
-    pub run-asks : Runs code start (m .w) (k .end)
+    pub run-asks : Runs code (m .w) (k .end)
     run-asks =
         let g = idle .planned in
-        record { stands = taking .comes; short = omega (arith, g .is, g .lentW .short); inside = g .ends; room = omega (arith, g .scratch) }
+        record { short = omega (arith, g .is, g .lentW .short); inside = g .ends; room = omega (arith, g .scratch) }
 
     module _ {w₁ : List ℕ} {own : Own} (owned : Owned (modeOf (k .mode)) code start (m .w) (k .end) w₁ own) where
+      own-lies : Lies w₁ (own .at) (own .n) (run (in-mode (modeOf (k .mode))) code (instructions code) start .stack)
+      own-lies = subst (λ (r : Ran). Lies w₁ (own .at) (own .n) (r .stack)) (own-walked (modeOf (k .mode)) code start (taking .comes)) (owned .lies)
+
       pub own-cells : own .n ≡ cells (x .first)
-      own-cells = lies-count (owned .lies) ∙ ap cells (sym (taking .first))
+      own-cells = lies-count own-lies ∙ ap cells (sym (taking .first))
 
       ran : Alike (k .n) (k .buckets) (m .w) w₁
       ran = alike-run (k .n) (k .buckets) (owned .inside) (idle .planned .scratch)
@@ -125,7 +128,7 @@ module _ {code : List ℕ} {k : Plan} {reached : List ℕ} {since : ℕ} {m : Me
         begun-alike = alike-then ran (alike-counts (placed .counted .only) (k .buckets))
 
         lies : Lies s₁ 0 (own .n) (run (in-mode (modeOf (k .mode))) code (instructions code) start .stack)
-        lies = lies-copied (placed .copied) (owned .lies)
+        lies = lies-copied (placed .copied) own-lies
 
         top : drop (9 * (k .rooms .s - o .counts .kept)) s₁ ≡ drop (9 * (k .rooms .s - o .counts .kept)) (m .s)
         top = kept-drop (placed .copied) (9 * (k .rooms .s - o .counts .kept)) (omega (arith, room))

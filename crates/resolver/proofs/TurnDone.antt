@@ -102,7 +102,7 @@ asks-taking {code} {k} a =
     let g = a .idle .planned in
     taking (modeOf (k .mode)) code (g .is) (g .lentW .short) (a .idle .known) (a .takes) (a .is)
 
-pub turn-runs : {code : List ℕ} {k : Plan} {start : ℕ} {m : Mem} {o : Run} → TurnAsks code k start m o → Runs code start (m .w) (k .end)
+pub turn-runs : {code : List ℕ} {k : Plan} {start : ℕ} {m : Mem} {o : Run} → TurnAsks code k start m o → Runs code (m .w) (k .end)
 turn-runs a = begins.run-asks (a .idle) (asks-taking a)
 
 pub turn-places : {code w w₁ p s t r q : List ℕ} {k : Plan} {start : ℕ} {o : Run} {own : Own} → TurnAsks code k start (buffers w p s t r q) o

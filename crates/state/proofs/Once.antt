@@ -68,7 +68,7 @@ pub record OneRun (code : List ℕ) (end : ℕ) (w v : List ℕ) (r s : Own) : T
   pub cells : Same w v (r .at) (9 * r .n)
   pub others : Outside (end - roomOf code) (roomOf code) w v
 
-pub one-owned : {mode : ℕ} {code w v u : List ℕ} {start end : ℕ} {r s : Own} → Runs code start w end → Owned mode code start w end v r → Owned mode code start w end u s
+pub one-owned : {mode : ℕ} {code w v u : List ℕ} {start end : ℕ} {r s : Own} → Runs code w end → Owned mode code start w end v r → Owned mode code start w end u s
     → OneRun code end v u r s
 one-owned {mode} {code} {w} {v} {u} {start} {end} {r} {s} a p q =
     let at : r .at ≡ s .at = omega (arith, p .place, q .place) in

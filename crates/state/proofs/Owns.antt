@@ -9,19 +9,20 @@ use lib.Dec.{eqb}
 use lib.ListN.{length, drop}
 use Rattle.spec.specs.Lists.{if}
 use Rattle.spec.specs.Opcodes.{row, in-mode}
-use Rattle.spec.specs.Walk.{Ins, ins, walk, instructions, from}
-use Rattle.spec.specs.Stacks.{Sym, Stack, entry, Does, pushes-value, pushes-pc, dups, swaps, ands, adds, jumps, jumpis, lands, halts, plain, does, act, Ran, still, after, runs, before, cells, trims, trim, run}
+use Rattle.spec.specs.Walk.{Ins, ins, walk}
+use Rattle.spec.specs.Stacks.{Sym, Stack, entry, Does, pushes-value, pushes-pc, dups, swaps, ands, adds, jumps, jumpis, lands, halts, plain, does, act, Ran, still, after, runs, before, cells, trims, trim, own}
 use Rattle.lent.proofs.Parts.{take-less}
 use Rattle.lent.proofs.Stored.{kept-take, kept-drop}
 use Rattle.evm.specs.Step.{stepAt}
 use Rattle.evm.specs.declared.walk.Step.{Step}
 use Rattle.evm.specs.declared.walk.Step.the-variants as step
 use Rattle.evm.proofs.Steps.{Took, took, ended}
-use Rattle.state.specs.Cells.{symsAt, Put, reach, Lies}
+use Rattle.state.specs.Cells.{symsAt, Put, depth, reach, Lies}
+use Rattle.state.specs.Symbols.{symOf}
 use Rattle.state.specs.Working.{stackOf, endOf, Held}
 use Rattle.state.specs.Steps.{Next, on, ends, leaps, turn, next, goOn, nextOf, topOf, Steps, Turns}
 use Rattle.state.specs.Bounds.{Bounded}
-use Rattle.state.specs.Owns.{roomOf, Runs, Inside, ranOf, Ended, Trims, Owned}
+use Rattle.state.specs.Owns.{goesOf, far, roomOf, Runs, Inside, ranOf, Ended, Trims, Owned}
 use Rattle.state.specs.declared.sym.StackSym.{StackSym}
 use Rattle.state.specs.declared.top.Top.{Top}
 use Rattle.state.specs.declared.step.Turn.{Turn}
@@ -30,7 +31,7 @@ use Rattle.state.specs.declared.run.Goes.the-variants.{To, Nowhere}
 use Rattle.state.specs.declared.run.End.{End}
 use Rattle.state.proofs.Syms.{length-syms, syms-none, cells-none}
 use Rattle.state.proofs.Bounds.{bounded-entry, bounded-later, bounded-reach, bounded-act}
-use Rattle.state.proofs.Reach.{reach-trim}
+use Rattle.state.proofs.Reach.{depth-read, reach-trim}
 use Rattle.state.proofs.States.{lies-count}
 use Rattle.state.proofs.Puts.{put-syms, after-cells}
 use Rattle.state.proofs.Trims.{fewer-trims}
@@ -59,6 +60,12 @@ module _ (m : ℕ) (code : List ℕ) (start : ℕ) (i : Ins) (is : List Ins) (s 
   runs-next : runs (in-mode m) code start (i ∷ is) s ≡ goOn (runs (in-mode m) code start is) (next m code start i s)
   unfolding next
   runs-next = after-turn (does m (i .op)) (act row code i (does m (i .op)) s)
+
+-- how deep the jump's symbol reaches, if there is one
+farIn : Next → ℕ
+farIn (on s) = 0
+farIn (ends s) = 0
+farIn (leaps s x) = depth x
 
 -- the stack that is left
 stackIn : Next → Stack
@@ -92,6 +99,29 @@ module _ (m : ℕ) {k : ℕ} {s : Stack} (b : Bounded k s) (code : List ℕ) (st
   bounded-turn halts t h = h
   bounded-turn plain t h = h
 
+  far-if : (c : Bool) (t : Stack) → farIn (if c (on t) (ends s)) ≤ 17 * k + 16
+  unfolding if farIn
+  far-if true t = omega arith
+  far-if false t = omega arith
+
+  far-turn : (d : Does) (t : Stack) → farIn (turn start i s t d) ≤ 17 * k + 16
+  unfolding farIn
+  far-turn pushes-value t = omega arith
+  far-turn pushes-pc t = omega arith
+  far-turn (dups n) t = omega arith
+  far-turn (swaps n) t = omega arith
+  far-turn ands t = omega arith
+  far-turn adds t = omega arith
+  far-turn jumps t = omega (arith, depth-read s 0, bounded-reach b)
+  far-turn jumpis t = omega (arith, depth-read s 0, bounded-reach b)
+  far-turn lands t = far-if (eqb (i .pc) start) t
+  far-turn halts t = omega arith
+  far-turn plain t = omega arith
+
+  far-next : farIn (next m code start i s) ≤ 17 * k + 16
+  unfolding next
+  far-next = far-turn (does m (i .op)) (act row code i (does m (i .op)) s)
+
   bounded-next : i .op < 0x100 → Bounded (suc k) (stackIn (next m code start i s))
   unfolding next
   bounded-next h = bounded-turn (does m (i .op)) _ (bounded-act b m code i (does m (i .op)) h refl)
@@ -99,7 +129,7 @@ module _ (m : ℕ) {k : ℕ} {s : Stack} (b : Bounded k s) (code : List ℕ) (st
 -- ---- the loop
 
 pub record Running (mode : ℕ) (code : List ℕ) (start : ℕ) (w₀ : List ℕ) (end : ℕ) (w : List ℕ) (at : ℕ) (t : Top) : Type 0 where
-  pub rest : runs (in-mode mode) code start (walk (drop at code) at 0) (stackOf w t) ≡ runs (in-mode mode) code start (from start (instructions code)) entry
+  pub rest : runs (in-mode mode) code start (walk (drop at code) at 0) (stackOf w t) ≡ runs (in-mode mode) code start (walk (drop start code) start 0) entry
   pub passed : start ≤ at
   pub within : at - start ≤ length code
   pub bounded : Bounded (at - start) (stackOf w t)
@@ -107,14 +137,14 @@ pub record Running (mode : ℕ) (code : List ℕ) (start : ℕ) (w₀ : List ℕ
   pub ends : endOf t ≡ end
   pub inside : Inside code w₀ end w
 
-module _ {mode : ℕ} {code : List ℕ} {start : ℕ} {w₀ : List ℕ} {end : ℕ} (q : Runs code start w₀ end) where
+module _ {mode : ℕ} {code : List ℕ} {start : ℕ} {w₀ : List ℕ} {end : ℕ} (q : Runs code w₀ end) where
   pub running-start : Running mode code start w₀ end w₀ start (record { at = end - 9; n = 0; base = 0 })
   unfolding stackOf
   running-start =
       let none : symsAt w₀ (end - 9) 0 ≡ [] = syms-none w₀ (end - 9) in
       let z : start - start ≡ 0 = omega arith in
       record {
-        rest = rw (none, q .stands);
+        rest = rw none;
         passed = omega arith;
         within = omega arith;
         bounded = rw (none, z) bounded-entry;
@@ -130,6 +160,7 @@ module _ {mode : ℕ} {code : List ℕ} {start : ℕ} {w₀ : List ℕ} {end : �
         record {
           is = rw (ended code at e f) at (l .rest);
           bounded = bounded-later (l .within) (l .bounded);
+          near = omega arith;
           held = l .held;
           ends = l .ends;
           inside = l .inside;
@@ -164,7 +195,7 @@ module _ {mode : ℕ} {code : List ℕ} {start : ℕ} {w₀ : List ℕ} {end : �
         unfolding i
         due = rw (took-here .here) at (d .is)
 
-        rest : goOn (runs (in-mode mode) code start (walk (drop to code) to 0)) (nextOf w′ x) ≡ runs (in-mode mode) code start (from start (instructions code)) entry
+        rest : goOn (runs (in-mode mode) code start (walk (drop to code) to 0)) (nextOf w′ x) ≡ runs (in-mode mode) code start (walk (drop start code) start 0) entry
         unfolding i
         rest =
             ap (goOn (runs (in-mode mode) code start (walk (drop to code) to 0))) due
@@ -207,25 +238,33 @@ module _ {mode : ℕ} {code : List ℕ} {start : ℕ} {w₀ : List ℕ} {end : �
               inside = inside;
             }
 
-        ended-by : (y : End) → topOf x ≡ y .top → goOn (runs (in-mode mode) code start (walk (drop to code) to 0)) (nextOf w′ x) ≡ ranOf w′ y → Ended mode code start w₀ end w′ y
-        ended-by y g h =
+        ended-by : (y : End) → topOf x ≡ y .top → goOn (runs (in-mode mode) code start (walk (drop to code) to 0)) (nextOf w′ x) ≡ ranOf w′ y → far (goesOf (y .goes)) ≤ 17 * length code + 16 → Ended mode code start w₀ end w′ y
+        ended-by y g h n =
             record {
               is = sym h ∙ rest;
               bounded = rw g at (bounded-later within later);
+              near = n;
               held = rw g at (d .moves .held);
               ends = rw g at (d .moves .ends) ∙ l .ends;
               inside = inside;
             }
 
+        jump-near : {u : Top} {y : StackSym} → x ≡ Jumps u y → depth (symOf y) ≤ 17 * length code + 16
+        unfolding i farIn
+        jump-near {y} g =
+            let e : depth (symOf y) ≡ farIn (nextOf w′ x) = rw g in
+            let f = far-next mode (l .bounded) code start i in
+            omega (arith, e, ap farIn due, f, l .within)
+
         pub ended-ends : {u : Top} → x ≡ Ends u → Ended mode code start w₀ end w′ (record { top = u; goes = Nowhere })
-        ended-ends g = ended-by _ (rw g) (rw g)
+        ended-ends g = ended-by _ (rw g) (rw g) (omega arith)
 
         pub ended-jumps : {u : Top} {y : StackSym} → x ≡ Jumps u y → Ended mode code start w₀ end w′ (record { top = u; goes = To y })
-        ended-jumps g = ended-by _ (rw g) (rw g)
+        ended-jumps g = ended-by _ (rw g) (rw g) (jump-near g)
 
 -- ---- the whole run: the bottom's cell is put, and what the numbering gives is left to it
 
-module _ {mode : ℕ} {code : List ℕ} {start : ℕ} {w : List ℕ} {end : ℕ} {w₁ w₂ : List ℕ} {r : End} (q : Runs code start w end) (d : Ended mode code start w end w₁ r)
+module _ {mode : ℕ} {code : List ℕ} {start : ℕ} {w : List ℕ} {end : ℕ} {w₁ w₂ : List ℕ} {r : End} (q : Runs code w end) (d : Ended mode code start w end w₁ r)
     (p : Put w₁ (end - 9) (before (r .top .base)) w₂) where
   at : ℕ
   at = r .top .at
@@ -245,8 +284,8 @@ module _ {mode : ℕ} {code : List ℕ} {start : ℕ} {w : List ℕ} {end : ℕ}
   unfolding at n
   owned-trims = record { cells = after-cells at n put (d .held .cells); bottom = put .reads }
 
-  own-stack : trims (symsAt w₂ at n) (r .top .base) ≡ run (in-mode mode) code (instructions code) start .stack
-  unfolding at n run trim stackOf
+  own-stack : trims (symsAt w₂ at n) (r .top .base) ≡ own (in-mode mode) code start .stack
+  unfolding at n trim stackOf
   own-stack =
       ap (λ (xs : List Sym). trims xs (r .top .base)) (put-syms put at n (λ h. omega arith))
       ∙ ap (λ (x : Ran). trim (x .stack)) (d .is)
@@ -257,15 +296,16 @@ module _ {mode : ℕ} {code : List ℕ} {start : ℕ} {w : List ℕ} {end : ℕ}
     few = omega (arith, lies-count l, fewer-trims (symsAt w₂ at n) (r .top .base), length-syms w₂ at n)
 
     pub owned : Owned mode code start w end w₂ (record { at = r .top .at; n = m; goes = r .goes })
-    unfolding at n run trim stackOf
+    unfolding at n trim stackOf
     owned =
         let b = bounded-reach (d .bounded) in
         let s : Stack = stackOf w₁ (r .top) in
-        let x : run (in-mode mode) code (instructions code) start .stack ≡ trim s = ap (λ (x : Ran). trim (x .stack)) (sym (d .is)) in
+        let x : own (in-mode mode) code start .stack ≡ trim s = ap (λ (x : Ran). trim (x .stack)) (sym (d .is)) in
         record {
           lies = rw own-stack at l;
           goes = ap (λ (x : Ran). x .goes) (d .is);
           reach = rw x (omega (arith, reach-trim s, b));
+          near = d .near;
           place = ap (λ (x : Ran). at + 9 * cells (x .stack)) (sym (d .is)) ∙ omega (arith, length-syms w₁ at n, d .ends);
           low = omega (arith, d .bounded .few, length-syms w₁ at n, d .ends);
           high = omega (arith, few, d .ends);

@@ -9,7 +9,9 @@ use lib.Dec.{eqb}
 use lib.ListN.{length, take, drop, length-append}
 use lib.Seq.{drop-drop, take-add, take-all}
 use Rattle.spec.specs.Lists.{if}
-use Rattle.spec.specs.Stacks.{Sym, before, constant, jumpdest, other, Stack, cells, reads, read}
+use Rattle.spec.specs.Opcodes.{in-mode}
+use Rattle.spec.specs.Walk.{walk, instructions, from}
+use Rattle.spec.specs.Stacks.{Sym, before, constant, jumpdest, other, Stack, cells, reads, read, run, own}
 use Rattle.lent.specs.Bytes.{numAt, Holds, Stored}
 use Rattle.lent.proofs.Parts.{length-part}
 use Rattle.lent.proofs.Numbers.{num-within}
@@ -148,3 +150,9 @@ module _ {b : List ℕ} {at n : ℕ} (r : State b at n) (k : ℕ) where
 
     pub symbol-fits : reach (stackAt b at n) + k ≤ 2 ^ 64 → v + (k - (n - 1)) < 2 ^ 64
     symbol-fits h = omega (arith, reach-is (stackAt b at n))
+
+-- ---- a block of the cut, to which the walk of the code comes: its own run is document 01's
+
+pub own-walked : (mode : ℕ) (code : List ℕ) (start : ℕ) → from start (instructions code) ≡ walk (drop start code) start 0 → own (in-mode mode) code start ≡ run (in-mode mode) code (instructions code) start
+unfolding run
+own-walked mode code start e = rw e

@@ -5,11 +5,11 @@ use mathlib.Core.Option.{Option, none, some}
 use mathlib.Core.List.{List}
 use lib.ListN.{length, take, drop}
 use Rattle.spec.specs.Opcodes.{in-mode}
-use Rattle.spec.specs.Walk.{walk, instructions, from}
-use Rattle.spec.specs.Stacks.{Sym, before, entry, cells, Ran, runs, run}
+use Rattle.spec.specs.Walk.{walk}
+use Rattle.spec.specs.Stacks.{Sym, before, entry, cells, Ran, runs, own}
 use Rattle.spec.specs.Rooms.{longest}
 use Rattle.state.specs.Symbols.{symOf}
-use Rattle.state.specs.Cells.{symAt, Cells, reach, Lies}
+use Rattle.state.specs.Cells.{symAt, Cells, depth, reach, Lies}
 use Rattle.state.specs.Bounds.{Bounded}
 use Rattle.state.specs.Working.{stackOf, endOf, Held}
 use Rattle.state.specs.declared.run.Goes.{Goes}
@@ -21,13 +21,17 @@ abbrev pub goesOf : Goes → Option Sym
 goesOf (To x) = some (symOf x)
 goesOf Nowhere = none
 
+-- how deep into the entry stack a jump's symbol reaches
+abbrev pub far : Option Sym → ℕ
+far none = 0
+far (some x) = depth x
+
 -- the length of the part of w for the run of a block: no block puts more cells
 abbrev pub roomOf : List ℕ → ℕ
 roomOf code = 9 * (length code + 17)
 
--- the walk of the code comes to `start`, so that what is left of it is the walk from there; and the part of w is there
-pub record Runs (code : List ℕ) (start : ℕ) (w : List ℕ) (end : ℕ) : Type 0 where
-  pub stands : from start (instructions code) ≡ walk (drop start code) start 0
+-- the part of w is there; a block may start anywhere, inside an argument too
+pub record Runs (code w : List ℕ) (end : ℕ) : Type 0 where
   pub short : length code ≤ longest
   pub inside : end ≤ length w
   pub room : roomOf code ≤ end
@@ -42,8 +46,9 @@ abbrev pub ranOf : List ℕ → End → Ran
 ranOf w r = record { stack = stackOf w (r .top); goes = goesOf (r .goes) }
 
 pub record Ended (mode : ℕ) (code : List ℕ) (start : ℕ) (w : List ℕ) (end : ℕ) (w′ : List ℕ) (r : End) : Type 0 where
-  pub is : ranOf w′ r ≡ runs (in-mode mode) code start (from start (instructions code)) entry
+  pub is : ranOf w′ r ≡ runs (in-mode mode) code start (walk (drop start code) start 0) entry
   pub bounded : Bounded (length code) (stackOf w′ (r .top))
+  pub near : far (goesOf (r .goes)) ≤ 17 * length code + 16
   pub held : Held w′ (r .top)
   pub ends : endOf (r .top) ≡ end
   pub inside : Inside code w end w′
@@ -53,13 +58,14 @@ pub record Trims (w : List ℕ) (at n base : ℕ) : Type 0 where
   pub cells : Cells w at (n + 1)
   pub bottom : symAt w (at + 9 * n) ≡ before base
 
--- The state is the block's own, as document 01 has it. It reaches at most 16 words deep and 17 a byte of code; its cells begin where those of the state before
+-- The state is the block's own, walked afresh from its start. It and the jump's symbol reach at most 16 words deep and 17 a byte of code; its cells begin where those of the state before
 -- trimming do, which end where the part ends.
 pub record Owned (mode : ℕ) (code : List ℕ) (start : ℕ) (w : List ℕ) (end : ℕ) (w′ : List ℕ) (r : Own) : Type 0 where
-  pub lies : Lies w′ (r .at) (r .n) (run (in-mode mode) code (instructions code) start .stack)
-  pub goes : goesOf (r .goes) ≡ run (in-mode mode) code (instructions code) start .goes
-  pub reach : reach (run (in-mode mode) code (instructions code) start .stack) ≤ 17 * length code + 16
-  pub place : r .at + 9 * cells (runs (in-mode mode) code start (from start (instructions code)) entry .stack) ≡ end
+  pub lies : Lies w′ (r .at) (r .n) (own (in-mode mode) code start .stack)
+  pub goes : goesOf (r .goes) ≡ own (in-mode mode) code start .goes
+  pub reach : reach (own (in-mode mode) code start .stack) ≤ 17 * length code + 16
+  pub near : far (goesOf (r .goes)) ≤ 17 * length code + 16
+  pub place : r .at + 9 * cells (runs (in-mode mode) code start (walk (drop start code) start 0) entry .stack) ≡ end
   pub low : end - roomOf code ≤ r .at
   pub high : r .at + 9 * r .n ≤ end
   pub inside : Inside code w end w′

@@ -37,7 +37,7 @@ pub struct Own {
 
 // Runs the block at `start` to its end, with its stack in the part of w that ends at `end`.
 fn to_end(mode: Mode, code: &[u8], start: usize, w: &mut [u8], end: usize) -> End
-    requires { ⌜ Runs (now code) start (now w) end ⌝ }
+    requires { ⌜ Runs (now code) (now w) end ⌝ }
     ensures { λ r. ⌜ Ended (modeOf mode) (now (code .entry)) start (now (w .entry)) end (now (w .exit)) r ⌝ }
 {
     let mut at = start;
@@ -112,7 +112,7 @@ fn trimmed(w: &[u8], at: usize, n: usize, base: usize) -> usize
 
 // Runs the block at `start` in a mode, and stores its state in the part of w that ends at `end`, which has a cell for each byte of code, and seventeen.
 pub fn run(mode: Mode, code: &[u8], start: usize, w: &mut [u8], end: usize) -> Own
-    requires { ⌜ Runs (now code) start (now w) end ⌝ }
+    requires { ⌜ Runs (now code) (now w) end ⌝ }
     ensures { λ r. ⌜ Owned (modeOf mode) (now (code .entry)) start (now (w .entry)) end (now (w .exit)) r ⌝ }
 {
     let r = to_end(mode, code, start, w, end);

@@ -8,7 +8,7 @@ use borrow.Author.Tests.{lt-ltb, le-ltb, le-leb, lt-leb}
 use Rattle.spec.specs.Opcodes.{in-mode}
 use Rattle.spec.specs.Lists.{if}
 use Rattle.spec.specs.Walk.{instructions}
-use Rattle.spec.specs.Stacks.{Stack, cells, read, run, compose}
+use Rattle.spec.specs.Stacks.{Stack, cells, read, Ran, run, compose}
 use Rattle.spec.specs.Search.{S}
 use Rattle.laws.proofs.Branch.{if-true, if-false}
 use Rattle.lent.specs.Bytes.{Holds}
@@ -23,7 +23,7 @@ use Rattle.state.specs.Composed.{Composes, ComposesKept, Composed}
 use Rattle.state.specs.Owns.{Runs, Inside, Owned}
 use Rattle.state.specs.declared.sym.StackSym.{StackSym}
 use Rattle.state.specs.declared.run.Own.{Own}
-use Rattle.state.proofs.States.{state-lies, lies-count}
+use Rattle.state.proofs.States.{state-lies, lies-count, own-walked}
 use Rattle.state.proofs.Composing.{cells-compose}
 use Rattle.tables.specs.Recording.{shortOf}
 use Rattle.tables.specs.declared.Rooms.{Rooms}
@@ -141,13 +141,14 @@ module _ {code w s r : List ℕ} {k : Plan} {c : Counts} {l : Level} {at : ℕ} 
   -- ---- a block's own state, which is run into W
 
   module _ (h : at < 0x10000) {start : ℕ} (a : start ≡ startOf at) where
-    pub direct-runs : Runs code start w (k .end)
-    direct-runs = record { stands = rw a (q .direct h); short = q .short; inside = q .inW; room = q .scratch }
+    pub direct-runs : Runs code w (k .end)
+    direct-runs = record { short = q .short; inside = q .inW; room = q .scratch }
 
     module _ {w′ : List ℕ} {x : Own} (o : Owned (modeOf (k .mode)) code start w (k .end) w′ x) where
       own-is : P ≡ stackAt w′ (x .at) (x .n)
       unfolding P
-      own-is = cursor-own (modeOf (k .mode)) code r s (k .rooms .s) at h ∙ ap (λ (i : ℕ). run (in-mode (modeOf (k .mode))) code (instructions code) i .stack) (sym a) ∙ sym (o .lies .is)
+      own-is = cursor-own (modeOf (k .mode)) code r s (k .rooms .s) at h ∙ ap (λ (i : ℕ). run (in-mode (modeOf (k .mode))) code (instructions code) i .stack) (sym a)
+          ∙ ap (λ (x : Ran). x .stack) (sym (own-walked (modeOf (k .mode)) code start (rw a (q .direct h)))) ∙ sym (o .lies .is)
 
       pub direct-readable : Readable w′ (x .at) (x .n) (l .position)
       direct-readable = readable own-is (o .lies .state)

@@ -105,6 +105,29 @@ rising-keep test [] r = r
 rising-keep test {lo} (f ∷ fs) (one-more h r) =
     both (λ (gs : List Final). Rising lo (finals-at gs)) (test f) (λ _. one-more h (rising-keep test fs r)) (λ _. rising-from (omega arith) (rising-keep test fs r))
 
+-- ---- the final blocks, before pruning
+
+module _ (r : Rules) (code : List ℕ) (recs : List Rec) where
+  record FromCut (f : Final) : Type 0 where
+    cut : Block
+    member : In cut (blocks (r .row) code (instructions code))
+    same : Kept cut (f .block)
+    found : AllFound f
+
+  from-cut : (f : Final) → In f (finals (prepared r code) recs) → FromCut f
+  unfolding prepared
+  from-cut f i =
+      let n = in-map _ (prepared r code) i in
+      let b = in-map (λ (b : Block). node b (run r code (instructions code) (b .start))) (blocks (r .row) code (instructions code)) (n .1) in
+      record { cut = b .0; member = b .1; same = final-keeps recs (n .0) (n .2) (b .0) _ (b .2); found = final-found recs (n .0) (n .2) }
+
+  pub final-made : Lawful (r .row) → (f : Final) → In f (finals (prepared r code) recs) → Made code (f .block)
+  final-made ok f i = let c = from-cut f i in made-kept (c .same) (made ok code (c .member))
+
+  pub final-order : Lawful (r .row) → Rising 0 (finals-at (finals (prepared r code) recs))
+  unfolding prepared
+  final-order ok = subst (Rising 0) (sym (final-starts r code (instructions code) (blocks (r .row) code (instructions code)) recs)) (starts-rise ok code)
+
 -- ---- every answer
 
 module _ (r : Rules) (l : Lent) (limit : ℕ) (code : List ℕ) (a : Map) (e : answer r l limit code ≡ answered a) where
@@ -126,36 +149,25 @@ module _ (r : Rules) (l : Lent) (limit : ℕ) (code : List ℕ) (a : Map) (e : a
   unfolding mapped searched
   answered-history = rw the-map (search-history limit (prepared r code))
 
-  record FromCut (f : Final) : Type 0 where
-    cut : Block
-    member : In cut (blocks (r .row) code (instructions code))
-    same : Kept cut (f .block)
-    found : AllFound f
-
-  from-cut : (f : Final) → In f (a .blocks) → FromCut f
-  unfolding mapped prepared
-  from-cut f i =
-      let recs = searched r limit code .recs in
-      let k = in-keep _ (finals (prepared r code) recs) (subst (λ (m : Map). In f (m .blocks)) the-map i) in
-      let n = in-map _ (prepared r code) (k .1) in
-      let b = in-map (λ (b : Block). node b (run r code (instructions code) (b .start))) (blocks (r .row) code (instructions code)) (n .1) in
-      record { cut = b .0; member = b .1; same = final-keeps recs (n .0) (n .2) (b .0) _ (b .2); found = final-found recs (n .0) (n .2) }
+  -- its blocks are among those before pruning
+  pub answered-final : (f : Final) → In f (a .blocks) → In f (finals (prepared r code) (searched r limit code .recs))
+  unfolding mapped
+  answered-final f i = in-keep _ (finals (prepared r code) (searched r limit code .recs)) (subst (λ (m : Map). In f (m .blocks)) the-map i) .1
 
   -- "`id` equals `start`", the end is not before the start, and both lie within the code
   pub answered-block : Lawful (r .row) → (f : Final) → In f (a .blocks) → Made code (f .block)
-  answered-block ok f i = let c = from-cut f i in made-kept (c .same) (made ok code (c .member))
+  answered-block ok f i = final-made r code (searched r limit code .recs) ok f (answered-final f i)
 
   -- an entry of a DynamicJump has a destination
   pub answered-entry : (f : Final) → In f (a .blocks) → f .block .kind ≡ dynamic-jump → (r : Rec) → In r (f .entries) → is-nowhere (r .to) ≡ false
-  answered-entry f i = from-cut f i .found
+  answered-entry f i = from-cut r code (searched r limit code .recs) f (answered-final f i) .found
 
   -- blocks stand in address order
   pub answered-order : Lawful (r .row) → Rising 0 (finals-at (a .blocks))
-  unfolding mapped prepared
+  unfolding mapped
   answered-order ok =
       let recs = searched r limit code .recs in
-      let all = subst (Rising 0) (sym (final-starts r code (instructions code) (blocks (r .row) code (instructions code)) recs)) (starts-rise ok code) in
-      subst (λ (m : Map). Rising 0 (finals-at (m .blocks))) (sym the-map) (rising-keep _ (finals (prepared r code) recs) all)
+      subst (λ (m : Map). Rising 0 (finals-at (m .blocks))) (sym the-map) (rising-keep _ (finals (prepared r code) recs) (final-order r code recs ok))
 
 -- the head alone has 18 bytes, so that what the exported entry counts is no refusal's number
 pub answered-long : (m : Map) → 18 ≤ length (bytes m)

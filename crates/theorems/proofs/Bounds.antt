@@ -1,4 +1,4 @@
--- What the numbers of an answered map are bounded by: addresses by the code's length, counts and lengths by the output's 2^30 bytes. Assumes nothing.
+-- What the numbers of an answered map, and of its run's before pruning, are bounded by: addresses by the code's length, counts and lengths by the output's 2^30 bytes. Assumes nothing.
 use Prim.Native.Nat.{ℕ, _+_, _^_, _≤_, _<_}
 use native.Mathlib.Omega.{arith}
 use mathlib.Core.Path.{_≡_, refl, sym, ap, subst, _∙_}
@@ -15,6 +15,7 @@ use Rattle.spec.specs.Ending.{Final, final, all-are, merged, ended, entries-of,
 use Rattle.spec.specs.Rooms.{Lent, longest}
 use Rattle.spec.specs.Entries.{Map, record-entry, block-entries, entries, joined, bytes}
 use Rattle.spec.specs.Answer.{answered, prepared, searched, mapped, answer}
+use Rattle.spec.specs.Inspector.{unpruned}
 use Rattle.laws.proofs.Branch.{both}
 use Rattle.laws.proofs.Lists.{Rising, one-more}
 use Rattle.laws.proofs.Members.{In, here, there, in-right, in-keep, length-keep, in-gather, gather-append, in-map, map-in}
@@ -22,7 +23,7 @@ use Rattle.theorems.proofs.Counts.{Lawful}
 use Rattle.theorems.proofs.Sides.{Within}
 use Rattle.theorems.proofs.Passing.{inner, Passes, record-passes}
 use Rattle.theorems.proofs.Demand3.{gave}
-use Rattle.theorems.proofs.Answered.{finals-at, answered-energy, answered-block, answered-order}
+use Rattle.theorems.proofs.Answered.{finals-at, final-made, final-order, answered-energy, answered-final, answered-order}
 
 -- ---- the statement
 
@@ -153,12 +154,14 @@ module _ (rules : Rules) (ok : Lawful (rules .row)) (l : Lent) (limit : ℕ) (co
       low : (t : ℕ) → In t (dests es) → t < length code
       low t j = let r = in-gather (λ (r : Rec). dest (r .to)) es j in passes (r .0) (mine (x .block .start) (r .0) (r .1) .1) .lands t (r .2)
 
-  made-of : (f : Final) → In f (m .blocks) → MadeOf f
-  unfolding mapped
+  made-of : (f : Final) → In f (finals (prepared rules code) the-recs) → MadeOf f
   made-of f i =
-      let k = in-keep _ (finals (prepared rules code) the-recs) (subst (λ (a : Map). In f (a .blocks)) (gave rules l limit code m e .is) i) in
-      let g = in-map (λ (x : Node). ended (x .block) (entries-of (x .block .start) the-recs) (x .block .kind)) (prepared rules code) (k .1) in
+      let g = in-map (λ (x : Node). ended (x .block) (entries-of (x .block .start) the-recs) (x .block .kind)) (prepared rules code) i in
       record { block = g .0 .block; made = subst (Made (length code) (g .0 .block) (entries-of (g .0 .block .start) the-recs)) (sym (g .2)) (node-made (g .0) (g .1)) }
+
+  -- an entry of a final block is one of the records
+  pub final-entry : (f : Final) → In f (finals (prepared rules code) the-recs) → (r : Rec) → In r (f .entries) → In r the-recs
+  final-entry f i r j = let o = made-of f i in mine (o .block .start) r (o .made .among r j) .1
 
   -- "of any room at most 2^30 units count as lent"
   output-short : length (bytes m) ≤ 2 ^ 30
@@ -172,9 +175,9 @@ module _ (rules : Rules) (ok : Lawful (rules .row)) (l : Lent) (limit : ℕ) (co
       let p = passes r i in
       record { start = p .start; path = p .along .within; to = p .lands; long = omega (arith, bytes-long m r (subst (In r) (sym recs-are) i), output-short) }
 
-  block-bounded : (f : Final) → In f (m .blocks) → BlockBounded (length code) f
+  block-bounded : (f : Final) → In f (finals (prepared rules code) the-recs) → BlockBounded (length code) f
   block-bounded f i =
-      let b = answered-block rules l limit code m e ok f i in
+      let b = final-made rules code the-recs ok f i in
       let o = made-of f i in
       record {
         id = b .id-start;
@@ -187,22 +190,37 @@ module _ (rules : Rules) (ok : Lawful (rules .row)) (l : Lent) (limit : ℕ) (co
         own = λ r j. sym (o .made .start ∙ eqb-true _ _ (mine (o .block .start) r (o .made .among r j) .0));
       }
 
-  blocks-few : length (m .blocks) ≤ length code
-  blocks-few = omega (arith, rising-few (finals-at (m .blocks)) (answered-order rules l limit code m e ok) inside (omega arith), length-map (m .blocks) (λ (f : Final). f .block .start))
+  -- blocks in address order that are bounded are few
+  blocks-few : (fs : List Final) → Rising 0 (finals-at fs) → ((f : Final) → In f fs → BlockBounded (length code) f) → length fs ≤ length code
+  blocks-few fs order bounded = omega (arith, rising-few (finals-at fs) order inside (omega arith), length-map fs (λ (f : Final). f .block .start))
     where
-      inside : (t : ℕ) → In t (finals-at (m .blocks)) → t < length code
-      inside t j = let g = in-map (λ (f : Final). f .block .start) (m .blocks) j in omega (arith, g .2, block-bounded (g .0) (g .1) .start)
+      inside : (t : ℕ) → In t (finals-at fs) → t < length code
+      inside t j = let g = in-map (λ (f : Final). f .block .start) fs j in omega (arith, g .2, bounded (g .0) (g .1) .start)
 
-  -- Every number of an answered map is bounded.
+  -- a map of that run, of blocks that are among those before pruning
+  run-bounded : (a : Map) → a .size ≡ length code → a .energy ≡ m .energy → a .recs ≡ the-recs → Rising 0 (finals-at (a .blocks))
+      → ((f : Final) → In f (a .blocks) → In f (finals (prepared rules code) the-recs)) → Bounded (length code) a
+  run-bounded a size energy recs order among = record {
+    size = size;
+    size-fits = gave rules l limit code m e .taken .code-fits;
+    energy = omega (arith, energy, answered-energy rules l limit code m e, gave rules l limit code m e .taken .limit-fits);
+    block-count = blocks-few (a .blocks) order (λ f i. block-bounded f (among f i));
+    record-count = omega (arith, recs-short, ap length recs);
+    rising = order;
+    blocks = λ f i. block-bounded f (among f i);
+    recs = λ r i. rec-bounded r (subst (In r) recs i);
+  }
+
+  -- Every number of an answered map is bounded,
   pub answered-bounded : Bounded (length code) m
   unfolding mapped
-  answered-bounded = record {
-    size = ap (λ (a : Map). a .size) (gave rules l limit code m e .is);
-    size-fits = gave rules l limit code m e .taken .code-fits;
-    energy = omega (arith, answered-energy rules l limit code m e, gave rules l limit code m e .taken .limit-fits);
-    block-count = blocks-few;
-    record-count = omega (arith, recs-short, ap length recs-are);
-    rising = answered-order rules l limit code m e ok;
-    blocks = block-bounded;
-    recs = λ r i. rec-bounded r (subst (In r) recs-are i);
-  }
+  answered-bounded =
+      let is = gave rules l limit code m e .is in
+      run-bounded m (ap (λ (a : Map). a .size) is) refl recs-are (answered-order rules l limit code m e ok) (answered-final rules l limit code m e)
+
+  -- and every number of its run's map before pruning.
+  pub unpruned-bounded : Bounded (length code) (unpruned rules code (searched rules limit code))
+  unfolding unpruned mapped
+  unpruned-bounded =
+      run-bounded (unpruned rules code (searched rules limit code)) refl (sym (ap (λ (a : Map). a .energy) (gave rules l limit code m e .is))) refl
+      (final-order rules code the-recs ok) (λ f i. i)

@@ -80,3 +80,11 @@ pub mod JsonRead
 pub mod JsonText
 pub mod JsonCall
 pub mod JsonSessions
+pub mod InspectorLooks
+pub mod InspectorRight
+pub mod InspectorPaths
+pub mod InspectorCall
+pub mod InspectorOnce
+pub mod InspectorShown
+pub mod InspectorExamples
+pub mod InspectorDeep

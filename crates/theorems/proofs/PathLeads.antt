@@ -8,7 +8,7 @@ use mathlib.Core.Option.{Option, some}
 use mathlib.Core.List.{List, [], _∷_, _++_}
 use lib.ListN.{length, getD, length-append}
 use Rattle.spec.specs.Opcodes.{Rules}
-use Rattle.spec.specs.Stacks.{Sym, before, constant, jumpdest, other, Stack, entry, read, through, Ran, runs, trimmed}
+use Rattle.spec.specs.Stacks.{Sym, before, constant, jumpdest, other, Stack, entry, read, through, Ran, runs, own}
 use Rattle.spec.specs.Meaning.{executes, Means, Holds, Jump, no-jump, jumps-to, Faithful}
 use Rattle.spec.specs.PathMeaning.{fetched, all-known, unaware, Runs, along, Asks, Leads}
 use Rattle.laws.proofs.Members.{In, mem-in}
@@ -34,7 +34,7 @@ module _ (rules : Rules) (ok : Lawful (rules .row)) where
   module _ (code : List ℕ) where
     -- the run on symbols of the block at b, walked afresh from there
     abbrev pub alone : ℕ → Ran
-    alone b = trimmed (runs rules code b (fetched code b) entry)
+    alone = own rules code
 
     -- a symbol, with each Before replaced along the path
     unfoldable pub replayed : Sym → List ℕ → Sym

@@ -46,7 +46,7 @@ module _ (n : ℕ) (small : n ≤ longest) where
     own = b .own;
   }
 
-bounded-fits : (n : ℕ) (m : Map) → Bounded n m → MapFits m
+pub bounded-fits : (n : ℕ) (m : Map) → Bounded n m → MapFits m
 bounded-fits n m b = record {
   size = omega (arith, b .size, b .size-fits);
   energy = omega (arith, b .energy);

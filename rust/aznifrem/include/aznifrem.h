@@ -161,6 +161,24 @@ uint64_t aznifrem_follow(const uint8_t *map, size_t map_len, const uint8_t *code
                          const uint8_t *log, size_t log_len, uint8_t *work, size_t work_len,
                          uint8_t *counts, size_t counts_len);
 
+/* What aznifrem_inspect gives in its lowest byte instead of 0, AZNIFREM_BAD_ENTRY, or a refusal of aznifrem_map. */
+#define AZNIFREM_WRONG_PATH 17
+
+/* Inspects a stored map, whoever made it, against a code, in mode 0 or 1: each path entry with a
+ * destination is right only if replaying its blocks leads to that destination.
+ *
+ *   w      64 bytes times the code's length and 256 more
+ *   place  8 bytes, or fewer: the place in the path of the first block that fails, little-endian
+ *
+ * Gives 0; or the number of a code that is too long, a mode that is none or a w that is too short,
+ * tested in that order: then nothing is touched. Or AZNIFREM_BAD_ENTRY and 256 times the offset of the
+ * first bad entry, AZNIFREM_WRONG_PATH and 256 times the offset of the first path entry that is not
+ * right (AZNIFREM_OFFSET). Then, and on 0, w is all zero bytes; place is written with
+ * AZNIFREM_WRONG_PATH alone, and where it has 8 bytes. w and place may not overlap each other, nor code
+ * or map. No pointer may be NULL. */
+uint64_t aznifrem_inspect(uint64_t mode, const uint8_t *code, size_t code_len, const uint8_t *map,
+                          size_t map_len, uint8_t *w, size_t w_len, uint8_t *place, size_t place_len);
+
 #ifdef __cplusplus
 }
 #endif

@@ -20,9 +20,9 @@
 //!
 //! A [`Mapper`] keeps its memory between calls; [`Map::from_bytes`] reads a map that was stored;
 //! [`Mapper::json`] gives the blocks as JSON; a [`Report`] adds up many stored maps; [`Salvaged::of`]
-//! salvages an archive of them; [`Followed::of`] follows a log through one. [`call`], [`call_json`],
-//! [`read()`], [`report_add`], [`report_join`], [`salvage()`] and [`follow()`] are the library's own
-//! calls, for those who lend the memory themselves.
+//! salvages an archive of them; [`Followed::of`] follows a log through one; [`Inspected::of`]
+//! replays the paths of one, whoever made it. [`call`], [`call_json`], [`read()`], [`report_add`],
+//! [`report_join`], [`salvage()`], [`follow()`] and [`inspect()`] are the library's own calls, for those who lend the memory themselves.
 
 #![warn(missing_docs)]
 
@@ -32,6 +32,7 @@ mod entries;
 mod error;
 mod fault;
 mod follow;
+mod inspect;
 mod json;
 mod kinds;
 mod map;
@@ -62,6 +63,7 @@ pub use bounds::{HIGHEST_LIMIT, LONGEST_CODE, RELAYED};
 pub use call::{Lent, call, call_in, call_json, call_json_in};
 pub use error::{Error, Fault, NotRelayed, Unreadable, Unwritable};
 pub use follow::{Counts, Followed, NotFollowed, follow};
+pub use inspect::{Inspected, NotInspected, WrongPath, inspect};
 pub use map::{Block, BlockType, DynamicJump, Map, Record};
 pub use mapper::Mapper;
 pub use mode::Mode;

@@ -1,7 +1,9 @@
 //! The table: every command, in the order in which help names them. A new one is a line here.
 
 use crate::table::{Command, DEFAULT};
-use crate::{archive, completions, diff, follow, help, man, maps, report, salvage, show, unpack};
+use crate::{
+    archive, completions, diff, follow, help, inspect, man, maps, report, salvage, show, unpack,
+};
 
 pub const ALL: &[Command] = &[
     maps::COMMAND,
@@ -12,6 +14,7 @@ pub const ALL: &[Command] = &[
     salvage::COMMAND,
     unpack::COMMAND,
     follow::COMMAND,
+    inspect::COMMAND,
     completions::COMMAND,
     man::COMMAND,
     help::COMMAND,

@@ -12,6 +12,7 @@ mod fresh;
 mod given;
 mod help;
 mod input;
+mod inspect;
 mod jobs;
 mod json;
 mod man;

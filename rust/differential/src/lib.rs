@@ -7,6 +7,7 @@ mod archives;
 mod check;
 mod damage;
 mod families;
+mod inspections;
 mod json;
 mod lend;
 mod logs;
@@ -22,6 +23,9 @@ mod tally;
 pub use archives::{Archives, Salvager, check as check_archive, run as salvage_archives};
 pub use check::{Checker, Verdict};
 pub use families::{FAMILIES, Family};
+pub use inspections::{
+    Inspecting, Inspections, Inspector, check as check_inspection, run as inspect_maps,
+};
 pub use lend::{Given, call as fenced_call, call_json as fenced_call_json};
 pub use logs::{Call, Follower, Index, Logs, check as check_log, ring, run as follow_logs, shared};
 pub use mismatch::Mismatch;

@@ -30,23 +30,33 @@ pub fn map_in(mode: u64, lent: &Lent, limit: u64, code: &[u8]) -> Result<Map, Re
         return Err(Refusal::WorkShort);
     }
     let mut rooms = Rooms::new(lent);
+    let mut map = merged(code, zero_known, limit, &mut rooms)?;
+    let reached = pruned(&map.blocks, code.len() + 1);
+    map.blocks.retain(|block| reached[block.start]);
+    rooms.ask(Room::Out, entries::length(&map))?;
+    map.needs = rooms.asked;
+    Ok(map)
+}
+
+/// The same "with that run's edges before pruning" (document 02, No. 12).
+pub fn unpruned_in(zero_known: bool, limit: u64, code: &[u8]) -> Result<Map, Refusal> {
+    merged(code, zero_known, limit, &mut Rooms::new(&Lent::ALL))
+}
+
+/// The blocks with what the search found, merged and not yet pruned.
+fn merged(code: &[u8], zero_known: bool, limit: u64, rooms: &mut Rooms) -> Result<Map, Refusal> {
     let mut cut = blocks(code);
-    let Found { records, energy } = search(code, zero_known, &mut cut, limit, &mut rooms)?;
+    let Found { records, energy } = search(code, zero_known, &mut cut, limit, rooms)?;
     for record in &records {
         enter(&mut cut, record);
     }
     cut.iter_mut().for_each(merge);
-    let reached = pruned(&cut, code.len() + 1);
-    cut.retain(|block| reached[block.start]);
-    let mut map = Map {
+    Ok(Map {
         blocks: cut,
         records,
         energy,
         needs: Needs::default(),
-    };
-    rooms.ask(Room::Out, entries::length(&map))?;
-    map.needs = rooms.asked;
-    Ok(map)
+    })
 }
 
 /// A record is an entry of its block; "DynamicJump drops entries without destination".

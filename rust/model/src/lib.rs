@@ -8,6 +8,7 @@ mod bounds;
 mod call;
 pub mod entries;
 pub mod follow;
+pub mod inspect;
 mod map;
 pub mod ops;
 pub mod reach;
@@ -20,8 +21,9 @@ pub mod stack;
 
 pub use blocks::{Block, Entry, Kind};
 pub use bounds::{HIGHEST_LIMIT, LONGEST_CODE};
-pub use call::{map, map_in};
+pub use call::{map, map_in, unpruned_in};
 pub use follow::{Followed, NotFollowed, follow_bytes};
+pub use inspect::{Inspected, inspect};
 pub use map::Map;
 pub use reader::{Bad, Held, Refused, read};
 pub use rooms::{Lent, Needs, Refusal};

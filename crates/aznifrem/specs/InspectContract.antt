@@ -1,0 +1,13 @@
+-- What a call of aznifrem_inspect gives and leaves, against document 02's No. 12. Assumes nothing.
+use mathlib.Core.Path.{_≡_}
+use Prim.Native.Nat.{ℕ}
+use mathlib.Core.List.{List}
+use lib.ListN.{length}
+use Rattle.spec.specs.Opcodes.{in-mode}
+use Rattle.spec.specs.Inspector.{inspect, exported, place-after, work-after}
+
+-- the number and value as one; and every lent byte afterwards
+pub record ExportedInspect (mode : ℕ) (code map w place w′ place′ : List ℕ) (x : ℕ) : Type 0 where
+  pub number : x ≡ exported (inspect (in-mode mode) code map (length w))
+  pub w-is : w′ ≡ work-after (inspect (in-mode mode) code map (length w)) w
+  pub place-is : place′ ≡ place-after (inspect (in-mode mode) code map (length w)) place

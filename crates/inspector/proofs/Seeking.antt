@@ -1,0 +1,264 @@
+-- The edges of the map, an entry after the other: what is left to look through ends as the whole does. Assumes nothing.
+use Prim.Native.Nat.{ℕ, _+_, _-_, _<_}
+use native.Mathlib.Omega.{arith}
+use mathlib.Core.Path.{_≡_, refl, sym, ap, subst, _∙_}
+use mathlib.Core.Bool.{Bool, true, false, _&&_, _||_, not}
+use mathlib.Core.List.{List, [], _∷_, _++_}
+use lib.Dec.{eqb}
+use lib.ListN.{length}
+use borrow.Author.Tests.{eq-eqb, ne-eqb, eqb-true}
+use Rattle.spec.specs.Lists.{if, mem, some?}
+use Rattle.spec.specs.Blocks.{jumpi}
+use Rattle.spec.specs.Search.{sides, nowhere, found, Found, Rec, dest, dests}
+use Rattle.spec.specs.Ending.{Final}
+use Rattle.spec.specs.Entries.{Map, absent}
+use Rattle.spec.specs.Reader.{Reading, holds, bad, Item, a-head, a-block, a-way, a-record, no-item, destined, items, ways, finals-in, read}
+use Rattle.spec.specs.Inspector.{targets, edge?}
+use Rattle.laws.proofs.Branch.{if-true, if-false}
+use Rattle.laws.proofs.Members.{mem-append, or-right}
+use Rattle.theorems.proofs.ReaderPlaces.{never}
+use Rattle.theorems.proofs.ReaderAccepted.{read-blocks}
+use Rattle.reader.specs.Shapes.{from, itemOf}
+use Rattle.reader.specs.Walks.{walkAt, itemsFrom, Walking}
+use Rattle.reader.specs.declared.entry.Entry.{Entry}
+use Rattle.reader.specs.declared.entry.Entry.the-variants.{Head, Terminate, Jump, Jumpi, DynamicJump, DynamicJumpi, Way, Record, Unknown, Wrong, Cut}
+use Rattle.reader.specs.declared.walk.Walk.{Walk}
+use Rattle.reader.specs.declared.walk.Walk.the-variants.{Here, Over}
+use Rattle.reader.proofs.Walked.{begins, Steps, stepping, ended}
+use Rattle.inspector.specs.Edges.{heldIn, mapIn, Ready, edgeAmong, edgeFrom, edgeIn, sightBy, sightOf, Sought, Passes}
+use Rattle.inspector.specs.declared.seek.Sight.{Sight}
+use Rattle.inspector.specs.declared.seek.Sight.the-variants.{Edge, Own, Other}
+
+-- ---- the map that accepted bytes hold
+
+pub holds-map : (b : List ℕ) (m : Map) → read b ≡ holds m → mapIn b ≡ m
+unfolding heldIn
+holds-map b m e = ap heldIn e
+
+pub ready : (b : List ℕ) (m : Map) → read b ≡ holds m → Ready b
+ready b m e = record { held = e ∙ ap holds (sym (holds-map b m e)) }
+
+pub ready-walks : {b : List ℕ} → Ready b → Walking b 0
+ready-walks {b} y = begins b (mapIn b) (y .held) .walking
+
+-- ---- sight_by, one, either, seven
+
+-- a test that is negated
+pub off : (b : Bool) → not b ≡ true → b ≡ false
+off true e = sym e
+off false e = refl
+
+pub on : (b : Bool) → not b ≡ false → b ≡ true
+on true e = refl
+on false e = sym e
+
+pub no-own : (own leads : Bool) → not own ≡ true → Other ≡ sightBy own leads
+no-own own leads n = rw (off own n)
+
+pub has-edge : (own leads : Bool) → not own ≡ false → leads ≡ true → Edge ≡ sightBy own leads
+has-edge own leads n e = rw (on own n, e)
+
+pub is-own : (own leads : Bool) → not own ≡ false → leads ≡ false → Own ≡ sightBy own leads
+is-own own leads n e = rw (on own n, e)
+
+or-false : (b : Bool) → b || false ≡ b
+or-false true = refl
+or-false false = refl
+
+pub one-side : (to side : ℕ) → eqb to side ≡ mem to (side ∷ [])
+one-side to side = sym (or-false (eqb to side))
+
+pub first-side : (to t f : ℕ) → to ≡ t → true ≡ mem to (t ∷ f ∷ [])
+first-side to t f e = rw (eq-eqb to t e)
+
+pub second-side : (to t f : ℕ) → (to ≡ t → ⊥) → eqb to f ≡ mem to (t ∷ f ∷ [])
+second-side to t f n = rw (ne-eqb to t n) (sym (or-false (eqb to f)))
+
+pub seven-missing : (to t : ℕ) → t ≡ absent → false ≡ mem to (dest (destined absent t))
+seven-missing to t e = rw (if-true (eqb t absent) nowhere (found t _) (eq-eqb t absent e))
+
+pub seven-found : (to t : ℕ) → (t ≡ absent → ⊥) → eqb to t ≡ mem to (dest (destined absent t))
+seven-found to t n = rw (if-false (eqb t absent) nowhere (found t _) (ne-eqb t absent n)) (sym (or-false (eqb to t)))
+
+-- ---- sight_of
+
+module _ {e : Entry} (mine : Bool) (y x : ℕ) {s d : ℕ} {r : Sight} where
+  pub sight-terminate : {ok : ℕ} → e ≡ Terminate s d ok → r ≡ sightBy (eqb y s) false → r ≡ sightOf e mine y x
+  sight-terminate q k = rw q k
+
+  pub sight-jump : {t : ℕ} {l : Bool} → e ≡ Jump s d t → l ≡ mem x (t ∷ []) → r ≡ sightBy (eqb y s) l → r ≡ sightOf e mine y x
+  sight-jump q g k = rw (q, ← g) k
+
+  pub sight-jumpi : {t f : ℕ} {l : Bool} → e ≡ Jumpi s d t f → l ≡ mem x (t ∷ f ∷ []) → r ≡ sightBy (eqb y s) l → r ≡ sightOf e mine y x
+  sight-jumpi q g k = rw (q, ← g) k
+
+  pub sight-dynamic-jump : {n : ℕ} → e ≡ DynamicJump s d n → r ≡ sightBy (eqb y s) false → r ≡ sightOf e mine y x
+  sight-dynamic-jump q k = rw q k
+
+  pub sight-dynamic-jumpi : {f n : ℕ} {l : Bool} → e ≡ DynamicJumpi s d f n → l ≡ mem x (f ∷ []) → r ≡ sightBy (eqb y s) l → r ≡ sightOf e mine y x
+  sight-dynamic-jumpi q g k = rw (q, ← g) k
+
+pub sight-way : {e : Entry} (mine : Bool) (y x : ℕ) {t path n : ℕ} {r : Sight} {l : Bool} → e ≡ Way t path n → l ≡ mem x (dest (destined absent t)) → r ≡ sightBy mine l → r ≡ sightOf e mine y x
+sight-way mine y x q g k = rw (q, ← g) k
+
+-- ---- one entry
+
+-- equal sides stand once
+mem-sides : (x t f : ℕ) → mem x (sides (jumpi t f)) ≡ mem x (t ∷ f ∷ [])
+mem-sides x t f = go (eqb t f) refl
+  where
+    twice : (c : Bool) → c || false ≡ c || (c || false)
+    twice true = refl
+    twice false = refl
+
+    go : (c : Bool) → eqb t f ≡ c → mem x (if c (t ∷ []) (t ∷ f ∷ [])) ≡ mem x (t ∷ f ∷ [])
+    go true e = ap (mem x) (if-true true (t ∷ []) (t ∷ f ∷ []) refl) ∙ twice (eqb x t) ∙ ap (λ (a : ℕ). mem x (t ∷ a ∷ [])) (eqb-true t f e)
+    go false e = ap (mem x) (if-false false (t ∷ []) (t ∷ f ∷ []) refl)
+
+-- what is left, by what an entry is
+abbrev goesOn : ℕ → ℕ → List Item → Sight → Bool
+goesOn x y is Edge = true
+goesOn x y is Own = edgeAmong x y true is
+goesOn x y is Other = edgeAmong x y false is
+
+module _ (x y : ℕ) (is : List Item) where
+  by-sight : (own leads : Bool) → (own && leads) || edgeAmong x y own is ≡ goesOn x y is (sightBy own leads)
+  by-sight true true = refl
+  by-sight true false = refl
+  by-sight false leads = refl
+
+  pub edge-step : (b : List ℕ) (e : Entry) (mine : Bool) → edgeAmong x y mine (itemOf b e ∷ is) ≡ goesOn x y is (sightOf e mine y x)
+  unfolding edgeAmong
+  edge-step b (Terminate s d ok) mine = by-sight (eqb y s) false
+  edge-step b (Jump s d t) mine = by-sight (eqb y s) (mem x (t ∷ []))
+  edge-step b (Jumpi s d t f) mine = ap (λ (z : Bool). (eqb y s && z) || edgeAmong x y (eqb y s) is) (mem-sides x t f) ∙ by-sight (eqb y s) (mem x (t ∷ f ∷ []))
+  edge-step b (DynamicJump s d n) mine = by-sight (eqb y s) false
+  edge-step b (DynamicJumpi s d f n) mine = by-sight (eqb y s) (mem x (f ∷ []))
+  edge-step b (Way t path n) mine = by-sight mine (mem x (dest (destined absent t)))
+  edge-step b (Head size n m energy) mine = refl
+  edge-step b (Record s t path n) mine = refl
+  edge-step b Unknown mine = refl
+  edge-step b Wrong mine = refl
+  edge-step b Cut mine = refl
+
+-- ---- the loop of seek
+
+pub record Seeking (b : List ℕ) (x y start at : ℕ) (mine : Bool) : Type 0 where
+  pub walking : Walking b at
+  pub rest : edgeFrom b x y mine at ≡ edgeFrom b x y false start
+
+pub seek-start : {b : List ℕ} {x y start : ℕ} → Walking b start → Seeking b x y start start false
+seek-start w = record { walking = w; rest = refl }
+
+module _ {b : List ℕ} {x y start at : ℕ} {mine : Bool} (i : Seeking b x y start at mine) {r : Walk} (h : r ≡ walkAt b at) where
+  pub seek-over : {all : Bool} → r ≡ Over → Sought b x y start all false
+  unfolding edgeAmong
+  seek-over q =
+      let e : edgeFrom b x y false start ≡ false = sym (i .rest) ∙ ap (edgeAmong x y mine) (ended (i .walking) h q) in
+      record { is = λ z. never (cc); no = λ _ _. e }
+
+  module _ {e : Entry} {to : ℕ} (q : r ≡ Here e to) {s : Sight} (k : s ≡ sightOf e mine y x) where
+    step : Steps b at e to
+    step = stepping (i .walking) h q
+
+    there : goesOn x y (itemsFrom b to) s ≡ edgeFrom b x y false start
+    there = ap (goesOn x y (itemsFrom b to)) k ∙ sym (edge-step x y (itemsFrom b to) b e mine) ∙ ap (edgeAmong x y mine) (sym (step .item)) ∙ i .rest
+
+    pub seek-less : length b - to < length b - at
+    seek-less = omega (arith, step .on, step .inside)
+
+    pub seek-edge : {all : Bool} → s ≡ Edge → Sought b x y start all true
+    seek-edge z =
+        let e : true ≡ edgeFrom b x y false start = ap (goesOn x y (itemsFrom b to)) (sym z) ∙ there in
+        record { is = λ _. sym e; no = λ _ f. never (cc) }
+
+    pub seek-own : s ≡ Own → Seeking b x y start to true
+    seek-own z = record { walking = step .walking; rest = ap (goesOn x y (itemsFrom b to)) (sym z) ∙ there }
+
+    pub seek-other : s ≡ Other → Seeking b x y start to false
+    seek-other z = record { walking = step .walking; rest = ap (goesOn x y (itemsFrom b to)) (sym z) ∙ there }
+
+pub seek-stops : {b : List ℕ} {x y start : ℕ} (all : Bool) → not all ≡ true → Sought b x y start all false
+seek-stops all n = let e = off all n in record { is = λ z. never (cc); no = λ f. never (cc) }
+
+-- ---- an edge that stands from an offset on is one of the map
+
+module _ (x y : ℕ) where
+  -- with the block before them as well
+  edge-mine : (mine : Bool) (is : List Item) → edgeAmong x y false is ≡ true → edgeAmong x y mine is ≡ true
+  unfolding edgeAmong
+  edge-mine mine [] e = e
+  edge-mine mine (a-block c n ∷ is) e = e
+  edge-mine mine (a-way t p ∷ is) e = or-right (mine && mem x (dest t)) _ (edge-mine mine is e)
+  edge-mine mine (a-head s n m k ∷ is) e = e
+  edge-mine mine (a-record r ∷ is) e = e
+  edge-mine mine (no-item ∷ is) e = e
+
+  -- and an entry more
+  edge-more : (mine : Bool) (i : Item) (is : List Item) → edgeAmong x y false is ≡ true → edgeAmong x y mine (i ∷ is) ≡ true
+  unfolding edgeAmong
+  edge-more mine (a-block c n) is e = or-right (eqb y (c .start) && mem x (sides (c .kind))) _ (edge-mine (eqb y (c .start)) is e)
+  edge-more mine (a-way t p) is e = or-right (mine && mem x (dest t)) _ (edge-mine mine is e)
+  edge-more mine (a-head s n m k) is e = e
+  edge-more mine (a-record r) is e = e
+  edge-more mine no-item is e = e
+
+pub pass-start : {b : List ℕ} → Ready b → Passes b 0
+pass-start y = record { walking = ready-walks y; among = λ x y e. e }
+
+module _ {b : List ℕ} {at : ℕ} (p : Passes b at) {r : Walk} (h : r ≡ walkAt b at) {e : Entry} {to : ℕ} (q : r ≡ Here e to) where
+  pub pass-on : Passes b to
+  pass-on =
+      let s = stepping (p .walking) h q in
+      record {
+        walking = s .walking;
+        among = λ x y k. p .among x y (ap (edgeAmong x y false) (s .item) ∙ edge-more x y false (itemOf b e) (itemsFrom b to) k);
+      }
+
+  pub pass-less : length b - to < length b - at
+  pass-less = let s = stepping (p .walking) h q in omega (arith, s .on, s .inside)
+
+  pub pass-in : at < length b
+  pass-in = let s = stepping (p .walking) h q in omega (arith, s .on, s .inside)
+
+-- ---- the definition's edges
+
+abbrev test : ℕ → ℕ → Final → Bool
+test x y f = eqb y (f .block .start) && mem x (targets f)
+
+and-or : (a b c : Bool) → a && (b || c) ≡ (a && b) || (a && c)
+and-or true b c = refl
+and-or false b c = refl
+
+or-assoc′ : (a b c : Bool) → (a || b) || c ≡ a || (b || c)
+or-assoc′ true b c = refl
+or-assoc′ false b c = refl
+
+and-false : (a : Bool) → a && false ≡ false
+and-false true = refl
+and-false false = refl
+
+module _ (x y : ℕ) where
+  -- the 7s that come first are of the block before, if it is the one
+  among-is : (mine : Bool) (a : ℕ) (is : List Item) → edgeAmong x y mine is ≡ (mine && mem x (dests (ways a is))) || some? (test x y) (finals-in is)
+  unfolding edgeAmong ways finals-in
+  among-is mine a [] = sym (or-false (mine && false) ∙ and-false mine)
+  among-is mine a (a-block c n ∷ is) =
+      let own = eqb y (c .start) in
+      ap (λ (z : Bool). (own && mem x (sides (c .kind))) || z) (among-is own (c .start) is)
+      ∙ sym (or-assoc′ (own && mem x (sides (c .kind))) (own && mem x (dests (ways (c .start) is))) (some? (test x y) (finals-in is)))
+      ∙ ap (λ (z : Bool). z || some? (test x y) (finals-in is))
+      (sym (and-or own (mem x (sides (c .kind))) (mem x (dests (ways (c .start) is)))) ∙ ap (λ (z : Bool). own && z) (sym (mem-append x (sides (c .kind)) (dests (ways (c .start) is)))))
+      ∙ ap (λ (z : Bool). z || (test x y (record { block = c; entries = ways (c .start) is }) || some? (test x y) (finals-in is))) (sym (and-false mine))
+  among-is mine a (a-way t p ∷ is) =
+      ap (λ (z : Bool). (mine && mem x (dest t)) || z) (among-is mine a is)
+      ∙ sym (or-assoc′ (mine && mem x (dest t)) (mine && mem x (dests (ways a is))) (some? (test x y) (finals-in is)))
+      ∙ ap (λ (z : Bool). z || some? (test x y) (finals-in is)) (sym (and-or mine (mem x (dest t)) (mem x (dests (ways a is)))) ∙ ap (λ (z : Bool). mine && z) (sym (mem-append x (dest t) (dests (ways a is)))))
+  among-is mine a (a-head s n m e ∷ is) = among-is false a is ∙ ap (λ (z : Bool). z || some? (test x y) (finals-in is)) (sym (and-false mine))
+  among-is mine a (a-record r ∷ is) = among-is false a is ∙ ap (λ (z : Bool). z || some? (test x y) (finals-in is)) (sym (and-false mine))
+  among-is mine a (no-item ∷ is) = among-is false a is ∙ ap (λ (z : Bool). z || some? (test x y) (finals-in is)) (sym (and-false mine))
+
+-- The edges that stand in the bytes are the map's.
+pub edge-is : {b : List ℕ} → Ready b → (x y : ℕ) → edgeIn b x y ≡ edge? (mapIn b) x y
+unfolding itemsFrom from
+edge-is {b} h x y = among-is x y false 0 (itemsFrom b 0) ∙ ap (some? (test x y)) (read-blocks b (mapIn b) (h .held))

@@ -1,0 +1,275 @@
+-- The path entries of the map's bytes, one after the other: what is left to look at ends as the whole does. Assumes nothing.
+use Prim.Native.Nat.{ℕ, _+_, _*_, _-_, _^_, _≤_, _<_}
+use native.Mathlib.Omega.{arith}
+use native.Mathlib.Decide.{decLe}
+use mathlib.Core.Path.{_≡_, refl, sym, ap, subst, _∙_}
+use mathlib.Core.Bool.{Bool, true, false}
+use mathlib.Core.Option.{Option, none, some}
+use mathlib.Core.List.{List, [], _∷_}
+use lib.Dec.{eqb, leb}
+use lib.ListN.{length, getD, take, drop}
+use borrow.Author.Tests.{eq-eqb, ne-eqb, leb-true, leb-false}
+use Rattle.spec.specs.Lists.{if}
+use Rattle.spec.specs.Opcodes.{in-mode}
+use Rattle.spec.specs.Stacks.{entry as no-state}
+use Rattle.spec.specs.Search.{Found, nowhere, found, Rec}
+use Rattle.spec.specs.Entries.{Map, absent}
+use Rattle.spec.specs.Forms.{announced, entry, sort}
+use Rattle.spec.specs.Reader.{Item, a-head, a-block, a-way, a-record, no-item, item-of, items, destined, addresses}
+use Rattle.spec.specs.BadEntries.{Whole}
+use Rattle.spec.specs.Inspector.{fault, fault-to, PathEntry, shows, path-entries, Inspection, not-right, accepted, or-later, first-wrong}
+use Rattle.laws.proofs.Branch.{both, if-true, if-false}
+use Rattle.theorems.proofs.Bytes.{Bytes}
+use Rattle.theorems.proofs.ReaderPlaces.{never}
+use Rattle.reader.specs.Shapes.{from, entryAt, behindAt, itemOf}
+use Rattle.reader.specs.Classes.{classOf}
+use Rattle.reader.specs.Walks.{walkAt, itemsFrom, Walking, over, here}
+use Rattle.reader.specs.declared.entry.Entry.{Entry}
+use Rattle.reader.specs.declared.entry.Entry.the-variants.{Head, Terminate, Jump, Jumpi, DynamicJump, DynamicJumpi, Way, Record, Unknown, Wrong, Cut}
+use Rattle.reader.specs.declared.class.Class.the-variants.{Bad}
+use Rattle.reader.specs.declared.walk.Walk.{Walk}
+use Rattle.reader.specs.declared.walk.Walk.the-variants.{Here, Over}
+use Rattle.reader.proofs.Onward.{from-whole, from-end}
+use Rattle.reader.proofs.Judging.{entry-cut, behind-whole}
+use Rattle.reader.proofs.Paths.{way-inside, record-inside, way-few, record-few}
+use Rattle.reader.proofs.Walked.{Steps, stepping}
+use Rattle.inspector.specs.Edges.{mapIn, Ready}
+use Rattle.inspector.specs.Tables.{Tables, Filled}
+use Rattle.inspector.specs.Judging.{pathIn, placeOf, InPath, Judged}
+use Rattle.inspector.specs.Entries.{shownOf, findingOf, lookedFrom, LooksAt}
+use Rattle.inspector.specs.declared.path.Path.{Path}
+use Rattle.inspector.specs.declared.path.Place.{Place}
+use Rattle.inspector.specs.declared.path.Place.the-variants as place
+use Rattle.inspector.specs.declared.entries.Shown.{Shown}
+use Rattle.inspector.specs.declared.entries.Shown.the-variants.{Path as Shows, Of}
+use Rattle.inspector.specs.declared.entries.Finding.the-variants as finding
+use Rattle.inspector.proofs.Seeking.{ready-walks}
+use Rattle.inspector.proofs.Tabling.{filled-same, filled-then}
+
+-- ---- shown
+
+pub way-none : {e : Entry} (b : ℕ) {t path n : ℕ} → e ≡ Way t path n → t ≡ absent → Of b ≡ shownOf e b
+way-none b {t} q z = rw q (sym (if-true (eqb t absent) (Of b) _ (eq-eqb t absent z)))
+
+pub way-shown : {e : Entry} (b : ℕ) {t path n : ℕ} → e ≡ Way t path n → (t ≡ absent → ⊥) → Shows b (record { at = path; count = n; to = t }) ≡ shownOf e b
+way-shown b {t} q z = rw q (sym (if-false (eqb t absent) (Of b) _ (ne-eqb t absent z)))
+
+pub record-none : {e : Entry} (b : ℕ) {s t path n : ℕ} → e ≡ Record s t path n → t ≡ absent → Of b ≡ shownOf e b
+record-none b {t = t} q z = rw q (sym (if-true (eqb t absent) (Of b) _ (eq-eqb t absent z)))
+
+pub record-shown : {e : Entry} (b : ℕ) {s t path n : ℕ} → e ≡ Record s t path n → (t ≡ absent → ⊥) → Shows s (record { at = path; count = n; to = t }) ≡ shownOf e b
+record-shown b {t = t} q z = rw q (sym (if-false (eqb t absent) (Of b) _ (ne-eqb t absent z)))
+
+module _ {e : Entry} (b : ℕ) {s d : ℕ} where
+  pub shown-terminate : {ok : ℕ} → e ≡ Terminate s d ok → Of s ≡ shownOf e b
+  shown-terminate q = rw q
+
+  pub shown-jump : {t : ℕ} → e ≡ Jump s d t → Of s ≡ shownOf e b
+  shown-jump q = rw q
+
+  pub shown-jumpi : {t f : ℕ} → e ≡ Jumpi s d t f → Of s ≡ shownOf e b
+  shown-jumpi q = rw q
+
+  pub shown-dynamic-jump : {n : ℕ} → e ≡ DynamicJump s d n → Of s ≡ shownOf e b
+  shown-dynamic-jump q = rw q
+
+  pub shown-dynamic-jumpi : {f n : ℕ} → e ≡ DynamicJumpi s d f n → Of s ≡ shownOf e b
+  shown-dynamic-jumpi q = rw q
+
+module _ {e : Entry} (b : ℕ) where
+  pub shown-head : {s n m x : ℕ} → e ≡ Head s n m x → Of b ≡ shownOf e b
+  shown-head q = rw q
+
+  pub shown-unknown : e ≡ Unknown → Of b ≡ shownOf e b
+  shown-unknown q = rw q
+
+  pub shown-wrong : e ≡ Wrong → Of b ≡ shownOf e b
+  shown-wrong q = rw q
+
+  pub shown-cut : e ≡ Cut → Of b ≡ shownOf e b
+  shown-cut q = rw q
+
+-- ---- one entry of the definitions
+
+module _ (mode : ℕ) (map code : List ℕ) where
+  abbrev wrong : List PathEntry → Inspection
+  wrong = first-wrong (in-mode mode) code (mapIn map)
+
+  -- what is found by what an entry shows
+  abbrev judgedBy : ℕ → (ℕ → List PathEntry) → ℕ → Shown → Inspection
+  judgedBy at on b (Shows s p) = or-later at (wrong (on b)) (fault (in-mode mode) code (mapIn map) s (pathIn map p) (p .to))
+  judgedBy at on b (Of a) = wrong (on a)
+
+  -- an entry with a destination, or none
+  by-to : (at b s t path n : ℕ) (on : ℕ → List PathEntry)
+      → or-later at (wrong (on b)) (fault-to (in-mode mode) code (mapIn map) s (addresses (take (2 * n) (drop path map))) (destined absent t))
+      ≡ judgedBy at on b (if (eqb t absent) (Of b) (Shows s (record { at = path; count = n; to = t })))
+  unfolding if
+  by-to at b s t path n on = go (eqb t absent)
+    where
+      go : (c : Bool)
+          → or-later at (wrong (on b)) (fault-to (in-mode mode) code (mapIn map) s (addresses (take (2 * n) (drop path map))) (if c nowhere (found t no-state)))
+          ≡ judgedBy at on b (if c (Of b) (Shows s (record { at = path; count = n; to = t })))
+      go true = refl
+      go false = refl
+
+  shown-by : (b at : ℕ) (on : ℕ → List PathEntry) (e : Entry) → wrong (shows b at on (itemOf map e)) ≡ judgedBy at on b (shownOf e b)
+  unfolding first-wrong
+  shown-by b at on (Way t path n) = by-to at b b t path n on
+  shown-by b at on (Record s t path n) = by-to at b s t path n on
+  shown-by b at on (Terminate s d ok) = refl
+  shown-by b at on (Jump s d t) = refl
+  shown-by b at on (Jumpi s d t f) = refl
+  shown-by b at on (DynamicJump s d n) = refl
+  shown-by b at on (DynamicJumpi s d f n) = refl
+  shown-by b at on (Head size n m energy) = refl
+  shown-by b at on Unknown = refl
+  shown-by b at on Wrong = refl
+  shown-by b at on Cut = refl
+
+-- ---- the entries that stand in the bytes
+
+-- of a whole entry
+entries-whole : (b : List ℕ) (at a : ℕ) → Whole (drop at b) → items (from b at) ≡ itemOf b (entryAt b at) ∷ items (from b (behindAt b at))
+    → path-entries a (from b at) ≡ shows a at (λ c. path-entries c (from b (behindAt b at))) (itemOf b (entryAt b at))
+unfolding path-entries items
+entries-whole b at a w e =
+    let f = from-whole b at w in
+    let g : items (from b at) ≡ item-of (sort (entry (drop at b) .kind)) (entry (drop at b) .body) ∷ items (from b (at + (6 + announced (drop at b)))) = ap items f in
+    let same : item-of (sort (entry (drop at b) .kind)) (entry (drop at b) .body) ≡ itemOf b (entryAt b at) = cc in
+    let to : at + (6 + announced (drop at b)) ≡ behindAt b at = sym (behind-whole b at w) in
+    ap (path-entries a) f
+    ∙ ap (λ (i : Item). shows a at (λ c. path-entries c (from b (at + (6 + announced (drop at b))))) i) same
+    ∙ ap (λ (n : ℕ). shows a at (λ c. path-entries c (from b n)) (itemOf b (entryAt b at))) to
+
+entries-here : (b : List ℕ) (at a : ℕ) → (classOf (entryAt b at) ≡ Bad → ⊥) → items (from b at) ≡ itemOf b (entryAt b at) ∷ items (from b (behindAt b at))
+    → path-entries a (from b at) ≡ shows a at (λ c. path-entries c (from b (behindAt b at))) (itemOf b (entryAt b at))
+entries-here b at a n e = by-whole (decLe (6 + announced (drop at b)) (length (drop at b)))
+  where
+    by-whole : Dec (Whole (drop at b)) → path-entries a (from b at) ≡ shows a at (λ c. path-entries c (from b (behindAt b at))) (itemOf b (entryAt b at))
+    by-whole (yes w) = entries-whole b at a w e
+    by-whole (no m) = absurd (n (rw (entry-cut b at m)))
+
+-- which entry the walk finds
+record AtEntry (b : List ℕ) (at : ℕ) (e : Entry) (to : ℕ) : Type 0 where
+  is : e ≡ entryAt b at
+  behind : to ≡ behindAt b at
+  good : classOf (entryAt b at) ≡ Bad → ⊥
+
+at-entry : (b : List ℕ) (at : ℕ) → Walking b at → {r : Walk} → r ≡ walkAt b at → {e : Entry} {to : ℕ} → r ≡ Here e to → AtEntry b at e to
+unfolding walkAt
+at-entry b at w {r} h {e} {to} q =
+    both (λ (x : Walk). r ≡ x → AtEntry b at e to) (leb (length b) at)
+    (λ _ (k : r ≡ Over). never (cc))
+    (λ off k. by-walk w (leb-false (length b) at off) (cc) (cc)) h
+  where
+    by-walk : Walking b at → at < length b → e ≡ entryAt b at → to ≡ behindAt b at → AtEntry b at e to
+    by-walk (over z) l p t = absurd (omega arith)
+    by-walk (here m n v) l p t = record { is = p; behind = t; good = n }
+
+at-over : (b : List ℕ) (at : ℕ) {r : Walk} → r ≡ walkAt b at → r ≡ Over → length b ≤ at
+unfolding walkAt
+at-over b at {r} h q =
+    both (λ (x : Walk). r ≡ x → length b ≤ at) (leb (length b) at)
+    (λ y _. leb-true (length b) at y)
+    (λ _ (k : r ≡ Here (entryAt b at) (behindAt b at)). never (cc)) h
+
+-- ---- the loop
+
+pub record Looking (mode : ℕ) (b code w₀ : List ℕ) (at owner : ℕ) (w : List ℕ) : Type 0 where
+  pub walking : Walking b at
+  pub filled : Filled b code w₀ w
+  pub rest : lookedFrom mode b code owner at ≡ lookedFrom mode b code 0 0
+
+pub looking-start : {mode : ℕ} {b code w : List ℕ} → Ready b → Tables b code w → Looking mode b code w 0 0 w
+looking-start y t = record { walking = ready-walks y; filled = filled-same t; rest = refl }
+
+pub looking-tables : {mode : ℕ} {b code w₀ : List ℕ} {at owner : ℕ} {w : List ℕ} → Looking mode b code w₀ at owner w → Tables b code w
+looking-tables k = k .filled .tables
+
+module _ {mode : ℕ} {b code w₀ : List ℕ} {at owner : ℕ} {w : List ℕ} (k : Looking mode b code w₀ at owner w) {r : Walk} (h : r ≡ walkAt b at) where
+  pub looking-over : r ≡ Over → LooksAt mode b code w₀ w finding.Right
+  unfolding path-entries first-wrong
+  looking-over q = record {
+    is = ap findingOf (sym (ap (λ (l : List PathEntry). first-wrong (in-mode mode) code (mapIn b) l) (ap (path-entries owner) (from-end b at (at-over b at h q)))) ∙ k .rest);
+    filled = k .filled;
+  }
+
+  module _ {e : Entry} {to : ℕ} (q : r ≡ Here e to) {s : Shown} (x : s ≡ shownOf e owner) where
+    step : Steps b at e to
+    step = stepping (k .walking) h q
+
+    pub looking-less : length b - to < length b - at
+    looking-less = omega (arith, step .on, step .inside)
+
+    is-entry : e ≡ entryAt b at
+    is-entry = at-entry b at (k .walking) h q .is
+
+    on : ℕ → List PathEntry
+    on c = path-entries c (from b to)
+
+    there : judgedBy mode b code at on owner s ≡ lookedFrom mode b code 0 0
+    unfolding on itemsFrom
+    there =
+        let a = at-entry b at (k .walking) h q in
+        let first : path-entries owner (from b at) ≡ shows owner at (λ c. path-entries c (from b to)) (itemOf b e) =
+        rw (a .is, a .behind) (entries-here b at owner (a .good) (rw (← a .is, ← a .behind) (step .item))) in
+        ap (judgedBy mode b code at on owner) x ∙ sym (shown-by mode b code owner at on e) ∙ ap (first-wrong (in-mode mode) code (mapIn b)) (sym first) ∙ k .rest
+
+    pub looking-of : {a : ℕ} → s ≡ Of a → Looking mode b code w₀ to a w
+    unfolding on
+    looking-of z = record { walking = step .walking; filled = k .filled; rest = ap (judgedBy mode b code at on owner) (sym z) ∙ there }
+
+    -- a path of the bytes
+    path-in : (d : Entry) (c : ℕ) → Bytes b → d ≡ entryAt b at → (a : ℕ) (p : Path) → Shows a p ≡ shownOf d c → InPath b p
+    unfolding if
+    path-in (Way t path n) c f i a p z = by-missing (eqb t absent) z
+      where
+        by-missing : (m : Bool) → Shows a p ≡ if m (Of c) (Shows c (record { at = path; count = n; to = t })) → InPath b p
+        by-missing true v = never (cc)
+        by-missing false v =
+            let same : record { at = path; count = n; to = t } ≡ p = cc in
+            subst (InPath b) same (record { fits = way-inside b at i refl; few = way-few b at i f refl })
+    path-in (Record s t path n) c f i a p z = by-missing (eqb t absent) z
+      where
+        by-missing : (m : Bool) → Shows a p ≡ if m (Of c) (Shows s (record { at = path; count = n; to = t })) → InPath b p
+        by-missing true v = never (cc)
+        by-missing false v =
+            let same : record { at = path; count = n; to = t } ≡ p = cc in
+            subst (InPath b) same (record { fits = record-inside b at i refl; few = record-few b at i f refl })
+    path-in (Terminate s d ok) c f i a p z = never (cc)
+    path-in (Jump s d t) c f i a p z = never (cc)
+    path-in (Jumpi s d t g) c f i a p z = never (cc)
+    path-in (DynamicJump s d n) c f i a p z = never (cc)
+    path-in (DynamicJumpi s d g n) c f i a p z = never (cc)
+    path-in (Head size n m energy) c f i a p z = never (cc)
+    path-in Unknown c f i a p z = never (cc)
+    path-in Wrong c f i a p z = never (cc)
+    path-in Cut c f i a p z = never (cc)
+
+    module _ {a : ℕ} {p : Path} (z : s ≡ Shows a p) where
+      pub looking-path : Bytes b → InPath b p
+      looking-path f = path-in e owner f is-entry a p (sym z ∙ x)
+
+      path-there : or-later at (lookedFrom mode b code owner to) (fault (in-mode mode) code (mapIn b) a (pathIn b p) (p .to)) ≡ lookedFrom mode b code 0 0
+      unfolding on
+      path-there = ap (judgedBy mode b code at on owner) (sym z) ∙ there
+
+      module _ {w₁ : List ℕ} {v : Place} (j : Judged mode b code w a p w₁ v) where
+        pub looking-right : v ≡ place.Right → Looking mode b code w₀ to owner w₁
+        looking-right u =
+            let none-there : fault (in-mode mode) code (mapIn b) a (pathIn b p) (p .to) ≡ none = right-none _ (sym u ∙ j .is) in
+            record { walking = step .walking; filled = filled-then (k .filled) (j .filled); rest = ap (or-later at (lookedFrom mode b code owner to)) (sym none-there) ∙ path-there }
+          where
+            right-none : (o : Option ℕ) → place.Right ≡ placeOf o → o ≡ none
+            right-none none f = refl
+            right-none (some i) f = never (cc)
+
+        pub looking-wrong : {i : ℕ} → v ≡ place.Fails i → LooksAt mode b code w₀ w₁ (finding.Wrong at i)
+        looking-wrong {i} u =
+            let some-there : fault (in-mode mode) code (mapIn b) a (pathIn b p) (p .to) ≡ some i = fails-some _ (sym u ∙ j .is) in
+            record { is = ap findingOf (ap (or-later at (lookedFrom mode b code owner to)) (sym some-there) ∙ path-there); filled = filled-then (k .filled) (j .filled) }
+          where
+            fails-some : (o : Option ℕ) → place.Fails i ≡ placeOf o → o ≡ some i
+            fails-some none f = never (cc)
+            fails-some (some l) f = let same : l ≡ i = cc in ap some same

@@ -1,0 +1,99 @@
+-- `along` meets its contract: each way out is a law of its own. Assumes nothing.
+use Rattle.state.specs.Modes.{modeOf}
+use Rattle.inspector.proofs.Passing.{Passed, passed-start, passed-unsound, passed-tables, passed-between, passed-unjoined, joined-lent, passed-looks, passed-less, passed-on, along-right, along-wrong}
+use lib.ListN.{length}
+use Prim.Native.Nat.{_-_}
+use borrow.Author.Needs.{needs}
+use Rattle.inspector.proofs.path.along.Statement.{statement}
+use Rattle.inspector.proofs.path.along.Tie as tie
+
+abbrev Inv-loop : tie.InvT-loop
+Inv-loop mode code map w₀ p first count i₀ last₀ x₀ w i last x = Passed (modeOf mode) map code w₀ p first x₀ i last x w
+
+abbrev μ-loop : tie.MeasureT-loop
+μ-loop mode code map w₀ p first count i₀ last₀ x₀ w i last x = p .count - i
+
+loop-holds : tie.Need-loop-holds Inv-loop μ-loop
+loop-holds c = search passed-start
+
+address-requires : tie.Need-address-requires Inv-loop μ-loop
+address-requires c κs = search needs
+
+is-sound-requires : tie.Need-is-sound-requires Inv-loop μ-loop
+is-sound-requires c κs = search needs
+
+same-length : tie.Need-same-length Inv-loop μ-loop
+same-length c = search needs
+
+returns : tie.Need-returns Inv-loop μ-loop
+returns c = search passed-unsound
+
+joined-requires : tie.Need-joined-requires Inv-loop μ-loop
+joined-requires c κs = (search needs, (search passed-tables, search passed-between))
+
+same-length-2 : tie.Need-same-length-2 Inv-loop μ-loop
+same-length-2 c = search needs
+
+returns-2 : tie.Need-returns-2 Inv-loop μ-loop
+returns-2 c = search passed-unjoined
+
+looked-requires : tie.Need-looked-requires Inv-loop μ-loop
+looked-requires c κs =
+    let edge = c .before .before .before .before in
+    let turn = edge .before .before .before .before .before in
+    (joined-lent (edge .joined .ensures), passed-looks (turn .before .loop .inv) (turn .loop-test .taken))
+
+add-i : tie.Need-add-i Inv-loop μ-loop
+add-i c = search needs
+
+loop-less : tie.Need-loop-less Inv-loop μ-loop
+loop-less c = search passed-less
+
+loop-again : tie.Need-loop-again Inv-loop μ-loop
+loop-again c =
+    let ran = c .before .before in
+    let edge = ran .before .before .before .before .before in
+    let known = edge .before .before .before in
+    let named = known .before in
+    let turn = named .before in
+    passed-on (turn .before .loop .inv) (turn .loop-test .taken) (named .address .ensures) (known .is-sound .ensures) (edge .before .before .if1 .left)
+    (edge .joined .ensures) (ran .before .before .if2 .left) (ran .looked .ensures)
+
+is-jumpdest-requires : tie.Need-is-jumpdest-requires Inv-loop μ-loop
+is-jumpdest-requires c κs = search needs
+
+same-length-3 : tie.Need-same-length-3 Inv-loop μ-loop
+same-length-3 c = search needs
+
+returns-3 : tie.Need-returns-3 Inv-loop μ-loop
+returns-3 c = search along-right
+
+same-length-4 : tie.Need-same-length-4 Inv-loop μ-loop
+same-length-4 c = search needs
+
+returns-4 : tie.Need-returns-4 Inv-loop μ-loop
+returns-4 c = search along-wrong
+
+pub along-spec : {M : Type 1} → statement M
+along-spec =
+    tie.close
+    (tie.spec
+    Inv-loop
+    μ-loop
+    loop-holds
+    address-requires
+    is-sound-requires
+    same-length
+    returns
+    joined-requires
+    same-length-2
+    returns-2
+    looked-requires
+    add-i
+    loop-less
+    loop-again
+    is-jumpdest-requires
+    same-length-3
+    returns-3
+    same-length-4
+    returns-4)

@@ -1,0 +1,81 @@
+-- The edges of a stored map, as they stand in its bytes, an entry after the other. Assumes nothing.
+use Prim.Native.Nat.{ℕ, _+_, _*_}
+use mathlib.Core.Path.{_≡_}
+use mathlib.Core.Bool.{Bool, true, false, _&&_, _||_}
+use mathlib.Core.List.{List, [], _∷_}
+use lib.Dec.{eqb}
+use Rattle.spec.specs.Lists.{mem}
+use Rattle.spec.specs.Search.{sides, dest}
+use Rattle.spec.specs.Entries.{Map, absent}
+use Rattle.spec.specs.Reader.{Reading, holds, bad, Item, a-head, a-block, a-way, a-record, no-item, destined, read}
+use Rattle.reader.specs.Walks.{itemsFrom, Walking}
+use Rattle.reader.specs.declared.entry.Entry.{Entry}
+use Rattle.reader.specs.declared.entry.Entry.the-variants.{Head, Terminate, Jump, Jumpi, DynamicJump, DynamicJumpi, Way, Record, Unknown, Wrong, Cut}
+use Rattle.inspector.specs.declared.seek.Sight.{Sight}
+use Rattle.inspector.specs.declared.seek.Sight.the-variants.{Edge, Own, Other}
+
+-- the map that accepted bytes hold
+unfoldable pub heldIn : Reading → Map
+heldIn (holds m) = m
+heldIn (bad at) = record { size = 0; energy = 0; blocks = []; recs = [] }
+
+abbrev pub mapIn : List ℕ → Map
+mapIn b = heldIn (read b)
+
+pub record Ready (b : List ℕ) : Type 0 where
+  pub held : read b ≡ holds (mapIn b)
+
+-- ---- an edge from y to x among items; `mine` says that the block before them starts at y
+
+unfoldable pub edgeAmong : ℕ → ℕ → Bool → List Item → Bool
+edgeAmong x y mine [] = false
+edgeAmong x y mine (a-block c n ∷ is) = let later = edgeAmong x y (eqb y (c .start)) is in (eqb y (c .start) && mem x (sides (c .kind))) || later
+edgeAmong x y mine (a-way t p ∷ is) = let later = edgeAmong x y mine is in (mine && mem x (dest t)) || later
+edgeAmong x y mine (a-head s n m e ∷ is) = edgeAmong x y false is
+edgeAmong x y mine (a-record r ∷ is) = edgeAmong x y false is
+edgeAmong x y mine (no-item ∷ is) = edgeAmong x y false is
+
+-- from an offset on, and of the whole map
+abbrev pub edgeFrom : List ℕ → ℕ → ℕ → Bool → ℕ → Bool
+edgeFrom b x y mine at = edgeAmong x y mine (itemsFrom b at)
+
+abbrev pub edgeIn : List ℕ → ℕ → ℕ → Bool
+edgeIn b x y = edgeFrom b x y false 0
+
+-- ---- one entry
+
+abbrev pub sightBy : Bool → Bool → Sight
+sightBy false leads = Other
+sightBy true true = Edge
+sightBy true false = Own
+
+abbrev pub sightOf : Entry → Bool → ℕ → ℕ → Sight
+sightOf (Terminate s e ok) mine y x = sightBy (eqb y s) false
+sightOf (Jump s e t) mine y x = sightBy (eqb y s) (mem x (t ∷ []))
+sightOf (Jumpi s e t f) mine y x = sightBy (eqb y s) (mem x (t ∷ f ∷ []))
+sightOf (DynamicJump s e n) mine y x = sightBy (eqb y s) false
+sightOf (DynamicJumpi s e f n) mine y x = sightBy (eqb y s) (mem x (f ∷ []))
+sightOf (Way t path n) mine y x = sightBy mine (mem x (dest (destined absent t)))
+sightOf (Head size n m energy) mine y x = Other
+sightOf (Record s t path n) mine y x = Other
+sightOf Unknown mine y x = Other
+sightOf Wrong mine y x = Other
+sightOf Cut mine y x = Other
+
+-- ---- what is found
+
+pub record Sought (b : List ℕ) (x y start : ℕ) (all r : Bool) : Type 0 where
+  pub is : r ≡ true → edgeFrom b x y false start ≡ true
+  pub no : all ≡ true → r ≡ false → edgeFrom b x y false start ≡ false
+
+-- an offset that the walk over the map comes to: an edge that stands from there on is one of the map
+pub record Passes (b : List ℕ) (at : ℕ) : Type 0 where
+  pub walking : Walking b at
+  pub among : (x y : ℕ) → edgeFrom b x y false at ≡ true → edgeIn b x y ≡ true
+
+pub record Near (b : List ℕ) (x y : ℕ) (r : Bool) : Type 0 where
+  pub is : r ≡ true → edgeIn b x y ≡ true
+
+-- an edge from y to x as a number that is not 0
+abbrev pub pairOf : ℕ → ℕ → ℕ
+pairOf y x = y * 65536 + x + 1

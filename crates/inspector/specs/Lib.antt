@@ -1,0 +1,7 @@
+pub mod Edges
+pub mod Tables
+pub mod Paths
+pub mod Symbols
+pub mod Judging
+pub mod Entries
+pub mod Calling

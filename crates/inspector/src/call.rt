@@ -1,0 +1,109 @@
+// The inspector: "takes code and a map in our form".
+use crate::entries::Finding;
+use crate::entries::entries;
+use crate::fill::fill;
+use layout::LONGEST;
+use layout::part::NEED;
+use layout::part::NEED_MORE;
+use lent::put64;
+use lent::wipe;
+use reader::read;
+use state::mode::Mode;
+ghost use mathlib.Core.Path.{_≡_};
+ghost use Prim.Native.Nat.{_≤_};
+ghost use Rattle.state.specs.Modes.{modeOf};
+ghost use Rattle.inspector.specs.Edges.{Ready};
+ghost use Rattle.inspector.specs.Symbols.{Lent};
+ghost use Rattle.inspector.specs.Calling.{refusedBy, Found, Tells, InspectedAs};
+
+// "12 as in No. 2; 17, path entry not right, with its offset".
+const BAD: usize = 12;
+
+const WRONG: usize = 17;
+
+// 0, or the number of the refusal; with 12 and 17 the entry's offset.
+pub struct Inspected {
+    pub number: usize,
+    pub value: usize,
+}
+
+// The mode of a number that is one.
+fn mode_of(mode: usize) -> Mode
+    requires { ⌜ mode ≤ 1 ⌝ }
+    ensures { λ m. ⌜ modeOf m ≡ mode ⌝ }
+{
+    if mode == 0 {
+        return Mode::Plain;
+    }
+    Mode::KnownZero
+}
+
+// The first of 1, 13 and 3 that applies to a code of n bytes, a mode, and a W of so many bytes; 0 if none does.
+fn early(n: usize, mode: usize, w: usize) -> usize
+    ensures { λ r. ⌜ r ≡ refusedBy n mode w ⌝ }
+{
+    if LONGEST < n {
+        return 1;
+    }
+    if 1 < mode {
+        return 13;
+    }
+    if w < NEED * n + NEED_MORE {
+        return 3;
+    }
+    0
+}
+
+// Judges the path entries of a map that is none of the refused, and leaves W wiped.
+fn found(mode: Mode, code: &[u8], map: &[u8], w: &mut [u8]) -> Finding
+    requires { ⌜ Ready (now map) ⌝ }
+    requires { ⌜ Lent (now code) (now w) ⌝ }
+    ensures { λ r. ⌜ Found (modeOf mode) (now (map .entry)) (now (code .entry)) (now (w .entry)) (now (w .exit)) r ⌝ }
+{
+    wipe(w);
+    fill(map, code, w);
+    let r = entries(mode, code, map, w);
+    wipe(w);
+    r
+}
+
+// Writes the place in the path, where it has 8 bytes.
+fn tell(place: &mut [u8], at: usize)
+    ensures { λ _. ⌜ Tells (now (place .entry)) at (now (place .exit)) ⌝ }
+{
+    if place.len() < 8 {
+        return;
+    }
+    put64(place, 0, at);
+}
+
+// Inspects the path entries of a stored map against a code, in mode 0 or 1.
+pub fn inspect(mode: usize, code: &[u8], map: &[u8], w: &mut [u8], place: &mut [u8]) -> Inspected
+    ensures { λ r. ⌜ InspectedAs mode (now (code .entry)) (now (map .entry)) (now (w .entry)) (now (place .entry)) (now (w .exit)) (now (place .exit)) r ⌝ }
+{
+    let number = early(code.len(), mode, w.len());
+    if number != 0 {
+        return Inspected { number, value: 0 };
+    }
+    let r = read(map);
+    if r.number != 0 {
+        wipe(w);
+        return Inspected {
+            number: BAD,
+            value: r.offset,
+        };
+    }
+    match found(mode_of(mode), code, map, w) {
+        Finding::Right => Inspected {
+            number: 0,
+            value: 0,
+        },
+        Finding::Wrong { offset, place: at } => {
+            tell(place, at);
+            Inspected {
+                number: WRONG,
+                value: offset,
+            }
+        }
+    }
+}

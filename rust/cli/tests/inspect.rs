@@ -1,0 +1,51 @@
+//! `aznifrem inspect`: a map whose paths are right, one whose record is not, and files that are no map.
+
+mod common;
+
+use std::fs;
+
+use common::{all, folder, put, run};
+
+const CODE: &str = "60056007565b005b56";
+
+/// The stored map of the code, with the record's destination, at byte 61, as given.
+fn stored(name: &str, to: u8) -> std::path::PathBuf {
+    let folder = folder(name);
+    put(&folder, "code.hex", CODE);
+    assert_eq!(all(&run(&folder, &["--to", "maps", "code.hex"])).0, 0);
+    let file = folder.join("maps/code.hex.map");
+    let mut map = fs::read(&file).expect("it was stored");
+    map[61] = to;
+    fs::write(&file, map).expect("it can be written");
+    folder
+}
+
+const WORDS: [&str; 3] = ["inspect", "maps/code.hex.map", "code.hex"];
+
+#[test]
+fn a_map_of_ours_is_right_in_both_modes() {
+    let folder = stored("inspect-right", 5);
+    let wanted = "maps/code.hex.map: every path entry with a destination is right\n";
+    for words in [&WORDS[..], &[&WORDS[..], &["--known-zero"]].concat()] {
+        let (exit, text, told) = all(&run(&folder, words));
+        assert_eq!((exit, text.as_str(), told.as_str()), (0, wanted, ""));
+    }
+}
+
+#[test]
+fn a_record_that_is_not_right_is_told_with_its_block() {
+    let folder = stored("inspect-wrong", 7);
+    let (exit, text, _) = all(&run(&folder, &WORDS));
+    let wanted =
+        "maps/code.hex.map: the record at offset 53, to 7, is not right at place 0, the block 7\n";
+    assert_eq!((exit, text.as_str()), (1, wanted));
+}
+
+#[test]
+fn what_is_no_map_is_told() {
+    let folder = folder("inspect-none");
+    put(&folder, "code.hex", CODE);
+    let (exit, text, told) = all(&run(&folder, &["inspect", "code.hex", "code.hex"]));
+    assert_eq!((exit, text.as_str()), (2, ""));
+    assert!(told.contains("is no stored map"), "{told}");
+}

@@ -1,0 +1,215 @@
+//! Maps of our own before pruning, and the same with one thing changed: the library's inspector against the model's.
+
+use codes::contract::{Style, sized};
+use codes::random::jumpy;
+use codes::{Random, from_hex, woven};
+use model::inspect::{PathEntry, path_entries};
+use model::{HIGHEST_LIMIT, Inspected, entries, inspect, unpruned_in};
+
+use crate::mismatch::{Mismatch, mismatch};
+
+/// The library's inspector, or what stands in for it in a test: mode, code, map, W, place.
+pub type Inspector = fn(u64, &[u8], &[u8], &mut [u8], &mut [u8]) -> u64;
+
+/// What came of many calls.
+#[derive(Clone, Debug, Default, PartialEq, Eq)]
+pub struct Inspections {
+    /// Accepted; 1, 13, 3; 12; 17 at the path's beginning, and further on.
+    pub accepted: u64,
+    pub refused: [u64; 3],
+    pub bad: u64,
+    pub first: u64,
+    pub later: u64,
+    pub paths: u64,
+    pub different: u64,
+    /// The first mismatches.
+    pub written_out: Vec<String>,
+}
+
+/// One call, and how many bytes are lent.
+#[derive(Clone, Debug)]
+pub struct Inspecting {
+    pub mode: u64,
+    pub code: Vec<u8>,
+    pub map: Vec<u8>,
+    pub w: usize,
+    pub place: usize,
+    /// A map of ours before pruning, in its mode, with nothing changed: it is accepted.
+    pub ours: bool,
+}
+
+/// So many calls.
+pub fn run(inspector: Inspector, count: u64, seed: u64) -> Inspections {
+    let mut all = Inspections::default();
+    let mut random = Random::new(seed);
+    let mut done = 0;
+    while done < count {
+        let maps = maps(&mut random);
+        for _ in 0..2_000.min(count - done) {
+            let call = call(&mut random, &maps);
+            all.add(inspector, &call);
+            done += 1;
+        }
+    }
+    all
+}
+
+impl Inspections {
+    /// Checks one call.
+    pub fn add(&mut self, inspector: Inspector, call: &Inspecting) {
+        let said = match check(inspector, call) {
+            Ok(said) => said,
+            Err(found) => return self.tell(&found, call),
+        };
+        match said {
+            Inspected::Accepted => {
+                self.accepted += 1;
+                self.paths += path_entries(&call.map).len() as u64;
+            }
+            _ if call.ours => {
+                let sentence = format!("a map of ours before pruning gives {said:?}");
+                self.tell(&mismatch("ours", sentence), call);
+            }
+            Inspected::Refused(1) => self.refused[0] += 1,
+            Inspected::Refused(13) => self.refused[1] += 1,
+            Inspected::Refused(_) => self.refused[2] += 1,
+            Inspected::BadEntry(_) => self.bad += 1,
+            Inspected::NotRight { place: 0, .. } => self.first += 1,
+            Inspected::NotRight { .. } => self.later += 1,
+        }
+    }
+
+    fn tell(&mut self, found: &Mismatch, call: &Inspecting) {
+        self.different += 1;
+        if self.written_out.len() < 5 {
+            let text = format!("{}: {} in {call:?}", found.kind, found.sentence);
+            self.written_out.push(text);
+        }
+    }
+}
+
+/// Holds the inspector against the model, every lent byte too.
+pub fn check(inspector: Inspector, call: &Inspecting) -> Result<Inspected, Mismatch> {
+    let (mut w, mut place) = (vec![0xaa; call.w], vec![0xbb; call.place]);
+    let given = inspector(call.mode, &call.code, &call.map, &mut w, &mut place);
+    let said = inspect(call.mode, &call.code, &call.map, call.w);
+    let (number, named) = said.told();
+    if given != number {
+        let sentence = format!("the inspector gives {given}, the model {number}");
+        return Err(mismatch("number", sentence));
+    }
+    let mut wanted = vec![0xbb; call.place];
+    if let (Some(named), Some(eight)) = (named, wanted.first_chunk_mut::<8>()) {
+        *eight = named.to_le_bytes();
+    }
+    if place != wanted {
+        return Err(mismatch("place", format!("{place:?} against {wanted:?}")));
+    }
+    let filled = if matches!(said, Inspected::Refused(_)) {
+        0xaa
+    } else {
+        0
+    };
+    if w.iter().any(|&byte| byte != filled) {
+        return Err(mismatch("w", format!("not all bytes are {filled}")));
+    }
+    Ok(said)
+}
+
+/// Maps before pruning, with their codes and modes.
+fn maps(random: &mut Random) -> Vec<(u64, Vec<u8>, Vec<u8>)> {
+    let corners = codes::corners::CORNERS;
+    let mut all: Vec<Vec<u8>> = Vec::new();
+    for _ in 0..8 {
+        all.extend(from_hex(corners[random.below(corners.len())]).ok());
+        all.push(jumpy(random, 60));
+        all.push(woven::code(random, 4, 3));
+    }
+    let bytes = random.between(200, 900);
+    all.push(sized(random, bytes, Style::Plain));
+    let mapped = all.into_iter().filter_map(|code| {
+        let mode = random.below(2) as u64;
+        let map = unpruned_in(mode == 1, HIGHEST_LIMIT, &code).ok()?;
+        let bytes = entries::write(code.len(), &map);
+        Some((mode, code, bytes))
+    });
+    mapped.collect()
+}
+
+/// A call on one of the maps, with at most one thing changed.
+fn call(random: &mut Random, maps: &[(u64, Vec<u8>, Vec<u8>)]) -> Inspecting {
+    let (mode, code, map) = &maps[random.below(maps.len())];
+    let need = 64 * code.len() + 256;
+    let mut call = Inspecting {
+        mode: *mode,
+        code: code.clone(),
+        map: map.clone(),
+        w: need + random.below(3) * 100,
+        place: random.pick(&[0, 7, 8, 11]),
+        ours: false,
+    };
+    let paths = path_entries(map);
+    match random.below(11) {
+        0 => call.mode = random.pick(&[2, 77, u64::MAX]),
+        1 => call.w = random.below(need),
+        2 => call.mode = 1 - mode,
+        3 => {
+            let at = random.below(map.len());
+            call.map[at] ^= 1 << random.below(8);
+        }
+        4 => {
+            let at = random.below(code.len().max(1));
+            if let Some(byte) = call.code.get_mut(at) {
+                *byte = random.byte();
+            }
+        }
+        5..=7 if !paths.is_empty() => {
+            let path = &paths[random.below(paths.len())];
+            change(random, &mut call.map, path, code.len());
+        }
+        8 => edge(random, &mut call.map, code.len()),
+        9 if random.below(20) == 0 => call.code = vec![0; model::LONGEST_CODE + 1],
+        _ => call.ours = true,
+    }
+    call
+}
+
+/// One number of a path entry: its destination, its start, or a block of its path.
+fn change(random: &mut Random, map: &mut [u8], path: &PathEntry, length: usize) {
+    let body = path.offset + 6;
+    let (to, addresses) = if path.kind == 8 {
+        (body + 2, body + 8)
+    } else {
+        (body, body + 6)
+    };
+    let at = match random.below(4) {
+        0 => to,
+        1 => body,
+        _ => addresses + 2 * random.below(path.path.len().max(1)),
+    };
+    let value = random.below(length + 2) as u16;
+    if let Some(two) = map.get_mut(at..at + 2) {
+        two.copy_from_slice(&value.to_le_bytes());
+    }
+}
+
+/// One side of a block: an edge that goes elsewhere.
+fn edge(random: &mut Random, map: &mut [u8], length: usize) {
+    let mut sides = Vec::new();
+    let mut at = 0;
+    while let Some(header) = map.get(at..at + 6) {
+        let body = u32::from_le_bytes([header[0], header[1], header[2], header[3]]) as usize;
+        match header[4] {
+            3 | 6 => sides.push(at + 10),
+            4 => sides.extend([at + 10, at + 12]),
+            _ => {}
+        }
+        at += 6 + body;
+    }
+    if sides.is_empty() {
+        return;
+    }
+    let side = sides[random.below(sides.len())];
+    let value = random.below(length + 2) as u16;
+    map[side..side + 2].copy_from_slice(&value.to_le_bytes());
+}
