@@ -167,11 +167,11 @@ uint64_t aznifrem_follow(const uint8_t *map, size_t map_len, const uint8_t *code
 /* Inspects a stored map, whoever made it, against a code, in mode 0 or 1: each path entry with a
  * destination is right only if replaying its blocks leads to that destination.
  *
- *   w      64 bytes times the code's length and 256 more
+ *   w      AZNIFREM_WORK(code_len) bytes
  *   place  8 bytes, or fewer: the place in the path of the first block that fails, little-endian
  *
- * Gives 0; or the number of a code that is too long, a mode that is none or a w that is too short,
- * tested in that order: then nothing is touched. Or AZNIFREM_BAD_ENTRY and 256 times the offset of the
+ * Gives 0; or AZNIFREM_CODE_TOO_LONG, AZNIFREM_NO_SUCH_MODE or AZNIFREM_W_SHORT, tested in that
+ * order: then nothing is touched. Or AZNIFREM_BAD_ENTRY and 256 times the offset of the
  * first bad entry, AZNIFREM_WRONG_PATH and 256 times the offset of the first path entry that is not
  * right (AZNIFREM_OFFSET). Then, and on 0, w is all zero bytes; place is written with
  * AZNIFREM_WRONG_PATH alone, and where it has 8 bytes. w and place may not overlap each other, nor code

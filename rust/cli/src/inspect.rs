@@ -29,7 +29,7 @@ pub const COMMAND: Command = Command {
     }],
     notes: &[
         "A path entry with a destination is right if its blocks are joined by edges of that map, start within the code, run no unknown byte, and lead to the destination. Maps of ours are accepted as they were before pruning; as answered, a path through a pruned block is not.",
-        "The entries behind a 7 that is not right are not looked at; records are all looked at.",
+        "Every record that is not right is told. A 7 that is not right is told too, and what stands behind it is not looked at then.",
     ],
     exits: &[
         (0, "every path entry with a destination is right"),
@@ -113,5 +113,10 @@ fn sentence(map: &[u8], wrong: &WrongPath) -> String {
         return format!("{kind} at offset {offset}, to {to}, is not right: its path is empty");
     }
     let block = two(path + 2 * place);
+    if place == 0 {
+        return format!(
+            "{kind} at offset {offset}, to {to}, is not right: its first block, {block}, fails, or it does not lead there"
+        );
+    }
     format!("{kind} at offset {offset}, to {to}, is not right at place {place}, the block {block}")
 }

@@ -36,8 +36,7 @@ fn a_map_of_ours_is_right_in_both_modes() {
 fn a_record_that_is_not_right_is_told_with_its_block() {
     let folder = stored("inspect-wrong", 7);
     let (exit, text, _) = all(&run(&folder, &WORDS));
-    let wanted =
-        "maps/code.hex.map: the record at offset 53, to 7, is not right at place 0, the block 7\n";
+    let wanted = "maps/code.hex.map: the record at offset 53, to 7, is not right: its first block, 7, fails, or it does not lead there\n";
     assert_eq!((exit, text.as_str()), (1, wanted));
 }
 
