@@ -3,7 +3,7 @@
 use std::io::Write;
 use std::path::{Path, PathBuf};
 
-use aznifrem::{Inspected, Mode, WrongPath};
+use aznifrem::{Inspected, LONGEST_CODE, Mode, WrongPath};
 
 use crate::input::{self, Form};
 use crate::names::shown;
@@ -89,10 +89,15 @@ fn inspected(
     mode: Mode,
 ) -> Result<(Vec<u8>, Inspected), String> {
     let stored = stored::read(map)?;
-    let code =
+    let bytes =
         input::code(code, form).map_err(|sentence| format!("{}: {sentence}", shown(code)))?;
-    let inspected = Inspected::of(&stored.bytes, &code, mode);
-    let inspected = inspected.map_err(|error| format!("{}: {error}", shown(map)))?;
+    let at_fault = if bytes.len() > LONGEST_CODE {
+        code
+    } else {
+        map
+    };
+    let inspected = Inspected::of(&stored.bytes, &bytes, mode);
+    let inspected = inspected.map_err(|error| format!("{}: {error}", shown(at_fault)))?;
     Ok((stored.bytes, inspected))
 }
 

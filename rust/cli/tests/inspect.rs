@@ -48,3 +48,15 @@ fn what_is_no_map_is_told() {
     assert_eq!((exit, text.as_str()), (2, ""));
     assert!(told.contains("is no stored map"), "{told}");
 }
+
+#[test]
+fn a_code_that_is_too_long_is_told_by_its_own_name() {
+    let folder = stored("inspect-long", 5);
+    put(&folder, "long.hex", &"00".repeat(24_577));
+    let (exit, text, told) = all(&run(&folder, &[WORDS[0], WORDS[1], "long.hex"]));
+    assert_eq!((exit, text.as_str()), (2, ""));
+    assert!(
+        told.starts_with("long.hex: the code has 24577 bytes"),
+        "{told}"
+    );
+}
