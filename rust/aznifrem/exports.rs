@@ -1,8 +1,8 @@
 // The exported calls of the proved library, one line each and nowhere else: its numbers, each a u64, then its slices of bytes in
 // their order, each lent to be read or to be written. The relay, the linked functions and the safe ones are all made from this.
 exports! {
-    aznifrem_map(limit, mode; read code, write w, write p, write s, write t, write r, write q, write out);
-    aznifrem_json(limit, mode; read code, write w, write p, write s, write t, write r, write q, write out, write text);
+    aznifrem_map(limit, choice, mode; read code, write w, write p, write s, write t, write r, write q, write out);
+    aznifrem_json(limit, choice, mode; read code, write w, write p, write s, write t, write r, write q, write out, write text);
     aznifrem_read(; read map);
     aznifrem_report_add(; write report, read map);
     aznifrem_report_join(; write report, read other);

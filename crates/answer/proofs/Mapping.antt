@@ -46,9 +46,9 @@ tested n limit mode w =
     (λ is. both (Early n limit mode w) (ltb w (work-need n)) (λ on. scant refl (ltb-false _ _ short) (ltb-false _ _ limited) (ltb-false _ _ is) (ltb-true _ _ on))
     (λ lent. taken refl (ltb-false _ _ short) (ltb-false _ _ limited) (ltb-false _ _ is) (ltb-false _ _ lent)))))
 
-module _ (limit mode : ℕ) (code : List ℕ) (l : Lent) where
+module _ (limit choice mode : ℕ) (code : List ℕ) (l : Lent) where
   -- the answer is the first of them
-  refuses : {x : ℕ} → Early (length code) limit mode (l .w) x → (x ≡ 0 → ⊥) → (within 1 3 x || eqb x 13 ≡ true) × (answer (in-mode mode) l limit code ≡ refused x)
+  refuses : {x : ℕ} → Early (length code) limit mode (l .w) x → (x ≡ 0 → ⊥) → (within 1 3 x || eqb x 13 ≡ true) × (answer (in-mode mode) l limit choice code ≡ refused x)
   unfolding answer
   refuses (long e h) z = rw e (refl, if-true (ltb longest (length code)) _ _ (lt-ltb _ _ h))
   refuses (over e short h) z =
@@ -67,7 +67,7 @@ module _ (limit mode : ℕ) (code : List ℕ) (l : Lent) where
       )
   refuses (taken e short limited is lent) z = absurd (z e)
 
-  answer-rest : length code ≤ longest → limit ≤ 500000 → mode ≤ 1 → work-need (length code) ≤ l .w → answer (in-mode mode) l limit code ≡ rest l limit mode code
+  answer-rest : length code ≤ longest → limit ≤ 500000 → mode ≤ 1 → work-need (length code) ≤ l .w → answer (in-mode mode) l limit choice code ≡ rest l limit choice mode code
   unfolding answer
   answer-rest short limited is lent =
       if-false (ltb longest (length code)) _ _ (le-ltb _ _ short) ∙ if-false (ltb 500000 limit) _ _ (le-ltb _ _ limited) ∙ if-false (ltb 1 mode) _ _ (le-ltb _ _ is)
@@ -94,16 +94,16 @@ early-mode n limit w {mode} {x} is z = by (subst (Early n limit mode w) (sym is)
     by (scant e short limited m h) z = absurd (omega arith)
     by (taken e short limited m lent) z = m
 
-late-all : (limit mode : ℕ) (code : List ℕ) (l : Lent) → Late (numberOf (rest l limit mode code))
-late-all limit mode code l = late-rest l (mapped (in-mode mode) code (searched (in-mode mode) limit code)) _ (late-shortage l (searched (in-mode mode) limit code .needs))
+late-all : (limit choice mode : ℕ) (code : List ℕ) (l : Lent) → Late (numberOf (rest l limit choice mode code))
+late-all limit choice mode code l = late-rest l (mapped (in-mode mode) choice code (searched (in-mode mode) limit code)) _ (late-shortage l (searched (in-mode mode) limit code .needs))
 
 -- ---- the entry
 
-module _ (limit mode : ℕ) (code : List ℕ) (m : Mem) (out : List ℕ) where
+module _ (limit choice mode : ℕ) (code : List ℕ) (m : Mem) (out : List ℕ) where
   -- nothing is touched
-  untouched : (n : ℕ) → within 1 3 n || eqb n 13 ≡ true → answer (in-mode mode) (lentOf m out) limit code ≡ refused n → Mapped limit mode code m out m out (record { number = n; written = 0 })
+  untouched : (n : ℕ) → within 1 3 n || eqb n 13 ≡ true → answer (in-mode mode) (lentOf m out) limit choice code ≡ refused n → Mapped limit choice mode code m out m out (record { number = n; written = 0 })
   untouched n h e =
-      let same : (b : List ℕ) → b ≡ room-after (answer (in-mode mode) (lentOf m out) limit code) b = stays (answer (in-mode mode) (lentOf m out) limit code) n h e in
+      let same : (b : List ℕ) → b ≡ room-after (answer (in-mode mode) (lentOf m out) limit choice code) b = stays (answer (in-mode mode) (lentOf m out) limit choice code) n h e in
       record {
         tells = record { number = sym (ap numberOf e); count = sym (ap (λ (x : spec.Answer). length (written x)) e); out-is = sym (ap (λ (x : spec.Answer). output-after x out) e) };
         w = same (m .w);
@@ -115,46 +115,46 @@ module _ (limit mode : ℕ) (code : List ℕ) (m : Mem) (out : List ℕ) where
       }
 
   pub mapped-early : {x : ℕ} {a : Answer} → x ≡ earlyOf (length code) limit mode (length (m .w)) → (x ≡ 0 → ⊥) → a ≡ record { number = x; written = 0 }
-      → Mapped limit mode code m out m out a
+      → Mapped limit choice mode code m out m out a
   mapped-early {x} is z e =
-      let k = refuses limit mode code (lentOf m out) (subst (Early (length code) limit mode (length (m .w))) (sym is) (tested _ _ _ _)) z in
+      let k = refuses limit choice mode code (lentOf m out) (subst (Early (length code) limit mode (length (m .w))) (sym is) (tested _ _ _ _)) z in
       rw e (untouched x (k .0) (k .1))
 
   module _ (h : Lends limit code (m .w)) (is-mode : mode ≤ 1) {k : ℕ} (is-number : k ≡ mode) {m₁ m′ : Mem} {out′ : List ℕ} {a : Answer}
-      (run : Ran limit k code m out out′ a) (x : Wiped m₁ m′) where
-    ran : Ran limit mode code m out out′ a
-    ran = subst (λ (j : ℕ). Ran limit j code m out out′ a) is-number run
+      (run : Ran limit choice k code m out out′ a) (x : Wiped m₁ m′) where
+    ran : Ran limit choice mode code m out out′ a
+    ran = subst (λ (j : ℕ). Ran limit choice j code m out out′ a) is-number run
 
     pub mapped-run : length (m₁ .w) ≡ length (m .w) → length (m₁ .p) ≡ length (m .p) → length (m₁ .s) ≡ length (m .s) → length (m₁ .t) ≡ length (m .t)
-        → length (m₁ .r) ≡ length (m .r) → length (m₁ .q) ≡ length (m .q) → Mapped limit mode code m out m′ out′ a
+        → length (m₁ .r) ≡ length (m .r) → length (m₁ .q) ≡ length (m .q) → Mapped limit choice mode code m out m′ out′ a
     mapped-run ew ep es et er eq =
-        let is : answer (in-mode mode) (lentOf m out) limit code ≡ rest (lentOf m out) limit mode code = answer-rest limit mode code (lentOf m out) (h .short) (h .limited) is-mode (h .lent) in
-        let late : Late (numberOf (answer (in-mode mode) (lentOf m out) limit code)) = subst (λ (y : spec.Answer). Late (numberOf y)) (sym is) (late-all limit mode code (lentOf m out)) in
+        let is : answer (in-mode mode) (lentOf m out) limit choice code ≡ rest (lentOf m out) limit choice mode code = answer-rest limit choice mode code (lentOf m out) (h .short) (h .limited) is-mode (h .lent) in
+        let late : Late (numberOf (answer (in-mode mode) (lentOf m out) limit choice code)) = subst (λ (y : spec.Answer). Late (numberOf y)) (sym is) (late-all limit choice mode code (lentOf m out)) in
         record {
           tells = record {
             number = ran .number ∙ sym (ap numberOf is);
             count = ran .count ∙ sym (ap (λ (y : spec.Answer). length (written y)) is);
             out-is = ran .out-is ∙ sym (ap (λ (y : spec.Answer). output-after y out) is);
           };
-          w = wiped (answer (in-mode mode) (lentOf m out) limit code) late (m .w) (m₁ .w) ew (x .w);
-          p = wiped (answer (in-mode mode) (lentOf m out) limit code) late (m .p) (m₁ .p) ep (x .p);
-          s = wiped (answer (in-mode mode) (lentOf m out) limit code) late (m .s) (m₁ .s) es (x .s);
-          t = wiped (answer (in-mode mode) (lentOf m out) limit code) late (m .t) (m₁ .t) et (x .t);
-          r = wiped (answer (in-mode mode) (lentOf m out) limit code) late (m .r) (m₁ .r) er (x .r);
-          q = wiped (answer (in-mode mode) (lentOf m out) limit code) late (m .q) (m₁ .q) eq (x .q);
+          w = wiped (answer (in-mode mode) (lentOf m out) limit choice code) late (m .w) (m₁ .w) ew (x .w);
+          p = wiped (answer (in-mode mode) (lentOf m out) limit choice code) late (m .p) (m₁ .p) ep (x .p);
+          s = wiped (answer (in-mode mode) (lentOf m out) limit choice code) late (m .s) (m₁ .s) es (x .s);
+          t = wiped (answer (in-mode mode) (lentOf m out) limit choice code) late (m .t) (m₁ .t) et (x .t);
+          r = wiped (answer (in-mode mode) (lentOf m out) limit choice code) late (m .r) (m₁ .r) er (x .r);
+          q = wiped (answer (in-mode mode) (lentOf m out) limit choice code) late (m .q) (m₁ .q) eq (x .q);
         }
 
 -- ---- with the text
 
-module _ (limit mode : ℕ) (code : List ℕ) (m : Mem) (out text : List ℕ) where
+module _ (limit choice mode : ℕ) (code : List ℕ) (m : Mem) (out text : List ℕ) where
   abbrev given : spec.Answer
-  given = json-answer (in-mode mode) (lentOf m out) (length text) limit code
+  given = json-answer (in-mode mode) (lentOf m out) (length text) limit choice code
 
-  given-as : {x : spec.Answer} → answer (in-mode mode) (lentOf m out) limit code ≡ x → given ≡ within-text (length text) x
+  given-as : {x : spec.Answer} → answer (in-mode mode) (lentOf m out) limit choice code ≡ x → given ≡ within-text (length text) x
   unfolding json-answer
   given-as e = ap (within-text (length text)) e
 
-  untouched-both : (n : ℕ) → within 1 3 n || eqb n 13 ≡ true → given ≡ refused n → MappedBoth limit mode code m out text m out text (record { number = n; written = 0; texted = 0 })
+  untouched-both : (n : ℕ) → within 1 3 n || eqb n 13 ≡ true → given ≡ refused n → MappedBoth limit choice mode code m out text m out text (record { number = n; written = 0; texted = 0 })
   untouched-both n h e =
       let same : (b : List ℕ) → b ≡ room-after given b = stays given n h e in
       record {
@@ -174,22 +174,22 @@ module _ (limit mode : ℕ) (code : List ℕ) (m : Mem) (out text : List ℕ) wh
       }
 
   pub both-early : {x : ℕ} {a : Both} → x ≡ earlyOf (length code) limit mode (length (m .w)) → (x ≡ 0 → ⊥) → a ≡ record { number = x; written = 0; texted = 0 }
-      → MappedBoth limit mode code m out text m out text a
+      → MappedBoth limit choice mode code m out text m out text a
   both-early {x} is z e =
-      let k = refuses limit mode code (lentOf m out) (subst (Early (length code) limit mode (length (m .w))) (sym is) (tested _ _ _ _)) z in
+      let k = refuses limit choice mode code (lentOf m out) (subst (Early (length code) limit mode (length (m .w))) (sym is) (tested _ _ _ _)) z in
       rw e (untouched-both x (k .0) (given-as (k .1)))
 
   module _ (h : Lends limit code (m .w)) (is-mode : mode ≤ 1) {k : ℕ} (is-number : k ≡ mode) {m₁ m′ : Mem} {out′ text′ : List ℕ} {a : Both}
-      (run : RanBoth limit k code m out out′ text text′ a) (x : Wiped m₁ m′) where
-    ran-both : RanBoth limit mode code m out out′ text text′ a
-    ran-both = subst (λ (j : ℕ). RanBoth limit j code m out out′ text text′ a) is-number run
+      (run : RanBoth limit choice k code m out out′ text text′ a) (x : Wiped m₁ m′) where
+    ran-both : RanBoth limit choice mode code m out out′ text text′ a
+    ran-both = subst (λ (j : ℕ). RanBoth limit choice j code m out out′ text text′ a) is-number run
 
     pub both-run : length (m₁ .w) ≡ length (m .w) → length (m₁ .p) ≡ length (m .p) → length (m₁ .s) ≡ length (m .s) → length (m₁ .t) ≡ length (m .t)
-        → length (m₁ .r) ≡ length (m .r) → length (m₁ .q) ≡ length (m .q) → MappedBoth limit mode code m out text m′ out′ text′ a
+        → length (m₁ .r) ≡ length (m .r) → length (m₁ .q) ≡ length (m .q) → MappedBoth limit choice mode code m out text m′ out′ text′ a
     both-run ew ep es et er eq =
-        let is : given ≡ within-text (length text) (rest (lentOf m out) limit mode code) = given-as (answer-rest limit mode code (lentOf m out) (h .short) (h .limited) is-mode (h .lent)) in
+        let is : given ≡ within-text (length text) (rest (lentOf m out) limit choice mode code) = given-as (answer-rest limit choice mode code (lentOf m out) (h .short) (h .limited) is-mode (h .lent)) in
         let late : Late (numberOf given)
-        = subst (λ (y : spec.Answer). Late (numberOf y)) (sym is) (late-text (length text) (rest (lentOf m out) limit mode code) (late-all limit mode code (lentOf m out))) in
+        = subst (λ (y : spec.Answer). Late (numberOf y)) (sym is) (late-text (length text) (rest (lentOf m out) limit choice mode code) (late-all limit choice mode code (lentOf m out))) in
         record {
           tells = record {
             number = ran-both .number ∙ sym (ap numberOf is);

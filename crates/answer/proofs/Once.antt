@@ -10,7 +10,7 @@ use Rattle.answer.specs.declared.both.Both.{Both}
 pub same-rooms : {m n : Mem} → m .w ≡ n .w → m .p ≡ n .p → m .s ≡ n .s → m .t ≡ n .t → m .r ≡ n .r → m .q ≡ n .q → m ≡ n
 same-rooms w p s t r q = λ i. record { w = w i; p = p i; s = s i; t = t i; r = r i; q = q i }
 
-pub one-mapped : {limit mode : ℕ} {code out u v : List ℕ} {m m′ m″ : Mem} {a e : Answer} → Mapped limit mode code m out m′ u a → Mapped limit mode code m out m″ v e
+pub one-mapped : {limit choice mode : ℕ} {code out u v : List ℕ} {m m′ m″ : Mem} {a e : Answer} → Mapped limit choice mode code m out m′ u a → Mapped limit choice mode code m out m″ v e
     → (a ≡ e) × (m′ ≡ m″) × (u ≡ v)
 one-mapped c d =
     let number = c .tells .number ∙ sym (d .tells .number) in
@@ -20,8 +20,8 @@ one-mapped c d =
       c .tells .out-is ∙ sym (d .tells .out-is),
     )
 
-pub one-both : {limit mode : ℕ} {code out text o p t u : List ℕ} {m x y : Mem} {a b : Both} → MappedBoth limit mode code m out text x o t a
-    → MappedBoth limit mode code m out text y p u b → (a ≡ b) × (x ≡ y) × (o ≡ p) × (t ≡ u)
+pub one-both : {limit choice mode : ℕ} {code out text o p t u : List ℕ} {m x y : Mem} {a b : Both} → MappedBoth limit choice mode code m out text x o t a
+    → MappedBoth limit choice mode code m out text y p u b → (a ≡ b) × (x ≡ y) × (o ≡ p) × (t ≡ u)
 one-both c d =
     let number = c .tells .number ∙ sym (d .tells .number) in
     let count = c .tells .count ∙ sym (d .tells .count) in

@@ -37,7 +37,7 @@ earlyOf n limit mode w = if (ltb longest n) 1 (if (ltb 500000 limit) 2 (if (ltb 
 pub record Leaves (limit mode : ℕ) (code w r q : List ℕ) (m energy : ℕ) : Type 0 where
   pub recs : List Rec
   pub ends : Ends w r q (length code) m mode code recs
-  pub is : mapOf mode code recs energy ≡ mapped (in-mode mode) code (searched (in-mode mode) limit code)
+  pub is : (choice : ℕ) → mapOf mode code recs energy choice ≡ mapped (in-mode mode) choice code (searched (in-mode mode) limit code)
   pub short : length code ≤ longest
   pub small : energy < 2 ^ 32
 
@@ -49,9 +49,9 @@ pub record Finds (limit mode : ℕ) (code : List ℕ) (m : Mem) (w r q : List �
 -- ---- the entry
 
 -- the answer that is left once 1, 2, 13 and 3 are tested
-abbrev pub rest : Lent → ℕ → ℕ → List ℕ → spec.Answer
-rest l limit mode code =
-    within-rooms (within-out l (mapped (in-mode mode) code (searched (in-mode mode) limit code))) (shortage l (searched (in-mode mode) limit code .needs))
+abbrev pub rest : Lent → ℕ → ℕ → ℕ → List ℕ → spec.Answer
+rest l limit choice mode code =
+    within-rooms (within-out l (mapped (in-mode mode) choice code (searched (in-mode mode) limit code))) (shortage l (searched (in-mode mode) limit code .needs))
 
 -- the number and the count are the answer's, and the output holds its bytes and then its own old ones
 pub record Tells (x : spec.Answer) (out out′ : List ℕ) (a : Answer) : Type 0 where
@@ -59,8 +59,8 @@ pub record Tells (x : spec.Answer) (out out′ : List ℕ) (a : Answer) : Type 0
   pub count : a .written ≡ length (written x)
   pub out-is : out′ ≡ output-after x out
 
-abbrev pub Ran : ℕ → ℕ → List ℕ → Mem → List ℕ → List ℕ → Answer → Type 0
-Ran limit mode code m out out′ a = Tells (rest (lentOf m out) limit mode code) out out′ a
+abbrev pub Ran : ℕ → ℕ → ℕ → List ℕ → Mem → List ℕ → List ℕ → Answer → Type 0
+Ran limit choice mode code m out out′ a = Tells (rest (lentOf m out) limit choice mode code) out out′ a
 
 -- every byte of the rooms is 0
 pub record Wiped (m m′ : Mem) : Type 0 where
@@ -72,14 +72,14 @@ pub record Wiped (m m′ : Mem) : Type 0 where
   pub q : m′ .q ≡ replicate (length (m .q)) 0
 
 -- all that document 01 says of a call
-pub record Mapped (limit mode : ℕ) (code : List ℕ) (m : Mem) (out : List ℕ) (m′ : Mem) (out′ : List ℕ) (a : Answer) : Type 0 where
-  pub tells : Tells (answer (in-mode mode) (lentOf m out) limit code) out out′ a
-  pub w : m′ .w ≡ room-after (answer (in-mode mode) (lentOf m out) limit code) (m .w)
-  pub p : m′ .p ≡ room-after (answer (in-mode mode) (lentOf m out) limit code) (m .p)
-  pub s : m′ .s ≡ room-after (answer (in-mode mode) (lentOf m out) limit code) (m .s)
-  pub t : m′ .t ≡ room-after (answer (in-mode mode) (lentOf m out) limit code) (m .t)
-  pub r : m′ .r ≡ room-after (answer (in-mode mode) (lentOf m out) limit code) (m .r)
-  pub q : m′ .q ≡ room-after (answer (in-mode mode) (lentOf m out) limit code) (m .q)
+pub record Mapped (limit choice mode : ℕ) (code : List ℕ) (m : Mem) (out : List ℕ) (m′ : Mem) (out′ : List ℕ) (a : Answer) : Type 0 where
+  pub tells : Tells (answer (in-mode mode) (lentOf m out) limit choice code) out out′ a
+  pub w : m′ .w ≡ room-after (answer (in-mode mode) (lentOf m out) limit choice code) (m .w)
+  pub p : m′ .p ≡ room-after (answer (in-mode mode) (lentOf m out) limit choice code) (m .p)
+  pub s : m′ .s ≡ room-after (answer (in-mode mode) (lentOf m out) limit choice code) (m .s)
+  pub t : m′ .t ≡ room-after (answer (in-mode mode) (lentOf m out) limit choice code) (m .t)
+  pub r : m′ .r ≡ room-after (answer (in-mode mode) (lentOf m out) limit choice code) (m .r)
+  pub q : m′ .q ≡ room-after (answer (in-mode mode) (lentOf m out) limit choice code) (m .q)
 
 -- ---- with the text
 
@@ -92,19 +92,19 @@ pub record TellsBoth (x : spec.Answer) (out out′ text text′ : List ℕ) (a :
   pub text-is : text′ ≡ text-after x text
 
 -- 9 and 11 tested, and the rest written, for the map that W, R and Q hold
-pub record PutBoth (w r q : List ℕ) (n m energy : ℕ) (out out′ text text′ : List ℕ) (a : Both) : Type 0 where
+pub record PutBoth (w r q : List ℕ) (n m energy choice : ℕ) (out out′ text text′ : List ℕ) (a : Both) : Type 0 where
   pub answer : (mode : ℕ) (code : List ℕ) (recs : List Rec) → Ends w r q n m mode code recs → (l : Lent) → length out ≡ l .out
-      → TellsBoth (within-text (length text) (within-out l (mapOf mode code recs energy))) out out′ text text′ a
+      → TellsBoth (within-text (length text) (within-out l (mapOf mode code recs energy choice))) out out′ text text′ a
 
-abbrev pub RanBoth : ℕ → ℕ → List ℕ → Mem → List ℕ → List ℕ → List ℕ → List ℕ → Both → Type 0
-RanBoth limit mode code m out out′ text text′ a = TellsBoth (within-text (length text) (rest (lentOf m out) limit mode code)) out out′ text text′ a
+abbrev pub RanBoth : ℕ → ℕ → ℕ → List ℕ → Mem → List ℕ → List ℕ → List ℕ → List ℕ → Both → Type 0
+RanBoth limit choice mode code m out out′ text text′ a = TellsBoth (within-text (length text) (rest (lentOf m out) limit choice mode code)) out out′ text text′ a
 
 -- all that documents 01 and 02 say of a call with a text buffer
-pub record MappedBoth (limit mode : ℕ) (code : List ℕ) (m : Mem) (out text : List ℕ) (m′ : Mem) (out′ text′ : List ℕ) (a : Both) : Type 0 where
-  pub tells : TellsBoth (json-answer (in-mode mode) (lentOf m out) (length text) limit code) out out′ text text′ a
-  pub w : m′ .w ≡ room-after (json-answer (in-mode mode) (lentOf m out) (length text) limit code) (m .w)
-  pub p : m′ .p ≡ room-after (json-answer (in-mode mode) (lentOf m out) (length text) limit code) (m .p)
-  pub s : m′ .s ≡ room-after (json-answer (in-mode mode) (lentOf m out) (length text) limit code) (m .s)
-  pub t : m′ .t ≡ room-after (json-answer (in-mode mode) (lentOf m out) (length text) limit code) (m .t)
-  pub r : m′ .r ≡ room-after (json-answer (in-mode mode) (lentOf m out) (length text) limit code) (m .r)
-  pub q : m′ .q ≡ room-after (json-answer (in-mode mode) (lentOf m out) (length text) limit code) (m .q)
+pub record MappedBoth (limit choice mode : ℕ) (code : List ℕ) (m : Mem) (out text : List ℕ) (m′ : Mem) (out′ text′ : List ℕ) (a : Both) : Type 0 where
+  pub tells : TellsBoth (json-answer (in-mode mode) (lentOf m out) (length text) limit choice code) out out′ text text′ a
+  pub w : m′ .w ≡ room-after (json-answer (in-mode mode) (lentOf m out) (length text) limit choice code) (m .w)
+  pub p : m′ .p ≡ room-after (json-answer (in-mode mode) (lentOf m out) (length text) limit choice code) (m .p)
+  pub s : m′ .s ≡ room-after (json-answer (in-mode mode) (lentOf m out) (length text) limit choice code) (m .s)
+  pub t : m′ .t ≡ room-after (json-answer (in-mode mode) (lentOf m out) (length text) limit choice code) (m .t)
+  pub r : m′ .r ≡ room-after (json-answer (in-mode mode) (lentOf m out) (length text) limit choice code) (m .r)
+  pub q : m′ .q ≡ room-after (json-answer (in-mode mode) (lentOf m out) (length text) limit choice code) (m .q)

@@ -32,18 +32,19 @@ fn put_both(
     n: usize,
     m: usize,
     energy: usize,
+    choice: usize,
 ) -> Both
     requires { ⌜ Writes (now w) (now r) (now q) n m energy ⌝ }
-    ensures { λ a. ⌜ PutBoth (now (w .entry)) (now (r .entry)) (now (q .entry)) n m energy (now (out .entry)) (now (out .exit)) (now (text .entry)) (now (text .exit)) a ⌝ }
+    ensures { λ a. ⌜ PutBoth (now (w .entry)) (now (r .entry)) (now (q .entry)) n m energy choice (now (out .entry)) (now (out .exit)) (now (text .entry)) (now (text .exit)) a ⌝ }
 {
     let size = text_size(w, r, q, n, m);
     if units(text.len(), 1) < size {
-        if units(out.len(), 1) < entries_size(w, r, q, n, m, energy) {
+        if units(out.len(), 1) < entries_size(w, r, q, n, m, energy, choice) {
             return refused_both(9);
         }
         return refused_both(11);
     }
-    let written = write_entries(w, r, q, out, n, m, energy);
+    let written = write_entries(w, r, q, out, n, m, energy, choice);
     if written == 0 {
         return refused_both(9);
     }
@@ -58,6 +59,7 @@ fn put_both(
 // The map of a code that is taken, with no room wiped yet.
 fn run_both(
     limit: usize,
+    choice: usize,
     mode: Mode,
     code: &[u8],
     w: &mut [u8],
@@ -70,19 +72,20 @@ fn run_both(
     text: &mut [u8],
 ) -> Both
     requires { ⌜ Lends limit (now code) (now w) ⌝ }
-    ensures { λ a. ⌜ RanBoth limit (modeOf mode) (now (code .entry)) (buffers (now (w .entry)) (now (p .entry)) (now (s .entry)) (now (t .entry)) (now (r .entry)) (now (q .entry)))
+    ensures { λ a. ⌜ RanBoth limit choice (modeOf mode) (now (code .entry)) (buffers (now (w .entry)) (now (p .entry)) (now (s .entry)) (now (t .entry)) (now (r .entry)) (now (q .entry)))
         (now (out .entry)) (now (out .exit)) (now (text .entry)) (now (text .exit)) a ⌝ }
 {
     let d = find(limit, mode, code, w, p, s, t, r, q);
     if d.number != 0 {
         return refused_both(d.number);
     }
-    put_both(w, r, q, out, text, code.len(), d.records, d.energy)
+    put_both(w, r, q, out, text, code.len(), d.records, d.energy, choice)
 }
 
 // "A call that does what the entry does and also fills a text buffer": as `map_code`, with an eighth lent buffer.
 pub fn map_json(
     limit: usize,
+    choice: usize,
     mode: usize,
     code: &[u8],
     w: &mut [u8],
@@ -94,7 +97,7 @@ pub fn map_json(
     out: &mut [u8],
     text: &mut [u8],
 ) -> Both
-    ensures { λ a. ⌜ MappedBoth limit mode (now (code .entry)) (buffers (now (w .entry)) (now (p .entry)) (now (s .entry)) (now (t .entry)) (now (r .entry)) (now (q .entry)))
+    ensures { λ a. ⌜ MappedBoth limit choice mode (now (code .entry)) (buffers (now (w .entry)) (now (p .entry)) (now (s .entry)) (now (t .entry)) (now (r .entry)) (now (q .entry)))
         (now (out .entry)) (now (text .entry)) (buffers (now (w .exit)) (now (p .exit)) (now (s .exit)) (now (t .exit)) (now (r .exit)) (now (q .exit)))
         (now (out .exit)) (now (text .exit)) a ⌝ }
 {
@@ -102,7 +105,20 @@ pub fn map_json(
     if number != 0 {
         return refused_both(number);
     }
-    let a = run_both(limit, mode_of(mode), code, w, p, s, t, r, q, out, text);
+    let a = run_both(
+        limit,
+        choice,
+        mode_of(mode),
+        code,
+        w,
+        p,
+        s,
+        t,
+        r,
+        q,
+        out,
+        text,
+    );
     wipe_rooms(w, p, s, t, r, q);
     a
 }

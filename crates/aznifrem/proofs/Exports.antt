@@ -25,15 +25,15 @@ count-given : (x : spec.Answer) → numberOf x ≡ 0 → length (written x) ≡ 
 count-given (refused n) h = sym h
 count-given (answered m) h = refl
 
-module _ {limit mode : ℕ} {code : List ℕ} {m m′ : Mem} {out out′ : List ℕ} {a : Answer} (d : Mapped limit mode code m out m′ out′ a) where
-  given : (x : ℕ) → x ≡ exported (spec.answer (in-mode mode) (lentOf m out) limit code) → Exported limit mode code m out m′ out′ x
+module _ {limit choice mode : ℕ} {code : List ℕ} {m m′ : Mem} {out out′ : List ℕ} {a : Answer} (d : Mapped limit choice mode code m out m′ out′ a) where
+  given : (x : ℕ) → x ≡ exported (spec.answer (in-mode mode) (lentOf m out) limit choice code) → Exported limit choice mode code m out m′ out′ x
   given x e = record { number = e; out-is = d .tells .out-is; w = d .w; p = d .p; s = d .s; t = d .t; r = d .r; q = d .q }
 
-  pub exported-number : (a .number ≡ 0 → ⊥) → Exported limit mode code m out m′ out′ (a .number)
-  exported-number h = given (a .number) (d .tells .number ∙ number-given (spec.answer (in-mode mode) (lentOf m out) limit code) (λ z. h (d .tells .number ∙ z)))
+  pub exported-number : (a .number ≡ 0 → ⊥) → Exported limit choice mode code m out m′ out′ (a .number)
+  exported-number h = given (a .number) (d .tells .number ∙ number-given (spec.answer (in-mode mode) (lentOf m out) limit choice code) (λ z. h (d .tells .number ∙ z)))
 
-  pub exported-count : a .number ≡ 0 → Exported limit mode code m out m′ out′ (a .written)
-  exported-count z = given (a .written) (d .tells .count ∙ count-given (spec.answer (in-mode mode) (lentOf m out) limit code) (sym (d .tells .number) ∙ z))
+  pub exported-count : a .number ≡ 0 → Exported limit choice mode code m out m′ out′ (a .written)
+  exported-count z = given (a .written) (d .tells .count ∙ count-given (spec.answer (in-mode mode) (lentOf m out) limit choice code) (sym (d .tells .number) ∙ z))
 
 -- ---- with the text
 
@@ -50,9 +50,9 @@ pub record Few (x : spec.Answer) : Type 0 where
   pub out : length (written x) ≤ 2 ^ 30
   pub text : length (texted x) ≤ 2 ^ 30
 
-module _ {limit mode : ℕ} {code : List ℕ} {m m′ : Mem} {out text out′ text′ : List ℕ} {a : Both} (d : MappedBoth limit mode code m out text m′ out′ text′ a) where
+module _ {limit choice mode : ℕ} {code : List ℕ} {m m′ : Mem} {out text out′ text′ : List ℕ} {a : Both} (d : MappedBoth limit choice mode code m out text m′ out′ text′ a) where
   abbrev answers : spec.Answer
-  answers = json-answer (in-mode mode) (lentOf m out) (length text) limit code
+  answers = json-answer (in-mode mode) (lentOf m out) (length text) limit choice code
 
   few : Few answers
   few = by answers refl
@@ -60,7 +60,7 @@ module _ {limit mode : ℕ} {code : List ℕ} {m m′ : Mem} {out text out′ te
       by : (y : spec.Answer) → answers ≡ y → Few y
       by (refused n) e = record { out = omega arith; text = omega arith }
       by (answered x) e =
-          let g = gave-text (in-mode mode) (lentOf m out) (length text) limit code x e in
+          let g = gave-text (in-mode mode) (lentOf m out) (length text) limit choice code x e in
           record { out = omega (arith, g .output, min-le-right (length out / 1) (2 ^ 30)); text = omega (arith, g .text-room, min-le-right (length text / 1) (2 ^ 30)) }
 
   pub written-few : a .written ≤ 2 ^ 30
@@ -72,12 +72,12 @@ module _ {limit mode : ℕ} {code : List ℕ} {m m′ : Mem} {out text out′ te
   pub sum-few : a .written + 2 ^ 32 * a .texted ≤ 2 ^ 63
   sum-few = omega (arith, written-few, texted-few)
 
-  given-json : (x : ℕ) → x ≡ exported-json answers → ExportedJson limit mode code m out text m′ out′ text′ x
+  given-json : (x : ℕ) → x ≡ exported-json answers → ExportedJson limit choice mode code m out text m′ out′ text′ x
   given-json x e = record { number = e; out-is = d .tells .out-is; text-is = d .tells .text-is; w = d .w; p = d .p; s = d .s; t = d .t; r = d .r; q = d .q }
 
-  pub json-number-given : (a .number ≡ 0 → ⊥) → ExportedJson limit mode code m out text m′ out′ text′ (a .number)
+  pub json-number-given : (a .number ≡ 0 → ⊥) → ExportedJson limit choice mode code m out text m′ out′ text′ (a .number)
   json-number-given h = given-json (a .number) (d .tells .number ∙ number-both answers (λ z. h (d .tells .number ∙ z)))
 
-  pub json-counts-given : a .number ≡ 0 → ExportedJson limit mode code m out text m′ out′ text′ (a .written + 2 ^ 32 * a .texted)
+  pub json-counts-given : a .number ≡ 0 → ExportedJson limit choice mode code m out text m′ out′ text′ (a .written + 2 ^ 32 * a .texted)
   json-counts-given z =
       given-json (a .written + 2 ^ 32 * a .texted) (rw (d .tells .count, d .tells .shows) (counts-both answers (sym (d .tells .number) ∙ z)))

@@ -12,7 +12,7 @@ use Rattle.aznifrem.specs.Archives.{ExportedSalvage}
 use Rattle.aznifrem.specs.FollowContract.{ExportedFollow}
 use Rattle.aznifrem.specs.InspectContract.{ExportedInspect}
 
-pub one-exported : {limit mode x y : ℕ} {code out u v : List ℕ} {m m′ m″ : Mem} → Exported limit mode code m out m′ u x → Exported limit mode code m out m″ v y
+pub one-exported : {limit choice mode x y : ℕ} {code out u v : List ℕ} {m m′ m″ : Mem} → Exported limit choice mode code m out m′ u x → Exported limit choice mode code m out m″ v y
     → (x ≡ y) × (m′ ≡ m″) × (u ≡ v)
 one-exported c d = (
   c .number ∙ sym (d .number),
@@ -20,8 +20,8 @@ one-exported c d = (
   c .out-is ∙ sym (d .out-is),
 )
 
-pub one-exported-json : {limit mode a b : ℕ} {code out text o p t u : List ℕ} {m x y : Mem} → ExportedJson limit mode code m out text x o t a
-    → ExportedJson limit mode code m out text y p u b → (a ≡ b) × (x ≡ y) × (o ≡ p) × (t ≡ u)
+pub one-exported-json : {limit choice mode a b : ℕ} {code out text o p t u : List ℕ} {m x y : Mem} → ExportedJson limit choice mode code m out text x o t a
+    → ExportedJson limit choice mode code m out text y p u b → (a ≡ b) × (x ≡ y) × (o ≡ p) × (t ≡ u)
 one-exported-json c d = (
   c .number ∙ sym (d .number),
   same-rooms (c .w ∙ sym (d .w)) (c .p ∙ sym (d .p)) (c .s ∙ sym (d .s)) (c .t ∙ sym (d .t)) (c .r ∙ sym (d .r)) (c .q ∙ sym (d .q)),

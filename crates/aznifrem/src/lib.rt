@@ -20,10 +20,13 @@ ghost use Rattle.layout.specs.Buffers.{buffers};
 ghost use Rattle.aznifrem.specs.Contracts.{Exported, ExportedJson};
 pub use archive::aznifrem_salvage;
 
-// Maps a code at an energy limit, in mode 0 or 1, over seven lent buffers; gives the number of the refusal, or the bytes written, which are never under 18 (`answered-long`).
+// Maps a code at an energy limit, in mode 0 or 1, over seven lent buffers; gives the number of the refusal, or the bytes written, which are never under 18
+// (`answered-long`). With choice 0 the records have their numbers: "written as a new record kind 9: start, to, energy, path length, path. Kind 8 is still
+// written if the caller's choice number is not 0".
 #[no_mangle]
 pub extern "C" fn aznifrem_map(
     limit: u64,
+    choice: u64,
     mode: u64,
     code: &[u8],
     w: &mut [u8],
@@ -34,10 +37,22 @@ pub extern "C" fn aznifrem_map(
     q: &mut [u8],
     out: &mut [u8],
 ) -> u64
-    ensures { λ x. ⌜ Exported limit mode (now (code .entry)) (buffers (now (w .entry)) (now (p .entry)) (now (s .entry)) (now (t .entry)) (now (r .entry)) (now (q .entry)))
+    ensures { λ x. ⌜ Exported limit choice mode (now (code .entry)) (buffers (now (w .entry)) (now (p .entry)) (now (s .entry)) (now (t .entry)) (now (r .entry)) (now (q .entry)))
         (now (out .entry)) (buffers (now (w .exit)) (now (p .exit)) (now (s .exit)) (now (t .exit)) (now (r .exit)) (now (q .exit))) (now (out .exit)) x ⌝ }
 {
-    let a = map_code(limit as usize, mode as usize, code, w, p, s, t, r, q, out);
+    let a = map_code(
+        limit as usize,
+        choice as usize,
+        mode as usize,
+        code,
+        w,
+        p,
+        s,
+        t,
+        r,
+        q,
+        out,
+    );
     if a.number != 0 {
         return a.number as u64;
     }
@@ -49,6 +64,7 @@ pub extern "C" fn aznifrem_map(
 #[no_mangle]
 pub extern "C" fn aznifrem_json(
     limit: u64,
+    choice: u64,
     mode: u64,
     code: &[u8],
     w: &mut [u8],
@@ -60,12 +76,13 @@ pub extern "C" fn aznifrem_json(
     out: &mut [u8],
     text: &mut [u8],
 ) -> u64
-    ensures { λ x. ⌜ ExportedJson limit mode (now (code .entry)) (buffers (now (w .entry)) (now (p .entry)) (now (s .entry)) (now (t .entry)) (now (r .entry)) (now (q .entry)))
+    ensures { λ x. ⌜ ExportedJson limit choice mode (now (code .entry)) (buffers (now (w .entry)) (now (p .entry)) (now (s .entry)) (now (t .entry)) (now (r .entry)) (now (q .entry)))
         (now (out .entry)) (now (text .entry)) (buffers (now (w .exit)) (now (p .exit)) (now (s .exit)) (now (t .exit)) (now (r .exit)) (now (q .exit)))
         (now (out .exit)) (now (text .exit)) x ⌝ }
 {
     let b = map_json(
         limit as usize,
+        choice as usize,
         mode as usize,
         code,
         w,

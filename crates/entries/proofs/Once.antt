@@ -16,11 +16,11 @@ one-answered {bs} {out} {u} {v} {a} {e} p q = go (decLt (units (length out) 1) (
     go (yes h) = (p .short h .0 ∙ sym (q .short h .0), p .short h .1 ∙ sym (q .short h .1))
     go (no h) = let l : length bs ≤ units (length out) 1 = omega arith in (p .fits l .0 ∙ sym (q .fits l .0), p .fits l .1 ∙ sym (q .fits l .1))
 
-pub one-written : {w r q out u v : List ℕ} {n m energy a e : ℕ} → Writes w r q n m energy → Written w r q n m energy out u a → Written w r q n m energy out v e
+pub one-written : {w r q out u v : List ℕ} {n m energy choice a e : ℕ} → Writes w r q n m energy → Written w r q n m energy choice out u a → Written w r q n m energy choice out v e
     → (a ≡ e) × (u ≡ v)
 one-written h f g = one-answered (f .answer (h .mode) (h .code) (h .recs) (h .ends)) (g .answer (h .mode) (h .code) (h .recs) (h .ends))
 
-pub one-size : {w r q : List ℕ} {n m energy j k : ℕ} → Writes w r q n m energy → Sized w r q n m energy j → Sized w r q n m energy k → j ≡ k
+pub one-size : {w r q : List ℕ} {n m energy choice j k : ℕ} → Writes w r q n m energy → Sized w r q n m energy choice j → Sized w r q n m energy choice k → j ≡ k
 one-size h s t = s .is (h .mode) (h .code) (h .recs) (h .ends) ∙ sym (t .is (h .mode) (h .code) (h .recs) (h .ends))
 
 pub one-begin : {r : List ℕ} {i d e : ℕ} → Ended r i d → Ended r i e → d ≡ e

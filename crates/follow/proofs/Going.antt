@@ -97,7 +97,7 @@ ways-dests a [] = refl
 ways-dests a (a-way t p ∷ is) = rw (ways-dests a is)
 ways-dests a (a-head s n m e ∷ is) = refl
 ways-dests a (a-block b n ∷ is) = refl
-ways-dests a (a-record r ∷ is) = refl
+ways-dests a (a-record c r ∷ is) = refl
 ways-dests a (no-item ∷ is) = refl
 
 -- the ways out of seen_in
@@ -151,7 +151,7 @@ seen-is b is (DynamicJumpi s x f n) =
     record { final = record { block = block s s x (dynamic-jumpi f); entries = ways s is }; first = refl; start = refl; end = refl; named = ap (λ (l : List ℕ). distinct (f ∷ l)) (sym (ways-dests s is)); few = omega arith }
 seen-is b is (Head z n m y) = refl
 seen-is b is (Way t p n) = refl
-seen-is b is (Record s t p n) = refl
+seen-is b is (Record s t f v p n) = refl
 seen-is b is Unknown = refl
 seen-is b is Wrong = refl
 seen-is b is Cut = refl
@@ -242,7 +242,7 @@ out-is b is (Jumpi s x t f) = refl
 out-is b is (DynamicJump s x n) = refl
 out-is b is (DynamicJumpi s x f n) = refl
 out-is b is (Head z n m y) = refl
-out-is b is (Record s t p n) = refl
+out-is b is (Record s t f v p n) = refl
 out-is b is Unknown = refl
 out-is b is Wrong = refl
 out-is b is Cut = refl

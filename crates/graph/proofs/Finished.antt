@@ -13,7 +13,7 @@ use Rattle.spec.specs.Answer.{prepared}
 use Rattle.laws.proofs.Members.{In, here}
 use Rattle.lent.specs.Bytes.{numAt}
 use Rattle.layout.specs.Edges.{E-WITNESS, E-OWN, E-LINKS, E-ENDS, endAt}
-use Rattle.layout.specs.Records.{recordPlace, endOf, startAt, toAt}
+use Rattle.layout.specs.Records.{recordPlace, endOf, startAt, toAt, R-ENERGY, energyAt}
 use Rattle.initial.specs.Rows.{blocksAt}
 use Rattle.initial.proofs.Rows.{blocks-prefix}
 use Rattle.tables.specs.Records.{pathAt, recAt, recsOf}
@@ -57,6 +57,12 @@ module _ {mode : ℕ} {code s : List ℕ} {room m : ℕ} {w r q w₁ r₁ w₂ r
   edge-lands : (i : ℕ) → i < m → (u : ℕ) (v : Stack) → recAt r q s room i .to ≡ found u v → u ≤ length code
   edge-lands i h u v d = f .lie (recAt r q s room i) (rec-in r q s room m i h) .to u (rw d here)
 
+  -- the number stays where it was recorded
+  number : (i : ℕ) → i < m → energyAt r₂ i ≡ energyAt r i
+  number i h =
+      num-in r₂ r₁ 16 (recordPlace i + E-ENDS) (p .stay .after i h) 4 (recordPlace i + R-ENERGY) (omega arith) (omega arith)
+      ∙ num-in r₁ r 12 (recordPlace i + 20) (e .rows i h .rest) 4 (recordPlace i + R-ENERGY) (omega arith) (omega arith)
+
   edge-of : (i : ℕ) → i < m → EdgeOf (length code) w₂ r₂ q i (recAt r q s room i)
   unfolding recAt pathAt
   edge-of i h = record {
@@ -64,6 +70,7 @@ module _ {mode : ℕ} {code s : List ℕ} {room m : ℕ} {w r q w₁ r₁ w₂ r
     to = front i h E-OWN (omega arith) ∙ e .rows i h .to ∙ sym (rec-destination r q s room i);
     last = front i h E-WITNESS (omega arith) ∙ e .rows i h .last ∙ sym (rec-last f i h);
     path = rw (ends i (omega arith), ends (suc i) (omega arith));
+    energy = number i h;
     rises = rw (ends i (omega arith), ends (suc i) (omega arith)) (f .rows i h .rises);
     inQ = rw (ends (suc i) (omega arith)) (f .rows i h .inQ);
     inR = omega (arith, f .rows i h .inR, e .long, p .stay .long);

@@ -13,7 +13,7 @@ use Rattle.spec.specs.Entries.{destination}
 use Rattle.spec.specs.Answer.{prepared}
 use Rattle.lent.specs.Bytes.{numAt}
 use Rattle.layout.specs.Edges.{E-WITNESS, E-OWN, endAt}
-use Rattle.layout.specs.Records.{RECORD, recordPlace}
+use Rattle.layout.specs.Records.{RECORD, recordPlace, energyAt}
 use Rattle.initial.specs.Rows.{blocksAt}
 use Rattle.tables.specs.Addrs.{addrs}
 use Rattle.reachable.specs.Marks.{flagged}
@@ -26,6 +26,7 @@ pub record EdgeOf (n : ℕ) (w r q : List ℕ) (i : ℕ) (x : Rec) : Type 0 wher
   pub to : numAt 2 r (recordPlace i + E-OWN) ≡ destination (x .to)
   pub last : numAt 2 r (recordPlace i + E-WITNESS) ≡ lastOf (x .path)
   pub path : addrs q (endAt r i) (endAt r (suc i) - endAt r i) ≡ x .path
+  pub energy : energyAt r i ≡ x .energy
   pub rises : endAt r i ≤ endAt r (suc i)
   pub inQ : 2 * endAt r (suc i) ≤ length q
   pub inR : recordPlace i + RECORD ≤ length r

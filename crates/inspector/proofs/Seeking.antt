@@ -136,7 +136,7 @@ module _ (x y : ℕ) (is : List Item) where
   edge-step b (DynamicJumpi s d f n) mine = by-sight (eqb y s) (mem x (f ∷ []))
   edge-step b (Way t path n) mine = by-sight mine (mem x (dest (destined absent t)))
   edge-step b (Head size n m energy) mine = refl
-  edge-step b (Record s t path n) mine = refl
+  edge-step b (Record s t form v path n) mine = refl
   edge-step b Unknown mine = refl
   edge-step b Wrong mine = refl
   edge-step b Cut mine = refl
@@ -191,7 +191,7 @@ module _ (x y : ℕ) where
   edge-mine mine (a-block c n ∷ is) e = e
   edge-mine mine (a-way t p ∷ is) e = or-right (mine && mem x (dest t)) _ (edge-mine mine is e)
   edge-mine mine (a-head s n m k ∷ is) e = e
-  edge-mine mine (a-record r ∷ is) e = e
+  edge-mine mine (a-record numbered r ∷ is) e = e
   edge-mine mine (no-item ∷ is) e = e
 
   -- and an entry more
@@ -200,7 +200,7 @@ module _ (x y : ℕ) where
   edge-more mine (a-block c n) is e = or-right (eqb y (c .start) && mem x (sides (c .kind))) _ (edge-mine (eqb y (c .start)) is e)
   edge-more mine (a-way t p) is e = or-right (mine && mem x (dest t)) _ (edge-mine mine is e)
   edge-more mine (a-head s n m k) is e = e
-  edge-more mine (a-record r) is e = e
+  edge-more mine (a-record numbered r) is e = e
   edge-more mine no-item is e = e
 
 pub pass-start : {b : List ℕ} → Ready b → Passes b 0
@@ -255,7 +255,7 @@ module _ (x y : ℕ) where
       ∙ sym (or-assoc′ (mine && mem x (dest t)) (mine && mem x (dests (ways a is))) (some? (test x y) (finals-in is)))
       ∙ ap (λ (z : Bool). z || some? (test x y) (finals-in is)) (sym (and-or mine (mem x (dest t)) (mem x (dests (ways a is)))) ∙ ap (λ (z : Bool). mine && z) (sym (mem-append x (dest t) (dests (ways a is)))))
   among-is mine a (a-head s n m e ∷ is) = among-is false a is ∙ ap (λ (z : Bool). z || some? (test x y) (finals-in is)) (sym (and-false mine))
-  among-is mine a (a-record r ∷ is) = among-is false a is ∙ ap (λ (z : Bool). z || some? (test x y) (finals-in is)) (sym (and-false mine))
+  among-is mine a (a-record numbered r ∷ is) = among-is false a is ∙ ap (λ (z : Bool). z || some? (test x y) (finals-in is)) (sym (and-false mine))
   among-is mine a (no-item ∷ is) = among-is false a is ∙ ap (λ (z : Bool). z || some? (test x y) (finals-in is)) (sym (and-false mine))
 
 -- The edges that stand in the bytes are the map's.

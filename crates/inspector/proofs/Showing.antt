@@ -54,10 +54,10 @@ way-none b {t} q z = rw q (sym (if-true (eqb t absent) (Of b) _ (eq-eqb t absent
 pub way-shown : {e : Entry} (b : ℕ) {t path n : ℕ} → e ≡ Way t path n → (t ≡ absent → ⊥) → Shows b (record { at = path; count = n; to = t }) ≡ shownOf e b
 way-shown b {t} q z = rw q (sym (if-false (eqb t absent) (Of b) _ (ne-eqb t absent z)))
 
-pub record-none : {e : Entry} (b : ℕ) {s t path n : ℕ} → e ≡ Record s t path n → t ≡ absent → Of b ≡ shownOf e b
+pub record-none : {e : Entry} (b : ℕ) {s t form v path n : ℕ} → e ≡ Record s t form v path n → t ≡ absent → Of b ≡ shownOf e b
 record-none b {t = t} q z = rw q (sym (if-true (eqb t absent) (Of b) _ (eq-eqb t absent z)))
 
-pub record-shown : {e : Entry} (b : ℕ) {s t path n : ℕ} → e ≡ Record s t path n → (t ≡ absent → ⊥) → Shows s (record { at = path; count = n; to = t }) ≡ shownOf e b
+pub record-shown : {e : Entry} (b : ℕ) {s t form v path n : ℕ} → e ≡ Record s t form v path n → (t ≡ absent → ⊥) → Shows s (record { at = path; count = n; to = t }) ≡ shownOf e b
 record-shown b {t = t} q z = rw q (sym (if-false (eqb t absent) (Of b) _ (ne-eqb t absent z)))
 
 module _ {e : Entry} (b : ℕ) {s d : ℕ} where
@@ -116,7 +116,7 @@ module _ (mode : ℕ) (map code : List ℕ) where
   shown-by : (b at : ℕ) (on : ℕ → List PathEntry) (e : Entry) → wrong (shows b at on (itemOf map e)) ≡ judgedBy at on b (shownOf e b)
   unfolding first-wrong
   shown-by b at on (Way t path n) = by-to at b b t path n on
-  shown-by b at on (Record s t path n) = by-to at b s t path n on
+  shown-by b at on (Record s t form v path n) = by-to at b s t path n on
   shown-by b at on (Terminate s d ok) = refl
   shown-by b at on (Jump s d t) = refl
   shown-by b at on (Jumpi s d t f) = refl
@@ -230,7 +230,7 @@ module _ {mode : ℕ} {b code w₀ : List ℕ} {at owner : ℕ} {w : List ℕ} (
         by-missing false v =
             let same : record { at = path; count = n; to = t } ≡ p = cc in
             subst (InPath b) same (record { fits = way-inside b at i refl; few = way-few b at i f refl })
-    path-in (Record s t path n) c f i a p z = by-missing (eqb t absent) z
+    path-in (Record s t form v path n) c f i a p z = by-missing (eqb t absent) z
       where
         by-missing : (m : Bool) → Shows a p ≡ if m (Of c) (Shows s (record { at = path; count = n; to = t })) → InPath b p
         by-missing true v = never (cc)

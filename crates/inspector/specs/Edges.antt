@@ -17,7 +17,7 @@ use Rattle.inspector.specs.declared.seek.Sight.the-variants.{Edge, Own, 
 -- the map that accepted bytes hold
 unfoldable pub heldIn : Reading → Map
 heldIn (holds m) = m
-heldIn (bad at) = record { size = 0; energy = 0; blocks = []; recs = [] }
+heldIn (bad at) = record { size = 0; energy = 0; blocks = []; recs = []; numbered = false }
 
 abbrev pub mapIn : List ℕ → Map
 mapIn b = heldIn (read b)
@@ -32,7 +32,7 @@ edgeAmong x y mine [] = false
 edgeAmong x y mine (a-block c n ∷ is) = let later = edgeAmong x y (eqb y (c .start)) is in (eqb y (c .start) && mem x (sides (c .kind))) || later
 edgeAmong x y mine (a-way t p ∷ is) = let later = edgeAmong x y mine is in (mine && mem x (dest t)) || later
 edgeAmong x y mine (a-head s n m e ∷ is) = edgeAmong x y false is
-edgeAmong x y mine (a-record r ∷ is) = edgeAmong x y false is
+edgeAmong x y mine (a-record numbered r ∷ is) = edgeAmong x y false is
 edgeAmong x y mine (no-item ∷ is) = edgeAmong x y false is
 
 -- from an offset on, and of the whole map
@@ -57,7 +57,7 @@ sightOf (DynamicJump s e n) mine y x = sightBy (eqb y s) false
 sightOf (DynamicJumpi s e f n) mine y x = sightBy (eqb y s) (mem x (f ∷ []))
 sightOf (Way t path n) mine y x = sightBy mine (mem x (dest (destined absent t)))
 sightOf (Head size n m energy) mine y x = Other
-sightOf (Record s t path n) mine y x = Other
+sightOf (Record s t form v path n) mine y x = Other
 sightOf Unknown mine y x = Other
 sightOf Wrong mine y x = Other
 sightOf Cut mine y x = Other

@@ -19,7 +19,7 @@ use Rattle.inspector.specs.declared.entries.Finding.the-variants as find
 
 abbrev pub shownOf : Entry → ℕ → Shown
 shownOf (Way t path n) b = if (eqb t absent) (Of b) (Path b (record { at = path; count = n; to = t }))
-shownOf (Record s t path n) b = if (eqb t absent) (Of b) (Path s (record { at = path; count = n; to = t }))
+shownOf (Record s t form v path n) b = if (eqb t absent) (Of b) (Path s (record { at = path; count = n; to = t }))
 shownOf (Terminate s e ok) b = Of s
 shownOf (Jump s e t) b = Of s
 shownOf (Jumpi s e t f) b = Of s

@@ -49,6 +49,7 @@ fn shown_in(e: Entry, owner: usize) -> Shown
             to,
             path,
             count,
+            ..
         } => {
             if to == MISSING {
                 return Shown::Of(owner);

@@ -8,7 +8,7 @@ use Rattle.json.specs.Contracts.{Sized, Written}
 
 module _ {w r q : List ℕ} {n m : ℕ} (x : Writes w r q n m 0) where
   pub one-size : {j k : ℕ} → Sized w r q n m j → Sized w r q n m k → j ≡ k
-  one-size s t = s .is (x .mode) (x .code) (x .recs) 0 (x .ends) ∙ sym (t .is (x .mode) (x .code) (x .recs) 0 (x .ends))
+  one-size s t = s .is (x .mode) (x .code) (x .recs) 0 0 (x .ends) ∙ sym (t .is (x .mode) (x .code) (x .recs) 0 0 (x .ends))
 
   pub one-text : {out y z : List ℕ} {j k : ℕ} → Written w r q n m out y j → Written w r q n m out z k → (j ≡ k) × (y ≡ z)
-  one-text a b = one-answered (a .answer (x .mode) (x .code) (x .recs) 0 (x .ends)) (b .answer (x .mode) (x .code) (x .recs) 0 (x .ends))
+  one-text a b = one-answered (a .answer (x .mode) (x .code) (x .recs) 0 0 (x .ends)) (b .answer (x .mode) (x .code) (x .recs) 0 0 (x .ends))

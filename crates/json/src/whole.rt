@@ -19,7 +19,7 @@ fn add_map(out: &mut [u8], w: &[u8], n: usize, r: &[u8], q: &[u8], m: usize) -> 
     add_text(out, end, b"]")
 }
 
-// How many bytes the text has: it is put into a byte that nobody reads. The energy is no part of it, and is taken as 0.
+// How many bytes the text has: it is put into a byte that nobody reads. Energy and choice are no part of it.
 pub fn text_size(w: &[u8], r: &[u8], q: &[u8], n: usize, m: usize) -> usize
     requires { ⌜ Writes (now w) (now r) (now q) n m 0 ⌝ }
     ensures { λ size. ⌜ Sized (now (w .entry)) (now (r .entry)) (now (q .entry)) n m size ⌝ }

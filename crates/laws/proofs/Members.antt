@@ -1,7 +1,7 @@
 -- Members of lists, and of what the definitions make of lists. Assumes nothing.
 use Prim.Native.Nat.{ℕ, zero, suc, _≤_, _<_}
 use native.Mathlib.Omega.{arith}
-use mathlib.Core.Path.{_≡_, refl, sym, ap, subst}
+use mathlib.Core.Path.{_≡_, refl, sym, ap, subst, _∙_}
 use mathlib.Core.Logic.{_⊎_, inl, inr}
 use mathlib.Core.Bool.{Bool, true, false, _&&_, _||_, true≢false, or-assoc}
 use mathlib.Core.List.{List, [], _∷_, _++_, map, append-assoc}
@@ -10,7 +10,7 @@ use lib.ListN.{length, getD}
 use borrow.Author.Tests.{eqb-true, eq-eqb}
 use Rattle.spec.specs.Lists.{mem, some?, keep, gather}
 pub use Rattle.laws.specs.Lists.{In, here, there}
-use Rattle.laws.proofs.Branch.{both}
+use Rattle.laws.proofs.Branch.{both, if-true, if-false}
 
 -- ---- tests
 
@@ -110,6 +110,16 @@ module _ {A : Type 0} {x : A} (f : A → Bool) where
   pub keep-in : {xs : List A} → f x ≡ true → In x xs → In x (keep f xs)
   keep-in e (here {xs}) = both (In x) (f x) (λ _. here) (λ off. let z : _≡_ {A = ℕ} 0 1 = cc in absurd (omega arith))
   keep-in e (there {y} {xs} i) = both (In x) (f y) (λ _. there (keep-in e i)) (λ _. keep-in e i)
+
+module _ {A : Type 0} (f : A → Bool) where
+  keep-none : (xs : List A) → ((x : A) → In x xs → f x ≡ false) → keep f xs ≡ []
+  keep-none [] h = refl
+  keep-none (x ∷ xs) h = if-false _ _ _ (h x here) ∙ keep-none xs (λ y i. h y (there i))
+
+  -- those that pass come first
+  pub keep-first : (xs ys : List A) → ((x : A) → In x xs → f x ≡ true) → ((y : A) → In y ys → f y ≡ false) → keep f (xs ++ ys) ≡ xs
+  keep-first [] ys h k = keep-none ys k
+  keep-first (x ∷ xs) ys h k = if-true _ _ _ (h x here) ∙ ap (λ (l : List A). x ∷ l) (keep-first xs ys (λ y i. h y (there i)) k)
 
 pub length-keep : {A : Type 0} (f : A → Bool) (xs : List A) → length (keep f xs) ≤ length xs
 length-keep f [] = omega arith

@@ -1,6 +1,6 @@
 -- A record's row in R, 32 bytes: start (2 bytes), destination (2), the ends of its path in Q and of its kept cells in S (4 each), the next found parent of
--- the same destination and the next record of the same bucket (4 each), as a record's number and 1 more, its path's sum (4); 8 bytes are free. Assumes
--- nothing.
+-- the same destination and the next record of the same bucket (4 each), as a record's number and 1 more, its path's sum (4), its number, which is
+-- the energy when it was made (4); 4 bytes are free. Assumes nothing.
 use mathlib.Core.List.{List}
 use Prim.Native.Nat.{ℕ, zero, suc, _+_, _*_}
 use Rattle.lent.specs.Bytes.{numAt}
@@ -32,8 +32,11 @@ R-LINK = 16
 abbrev pub R-SUM : ℕ
 R-SUM = 20
 
+abbrev pub R-ENERGY : ℕ
+R-ENERGY = 24
+
 abbrev pub R-FREE : ℕ
-R-FREE = 24
+R-FREE = 28
 
 -- ---- the numbers there
 
@@ -52,8 +55,11 @@ linkAt r i = numAt 4 r (recordPlace i + R-LINK)
 abbrev pub sumAt : List ℕ → ℕ → ℕ
 sumAt r i = numAt 4 r (recordPlace i + R-SUM)
 
+abbrev pub energyAt : List ℕ → ℕ → ℕ
+energyAt r i = numAt 4 r (recordPlace i + R-ENERGY)
+
 abbrev pub freeAt : List ℕ → ℕ → ℕ
-freeAt r i = numAt 8 r (recordPlace i + R-FREE)
+freeAt r i = numAt 4 r (recordPlace i + R-FREE)
 
 -- the addresses in Q, and the kept cells in S, of the first i records
 unfoldable pub endOf : List ℕ → ℕ → ℕ

@@ -1,4 +1,5 @@
-// A row of R after the search: the record of the row as an edge. Its start, which is the edge's place, and the row's length stay.
+// A row of R after the search: the record of the row as an edge. Its start, which is the edge's place, its number, which
+// stands at `record::ENERGY`, and the row's length stay.
 // Where its fields stand: the edge's place, its destination, its witness, which is the last block of the path, the record's own destination, and where the
 // path ends in Q.
 pub const PLACE: usize = 0;

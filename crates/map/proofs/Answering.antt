@@ -29,17 +29,17 @@ room-number T = omega arith
 room-number R = omega arith
 room-number Q = omega arith
 
-numbered-verdict : {limit : ℕ} {code : List ℕ} {x : spec.Answer} → Verdict (in-mode 0) lends limit code x → Numbered x
+numbered-verdict : {limit choice : ℕ} {code : List ℕ} {x : spec.Answer} → Verdict (in-mode 0) lends limit choice code x → Numbered x
 numbered-verdict (code-over h) = contracts.refusal {n = 1} (omega arith) (omega arith)
 numbered-verdict (limit-over h g) = contracts.refusal {n = 2} (omega arith) (omega arith)
 numbered-verdict (mode-over h g f) = contracts.refusal {n = 13} (omega arith) (omega arith)
 numbered-verdict (work-short h g n f) = contracts.refusal {n = 3} (omega arith) (omega arith)
 numbered-verdict (room-short {k} t f) = contracts.refusal {n = suc k} (omega arith) (omega (arith, f .number, room-number (f .need .room)))
 numbered-verdict (output-short t f g) = contracts.refusal {n = 9} (omega arith) (omega arith)
-numbered-verdict {limit} {code} (all-fits t f g) = map {m = made (in-mode 0) lends limit code} (omega arith)
+numbered-verdict {limit} {choice} {code} (all-fits t f g) = map {m = made (in-mode 0) lends limit choice code} (omega arith)
 
-numbered : (limit : ℕ) (code : List ℕ) → Numbered (answer (in-mode 0) lends limit code)
-numbered limit code = numbered-verdict (verdict (in-mode 0) lends limit code)
+numbered : (limit choice : ℕ) (code : List ℕ) → Numbered (answer (in-mode 0) lends limit choice code)
+numbered limit choice code = numbered-verdict (verdict (in-mode 0) lends limit choice code)
 
 -- ---- what a call leaves is what is handed over
 
@@ -51,12 +51,12 @@ told-of {x} {raw} {raw′} {a} n t =
 lends-of : {m : Mem} {raw out : List ℕ} → Lends m raw out → lentOf m raw ≡ lends
 lends-of l = rw (l .w, l .p, l .s, l .t, l .r, l .q, l .output)
 
-module _ {code : List ℕ} {m m′ : Mem} {raw raw′ out : List ℕ} {a : Answer} (l : Lends m raw out) (d : Mapped 500000 0 code m raw m′ raw′ a) where
-  told : Told (answer (in-mode 0) lends 500000 code) (a .number) (a .written) raw′
-  told = told-of (numbered 500000 code) (subst (λ (k : Lent). Tells (answer (in-mode 0) k 500000 code) raw raw′ a) (lends-of l) (d .tells))
+module _ {code : List ℕ} {m m′ : Mem} {raw raw′ out : List ℕ} {a : Answer} (l : Lends m raw out) (d : Mapped 500000 1 0 code m raw m′ raw′ a) where
+  told : Told (answer (in-mode 0) lends 500000 1 code) (a .number) (a .written) raw′
+  told = told-of (numbered 500000 1 code) (subst (λ (k : Lent). Tells (answer (in-mode 0) k 500000 1 code) raw raw′ a) (lends-of l) (d .tells))
 
   pub shows : Shows (a .number) (a .written) raw′ out
-  shows = record { answer = answer (in-mode 0) lends 500000 code; told = told; room = l .room }
+  shows = record { answer = answer (in-mode 0) lends 500000 1 code; told = told; room = l .room }
 
-  pub printed : {out′ : List ℕ} {end : ℕ} → Prints (a .number) (a .written) raw′ out out′ end → Stored end out 0 (prints (answer (in-mode 0) lends 500000 code)) out′
-  printed p = p .stored (answer (in-mode 0) lends 500000 code) told
+  pub printed : {out′ : List ℕ} {end : ℕ} → Prints (a .number) (a .written) raw′ out out′ end → Stored end out 0 (prints (answer (in-mode 0) lends 500000 1 code)) out′
+  printed p = p .stored (answer (in-mode 0) lends 500000 1 code) told

@@ -1,4 +1,5 @@
 -- The answer's entries are items: each has its body's length before it. Assumes nothing.
+use mathlib.Core.Bool.{Bool, true, false}
 use mathlib.Core.List.{List, [], _∷_, _++_, map}
 use Prim.Native.Nat.{ℕ}
 use lib.ListN.{length}
@@ -17,9 +18,10 @@ path-items : (rs : List Rec) → Items (map path-entry rs)
 path-items [] = end
 path-items (r ∷ rs) = more 7 (little 2 (destination (r .to)) ++ path-bytes (r .path)) (path-items rs)
 
-record-items : (rs : List Rec) → Items (map record-entry rs)
-record-items [] = end
-record-items (r ∷ rs) = more 8 (little 2 (r .start) ++ little 2 (destination (r .to)) ++ path-bytes (r .path)) (record-items rs)
+record-items : (b : Bool) (rs : List Rec) → Items (map (record-entry b) rs)
+record-items b [] = end
+record-items false (r ∷ rs) = more 8 (little 2 (r .start) ++ little 2 (destination (r .to)) ++ path-bytes (r .path)) (record-items false rs)
+record-items true (r ∷ rs) = more 9 (little 2 (r .start) ++ little 2 (destination (r .to)) ++ little 4 (r .energy) ++ path-bytes (r .path)) (record-items true rs)
 
 shown-items : (x : List ℕ) (rs : List Rec) (k : Kind) → Items (shown x rs k)
 shown-items x rs (terminate success) = more 2 (x ++ (flag success ∷ [])) end
@@ -36,4 +38,4 @@ pub entries-items : (m : Map) → Items (entries m)
 unfolding entries
 entries-items m =
     more 1 (little 2 (m .size) ++ little 2 (length (m .blocks)) ++ little 4 (length (m .recs)) ++ little 4 (m .energy))
-    (items-append (block-items (m .blocks)) (record-items (m .recs)))
+    (items-append (block-items (m .blocks)) (record-items (m .numbered) (m .recs)))

@@ -28,7 +28,7 @@ module _ (text : List ℕ) where
   unfolding program
   refused-over {code} e h = ap runs-on e ∙ if-true _ _ _ (lt-ltb 512 (length code) h)
 
-  pub answered-some : {code : List ℕ} → decoded text ≡ some code → length code ≤ 512 → program text ≡ prints (answer (in-mode 0) lends 500000 code)
+  pub answered-some : {code : List ℕ} → decoded text ≡ some code → length code ≤ 512 → program text ≡ prints (answer (in-mode 0) lends 500000 1 code)
   unfolding program
   answered-some {code} e h = ap runs-on e ∙ if-false _ _ _ (le-ltb 512 (length code) h)
 

@@ -16,7 +16,7 @@ module _ {text code code′ : List ℕ} {n end : ℕ} {out out′ : List ℕ} (d
   pub renders-refusal : 512 < n → Stored end out 0 (says-refused 10) out′ → Stored end out 0 (program text) out′
   renders-refusal h s = rw (d .refused h) s
 
-  pub renders-answer : n ≤ 512 → Stored end out 0 (prints (answer (in-mode 0) lends 500000 (take n code′))) out′ → Stored end out 0 (program text) out′
+  pub renders-answer : n ≤ 512 → Stored end out 0 (prints (answer (in-mode 0) lends 500000 1 (take n code′))) out′ → Stored end out 0 (program text) out′
   renders-answer h s = rw (answered-some text (d .taken h) (omega (arith, length-take n code′))) s
 
 -- ---- what is put at the start lies within the buffer, and is as long as it is said to be

@@ -11,7 +11,7 @@ ghost use Rattle.lent.specs.Bytes.{Stored};
 ghost use Rattle.layout.specs.Buffers.{buffers};
 ghost use Rattle.map.specs.Rooms.{Lends};
 
-// The answer for a code, printed.
+// The answer for a code, printed. Its records are of kind 8 and its mode is 0, so that document 01's sessions stand.
 fn put_map(
     code: &[u8],
     w: &mut [u8],
@@ -24,9 +24,9 @@ fn put_map(
     out: &mut [u8],
 ) -> usize
     requires { ⌜ Lends (buffers (now w) (now p) (now s) (now t) (now r) (now q)) (now raw) (now out) ⌝ }
-    ensures { λ end. ⌜ Stored end (now (out .entry)) 0 (prints (answer (in-mode 0) lends 500000 (now (code .entry)))) (now (out .exit)) ⌝ }
+    ensures { λ end. ⌜ Stored end (now (out .entry)) 0 (prints (answer (in-mode 0) lends 500000 1 (now (code .entry)))) (now (out .exit)) ⌝ }
 {
-    let a = map_code(500000, 0, code, w, p, s, t, r, q, raw);
+    let a = map_code(500000, 1, 0, code, w, p, s, t, r, q, raw);
     let number = a.number;
     let written = a.written;
     put_answer(number, written, raw, out)
@@ -35,7 +35,7 @@ fn put_map(
 // The same, in rooms of its own.
 pub fn put_code(code: &[u8], out: &mut [u8]) -> usize
     requires { ⌜ 98304 ≤ length (now out) ⌝ }
-    ensures { λ end. ⌜ Stored end (now (out .entry)) 0 (prints (answer (in-mode 0) lends 500000 (now (code .entry)))) (now (out .exit)) ⌝ }
+    ensures { λ end. ⌜ Stored end (now (out .entry)) 0 (prints (answer (in-mode 0) lends 500000 1 (now (code .entry)))) (now (out .exit)) ⌝ }
 {
     let mut w = [0u8; 33024];
     let mut p = [0u8; 32768];

@@ -123,9 +123,24 @@ module _ (b : List ℕ) (at n : ℕ) (room : at + n ≤ length b) where
   pub record-wrong : {c : ℕ} → 8 ≤ n → Holds 4 b (at + 4) c → (n ≡ 8 + 2 * c → ⊥) → Wrong ≡ shape at (RECORD 4 absent) body
   record-wrong h hc f = misfit (RECORD 4 absent) (λ e. f (omega (arith, held at n 4 hc refl (omega arith))))
 
-  pub record-right : {s t c : ℕ} → 8 ≤ n → Holds 2 b at s → Holds 2 b (at + 2) t → Holds 4 b (at + 4) c → n ≡ 8 + 2 * c → Record s t (at + 8) c ≡ shape at (RECORD 4 absent) body
+  pub record-right : {s t c : ℕ} → 8 ≤ n → Holds 2 b at s → Holds 2 b (at + 2) t → Holds 4 b (at + 4) c → n ≡ 8 + 2 * c → Record s t 4 0 (at + 8) c ≡ shape at (RECORD 4 absent) body
   record-right h hs ht hc q =
       let fs = held at n 0 hs (omega arith) (omega arith) in
       let ft = held at n 2 ht refl (omega arith) in
       let fc = held at n 4 hc refl (omega arith) in
       cc (fit (RECORD 4 absent) (omega arith))
+
+  pub numbered-short : n < 12 → Wrong ≡ shape at (RECORD 8 absent) body
+  numbered-short h = misfit (RECORD 8 absent) (λ e. omega arith)
+
+  pub numbered-wrong : {c : ℕ} → 12 ≤ n → Holds 4 b (at + 8) c → (n ≡ 12 + 2 * c → ⊥) → Wrong ≡ shape at (RECORD 8 absent) body
+  numbered-wrong h hc f = misfit (RECORD 8 absent) (λ e. f (omega (arith, held at n 8 hc refl (omega arith))))
+
+  pub numbered-right : {s t v c : ℕ} → 12 ≤ n → Holds 2 b at s → Holds 2 b (at + 2) t → Holds 4 b (at + 4) v → Holds 4 b (at + 8) c → n ≡ 12 + 2 * c
+      → Record s t 8 v (at + 12) c ≡ shape at (RECORD 8 absent) body
+  numbered-right h hs ht hv hc q =
+      let fs = held at n 0 hs (omega arith) (omega arith) in
+      let ft = held at n 2 ht refl (omega arith) in
+      let fv = held at n 4 hv refl (omega arith) in
+      let fc = held at n 8 hc refl (omega arith) in
+      cc (fit (RECORD 8 absent) (omega arith))

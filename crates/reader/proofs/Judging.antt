@@ -47,7 +47,7 @@ orderOf HeadOf p = next HEAD 0 p
 orderOf (Block s) p = blockOf s false p
 orderOf (Dynamic s n) p = blockOf s true p
 orderOf WayOf p = wayOf p
-orderOf RecordOf p = next (RECORD 4 absent) 0 p
+orderOf (RecordOf form) p = next (RECORD form absent) 0 p
 
 -- its count is met
 abbrev pub metOf : Class → List Piece → Bool
@@ -56,7 +56,7 @@ metOf HeadOf ps = true
 metOf (Block s) ps = true
 metOf (Dynamic s n) ps = eqb n (sevens ps)
 metOf WayOf ps = true
-metOf RecordOf ps = true
+metOf (RecordOf form) ps = true
 
 -- the run of 7s that begins with it, if it is one
 abbrev pub runOf : Class → ℕ → ℕ
@@ -65,7 +65,7 @@ runOf HeadOf n = 0
 runOf (Block s) n = 0
 runOf (Dynamic s m) n = 0
 runOf WayOf n = n
-runOf RecordOf n = 0
+runOf (RecordOf form) n = 0
 
 -- ---- the order, by the class
 
@@ -79,23 +79,23 @@ ends-dynamic DYNAMIC-JUMPI = refl
 next-block : (x : Ends) (a : ℕ) (p : Place) → next (BLOCK x) a p ≡ blockOf a (dynamic x) p
 next-block x a first = refl
 next-block x a (blocks low d) = ap (λ (c : Bool). if (leb low a) (some (blocks (suc a) c)) none) (ends-dynamic x)
-next-block x a records = refl
+next-block x a (records by) = refl
 
 next-head : (a : ℕ) (p : Place) → next HEAD a p ≡ next HEAD 0 p
 next-head a first = refl
 next-head a (blocks low d) = refl
-next-head a records = refl
+next-head a (records by) = refl
 
 next-way : (missing a : ℕ) (p : Place) → next (WAY missing) a p ≡ wayOf p
 next-way missing a first = refl
 next-way missing a (blocks low true) = refl
 next-way missing a (blocks low false) = refl
-next-way missing a records = refl
+next-way missing a (records by) = refl
 
-next-record : (to missing a : ℕ) (p : Place) → next (RECORD to missing) a p ≡ next (RECORD 4 absent) 0 p
+next-record : (to missing a : ℕ) (p : Place) → next (RECORD to missing) a p ≡ next (RECORD to absent) 0 p
 next-record to missing a first = refl
 next-record to missing a (blocks low d) = refl
-next-record to missing a records = refl
+next-record to missing a (records by) = refl
 
 -- ---- an entry that is not right by itself is refused
 
@@ -222,11 +222,11 @@ abbrev Listed : Sort → Type 0
 Listed HEAD = Unit
 Listed (BLOCK x) = Unit
 Listed (WAY missing) = missing ≡ absent
-Listed (RECORD to missing) = (to ≡ 4) × (missing ≡ absent)
+Listed (RECORD to missing) = missing ≡ absent
 Listed UNKNOWN = Unit
 
 listed : (k : ℕ) → Listed (sort k)
-listed k = by-kind (λ _. Listed) tt tt tt tt tt tt refl (refl, refl) (λ _. tt) k
+listed k = by-kind (λ _. Listed) tt tt tt tt tt tt refl refl refl (λ _. tt) k
 
 module _ (b : List ℕ) (there : ℕ) (body : List ℕ) (tail : (i n : ℕ) → length body ≡ i + n → drop i body ≡ take n (drop (there + i) b)) where
   -- the entry of a right form is the item
@@ -241,7 +241,7 @@ module _ (b : List ℕ) (there : ℕ) (body : List ℕ) (tail : (i n : ℕ) → 
   is-right (BLOCK DYNAMIC-JUMP) l h n = refl
   is-right (BLOCK DYNAMIC-JUMPI) l h n = refl
   is-right (WAY missing) l h n = rw (l, tail 6 (2 * field 2 4 body) h)
-  is-right (RECORD to missing) l h n = rw (l .1, tail (to + 4) (2 * field to 4 body) h)
+  is-right (RECORD to missing) l h n = rw (l, tail (to + 4) (2 * field to 4 body) h)
   is-right UNKNOWN l h n = absurd (n refl)
 
   is-wrong : (s : Sort) → Is s (known s Wrong)
@@ -288,7 +288,7 @@ tallied b (Jumpi s d t f) is h = omega arith
 tallied b (DynamicJump s d n) is h = omega arith
 tallied b (DynamicJumpi s d f n) is h = omega arith
 tallied b (Way t p n) is h = omega arith
-tallied b (Record s t p n) is h = omega arith
+tallied b (Record s t f v p n) is h = omega arith
 tallied b Unknown is h = absurd (h refl)
 tallied b Wrong is h = absurd (h refl)
 tallied b Cut is h = absurd (h refl)

@@ -94,7 +94,7 @@ one-block Head = omega arith
 one-block (Block s) = omega arith
 one-block (Dynamic s n) = omega arith
 one-block Way = omega arith
-one-block Record = omega arith
+one-block (Record form) = omega arith
 
 one-record : (k : Class) → recordIn k ≤ 1
 one-record Bad = omega arith
@@ -102,7 +102,7 @@ one-record Head = omega arith
 one-record (Block s) = omega arith
 one-record (Dynamic s n) = omega arith
 one-record Way = omega arith
-one-record Record = omega arith
+one-record (Record form) = omega arith
 
 module _ {b : List ℕ} {s : Scan} (w : Within b s) (h : s .at < length b) (f : length b < 2 ^ 64) where
   pub sum-blocks : (k : Class) {x : ℕ} → x ≡ blockIn k → Fits w64 (s .blocks + x)

@@ -8,7 +8,7 @@ use Rattle.spec.specs.Lists.{if}
 use Rattle.spec.specs.Blocks.{block, terminate, jump, jumpi, dynamic-jump, dynamic-jumpi}
 use Rattle.spec.specs.Entries.{absent}
 use Rattle.spec.specs.Forms.{field, announced, entry, Sort, HEAD, BLOCK, WAY, RECORD, UNKNOWN, TERMINATE, JUMP, JUMPI, DYNAMIC-JUMP, DYNAMIC-JUMPI, sort, long}
-use Rattle.spec.specs.Reader.{Piece, pieces, Item, a-head, a-block, a-way, a-record, no-item, destined, addresses}
+use Rattle.spec.specs.Reader.{Piece, pieces, Item, a-head, a-block, a-way, a-record, no-item, destined, addresses, numbered-by}
 use Rattle.reader.specs.declared.lead.Lead.{Lead}
 use Rattle.reader.specs.declared.lead.Lead.the-variants.{Says, Short}
 use Rattle.reader.specs.declared.entry.Entry.{Entry}
@@ -50,7 +50,7 @@ numbers at (BLOCK JUMPI) body = Jumpi (field 0 2 body) (field 2 2 body) (field 4
 numbers at (BLOCK DYNAMIC-JUMP) body = DynamicJump (field 0 2 body) (field 2 2 body) (field 4 4 body)
 numbers at (BLOCK DYNAMIC-JUMPI) body = DynamicJumpi (field 0 2 body) (field 2 2 body) (field 4 2 body) (field 6 4 body)
 numbers at (WAY missing) body = Way (field 0 2 body) (at + 6) (field 2 4 body)
-numbers at (RECORD to missing) body = Record (field 0 2 body) (field 2 2 body) (at + (to + 4)) (field to 4 body)
+numbers at (RECORD to missing) body = Record (field 0 2 body) (field 2 2 body) to (numbered-by (eqb to 8) (field 4 4 body)) (at + (to + 4)) (field to 4 body)
 numbers at UNKNOWN body = Unknown
 
 abbrev pub known : Sort → Entry → Entry
@@ -76,7 +76,8 @@ itemOf b (Jumpi s e t f) = a-block (block s s e (jumpi t f)) 0
 itemOf b (DynamicJump s e n) = a-block (block s s e dynamic-jump) n
 itemOf b (DynamicJumpi s e f n) = a-block (block s s e (dynamic-jumpi f)) n
 itemOf b (Way to path n) = a-way (destined absent to) (addresses (take (2 * n) (drop path b)))
-itemOf b (Record s to path n) = a-record (record { start = s; to = destined absent to; path = addresses (take (2 * n) (drop path b)) })
+itemOf b (Record s to form energy path n) =
+    a-record (eqb form 8) (record { start = s; to = destined absent to; path = addresses (take (2 * n) (drop path b)); energy = energy })
 itemOf b Unknown = no-item
 itemOf b Wrong = no-item
 itemOf b Cut = no-item

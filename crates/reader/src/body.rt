@@ -154,7 +154,34 @@ pub fn record(map: &[u8], at: usize, n: usize) -> Entry
     Entry::Record {
         start,
         to,
+        form: 4,
+        energy: 0,
         path: at + 8,
+        count,
+    }
+}
+
+// "kind 9: start, to, energy, path length, path".
+pub fn numbered(map: &[u8], at: usize, n: usize) -> Entry
+    requires { ⌜ at + n ≤ length (now map) ⌝ }
+    ensures { λ r. ⌜ r ≡ shape at (RECORD 8 absent) (take n (drop at (now (map .entry)))) ⌝ }
+{
+    if n < 12 {
+        return Entry::Wrong;
+    }
+    let start = get16(map, at);
+    let to = get16(map, at + 2);
+    let energy = get32(map, at + 4);
+    let count = get32(map, at + 8);
+    if n != 12 + 2 * count {
+        return Entry::Wrong;
+    }
+    Entry::Record {
+        start,
+        to,
+        form: 8,
+        energy,
+        path: at + 12,
         count,
     }
 }

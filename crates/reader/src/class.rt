@@ -4,17 +4,18 @@ ghost use mathlib.Core.Path.{_≡_};
 ghost use Prim.Native.Nat.{_<_};
 ghost use Rattle.reader.specs.Classes.{classOf, startOf, blockStep, wayStep, recordStep, stepOf, blockIn, recordIn};
 
-// A block by its start, a dynamic one also by its count; or an entry that is bad wherever it stands.
+// A block by its start, a dynamic one also by its count; a record by its form; or an entry that is bad wherever it stands.
 pub enum Class {
     Bad,
     Head,
     Block { start: usize },
     Dynamic { start: usize, count: usize },
     Way,
-    Record,
+    Record { form: usize },
 }
 
-// Behind the head: blocks may come, from a start on; or also 7s of the dynamic block at `block`, of whose count so many are left; or records alone.
+// Behind the head: blocks may come, from a start on; or also 7s of the dynamic block at `block`, of whose count so many are left; or records
+// alone, of the form of those before.
 pub enum Order {
     Blocks {
         low: usize,
@@ -24,7 +25,9 @@ pub enum Order {
         block: usize,
         left: usize,
     },
-    Records,
+    Records {
+        form: usize,
+    },
 }
 
 // An entry may come, and then the order goes on so; or it may not.
@@ -51,7 +54,7 @@ pub fn class_of(e: Entry) -> Class
         Entry::DynamicJump { start, count, .. } => Class::Dynamic { start, count },
         Entry::DynamicJumpi { start, count, .. } => Class::Dynamic { start, count },
         Entry::Way { .. } => Class::Way,
-        Entry::Record { .. } => Class::Record,
+        Entry::Record { form, .. } => Class::Record { form },
         Entry::Unknown => Class::Bad,
         Entry::Wrong => Class::Bad,
         Entry::Cut => Class::Bad,
@@ -78,7 +81,7 @@ fn after_block(p: Order, start: usize, q: Order) -> Step
             }
             Step::Stop
         }
-        Order::Records => Step::Stop,
+        Order::Records { .. } => Step::Stop,
     }
 }
 
@@ -98,23 +101,28 @@ fn after_way(p: Order) -> Step
             })
         }
         Order::Blocks { .. } => Step::Stop,
-        Order::Records => Step::Stop,
+        Order::Records { .. } => Step::Stop,
     }
 }
 
-// A record, where no 7 is left to come.
-fn after_record(p: Order) -> Step
-    ensures { λ r. ⌜ r ≡ recordStep p ⌝ }
+// A record, where no 7 is left to come. "After one of 8 and 9 the other is a bad entry".
+fn after_record(p: Order, form: usize) -> Step
+    ensures { λ r. ⌜ r ≡ recordStep form p ⌝ }
 {
     match p {
         Order::Sevens { left, .. } => {
             if left != 0 {
                 return Step::Stop;
             }
-            Step::To(Order::Records)
+            Step::To(Order::Records { form })
         }
-        Order::Blocks { .. } => Step::To(Order::Records),
-        Order::Records => Step::To(Order::Records),
+        Order::Blocks { .. } => Step::To(Order::Records { form }),
+        Order::Records { form: before } => {
+            if form != before {
+                return Step::Stop;
+            }
+            Step::To(Order::Records { form: before })
+        }
     }
 }
 
@@ -135,7 +143,7 @@ pub fn behind(k: Class, p: Order, at: usize) -> Step
             },
         ),
         Class::Way => after_way(p),
-        Class::Record => after_record(p),
+        Class::Record { form } => after_record(p, form),
         Class::Bad => Step::Stop,
         Class::Head => Step::Stop,
     }
@@ -151,7 +159,7 @@ pub fn blocks_in(k: Class) -> usize
         Class::Bad => 0,
         Class::Head => 0,
         Class::Way => 0,
-        Class::Record => 0,
+        Class::Record { form: _ } => 0,
     }
 }
 
@@ -160,7 +168,7 @@ pub fn records_in(k: Class) -> usize
     ensures { λ r. ⌜ r ≡ recordIn k ⌝ }
 {
     match k {
-        Class::Record => 1,
+        Class::Record { form: _ } => 1,
         Class::Bad => 0,
         Class::Head => 0,
         Class::Block { start: _ } => 0,

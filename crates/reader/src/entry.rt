@@ -4,6 +4,7 @@ use crate::body::dynamic_jumpi;
 use crate::body::head;
 use crate::body::jump;
 use crate::body::jumpi;
+use crate::body::numbered;
 use crate::body::record;
 use crate::body::terminate;
 use crate::body::way;
@@ -15,6 +16,7 @@ ghost use mathlib.Core.Path.{_≡_};
 ghost use Rattle.reader.specs.Shapes.{entryAt};
 
 // Its numbers, by its kind: a missing destination is 0x8000, and a path is told by where its addresses of 2 bytes stand and how many they are.
+// A record's form is where the path length stands in its body: 4 in kind 8; 8 in kind 9, behind its number, which is 0 in kind 8.
 // Or what is wrong with it by itself: its kind is not known, its body is "longer or shorter than" its kind says, or it is cut.
 pub enum Entry {
     Head {
@@ -58,6 +60,8 @@ pub enum Entry {
     Record {
         start: usize,
         to: usize,
+        form: usize,
+        energy: usize,
         path: usize,
         count: usize,
     },
@@ -83,6 +87,7 @@ pub fn entry_at(map: &[u8], at: usize) -> Entry
                 Sort::DynamicJumpi => dynamic_jumpi(map, body, length),
                 Sort::Way => way(map, body, length),
                 Sort::Record => record(map, body, length),
+                Sort::Numbered => numbered(map, body, length),
                 Sort::Unknown => Entry::Unknown,
             }
         }

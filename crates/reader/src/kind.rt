@@ -13,6 +13,7 @@ pub enum Sort {
     DynamicJumpi,
     Way,
     Record,
+    Numbered,
     Unknown,
 }
 
@@ -29,6 +30,7 @@ pub fn sort_of(kind: usize) -> Sort
         6 => Sort::DynamicJumpi,
         7 => Sort::Way,
         8 => Sort::Record,
+        9 => Sort::Numbered,
         _ => Sort::Unknown,
     }
 }

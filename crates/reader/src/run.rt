@@ -65,6 +65,6 @@ pub fn stopped(map: &[u8], at: usize, p: Order) -> usize
             block
         }
         Order::Blocks { .. } => at,
-        Order::Records => at,
+        Order::Records { .. } => at,
     }
 }

@@ -98,7 +98,7 @@ pub fn last(s: Scan, blocks: usize, records: usize) -> Reading
             counts(s, blocks, records)
         }
         Order::Blocks { .. } => counts(s, blocks, records),
-        Order::Records => counts(s, blocks, records),
+        Order::Records { .. } => counts(s, blocks, records),
     }
 }
 

@@ -46,7 +46,7 @@ module _ {c r : Counts} where
   pub way-counted : {o : Open} {e : Entry} {to path n : ℕ} → e ≡ Way to path n → Longer c n r → Counted c o e r
   way-counted e s = record { is = s .is ∙ rw e }
 
-  pub record-counted : {o : Open} {e : Entry} {start to path n : ℕ} → e ≡ Record start to path n → Recorded c to n r → Counted c o e r
+  pub record-counted : {o : Open} {e : Entry} {start to form energy path n : ℕ} → e ≡ Record start to form energy path n → Recorded c to n r → Counted c o e r
   record-counted e s = record { is = s .is ∙ rw e }
 
 -- a record without, and with destination

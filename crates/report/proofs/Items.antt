@@ -53,7 +53,7 @@ scan [] t o = join t (shutOf o)
 scan (a-head z n m y ∷ is) t o = scan is t o
 scan (a-block b n ∷ is) t o = scan is (join (join t (shutOf o)) (kind-totals (b .kind))) (opened (b .kind))
 scan (a-way d p ∷ is) t o = scan is (join t (at-place 11 (length p))) (seen d o)
-scan (a-record r ∷ is) t o = scan is (join t (record-totals (length (r .path)) (r .to))) o
+scan (a-record c r ∷ is) t o = scan is (join t (record-totals (length (r .path)) (r .to))) o
 scan (no-item ∷ is) t o = scan is t o
 
 -- ---- the 7s of a block
@@ -189,27 +189,27 @@ module _ (r : Rec) (rs : List Rec) where
 swapped : (t r s x : Totals) → join (join (join t r) s) x ≡ join (join t s) (join r x)
 swapped t r s x = ap (λ (u : Totals). join u x) (join-assoc t r s ∙ ap (join t) (join-comm r s) ∙ sym (join-assoc t s r)) ∙ join-assoc (join t s) r x
 
-scan-records : (rs : List Rec) (t : Totals) (o : Open) → scan (map a-record rs) t o ≡ join (join t (shutOf o)) (rec-totals rs)
+scan-records : (c : Bool) (rs : List Rec) (t : Totals) (o : Open) → scan (map (a-record c) rs) t o ≡ join (join t (shutOf o)) (rec-totals rs)
 unfolding scan
-scan-records [] t o = sym (join-neutral (join t (shutOf o)))
-scan-records (r ∷ rs) t o = scan-records rs (join t (record-totals (length (r .path)) (r .to))) o
+scan-records c [] t o = sym (join-neutral (join t (shutOf o)))
+scan-records c (r ∷ rs) t o = scan-records c rs (join t (record-totals (length (r .path)) (r .to))) o
     ∙ swapped t (record-totals (length (r .path)) (r .to)) (shutOf o) (rec-totals rs) ∙ ap (join (join t (shutOf o))) (one-record r rs (r .to))
 
 regroup : (t k p s x r : Totals) → join (join (join (join t k) p) s) (join x r) ≡ join t (join (join (join k p) (join s x)) r)
 regroup t k p s x r = simp join-assoc
 
-scan-blocks : (rs : List Rec) (fs : List Final) (t : Totals) (o : Open) → scan (gather block-items fs ++ map a-record rs) t o ≡ join (join t (shutOf o)) (join (final-totals fs) (rec-totals rs))
+scan-blocks : (c : Bool) (rs : List Rec) (fs : List Final) (t : Totals) (o : Open) → scan (gather block-items fs ++ map (a-record c) rs) t o ≡ join (join t (shutOf o)) (join (final-totals fs) (rec-totals rs))
 unfolding scan
-scan-blocks rs [] t o = scan-records rs t o ∙ ap (join (join t (shutOf o))) (sym (neutral-join (rec-totals rs)))
-scan-blocks rs (f ∷ fs) t o =
+scan-blocks c rs [] t o = scan-records c rs t o ∙ ap (join (join t (shutOf o))) (sym (neutral-join (rec-totals rs)))
+scan-blocks c rs (f ∷ fs) t o =
     let b = f .block in
     let es = f .entries in
     let k = b .kind in
     let now = join (join t (shutOf o)) (kind-totals k) in
-    let later = gather block-items fs ++ map a-record rs in
-    ap (λ (is : List Item). scan is now (opened k)) (append-assoc (map way-of es) (gather block-items fs) (map a-record rs))
+    let later = gather block-items fs ++ map (a-record c) rs in
+    ap (λ (is : List Item). scan is now (opened k)) (append-assoc (map way-of es) (gather block-items fs) (map (a-record c) rs))
     ∙ scan-ways later es now (opened k)
-    ∙ scan-blocks rs fs (join now (at-place 11 (longest-of es))) (seen-all es (opened k))
+    ∙ scan-blocks c rs fs (join now (at-place 11 (longest-of es))) (seen-all es (opened k))
     ∙ regroup (join t (shutOf o)) (kind-totals k) (at-place 11 (longest-of es)) (shutOf (seen-all es (opened k))) (final-totals fs) (rec-totals rs)
     ∙ ap (λ (u : Totals). join (join t (shutOf o)) (join u (rec-totals rs))) (one-final (b .id) (b .start) (b .end) es fs k)
 
@@ -225,9 +225,9 @@ map-parts m = same-totals (join (final-totals (m .blocks)) (rec-totals (m .recs)
 
 -- the items behind a map's head
 abbrev pub tail-of : Map → List Item
-tail-of m = gather block-items (m .blocks) ++ map a-record (m .recs)
+tail-of m = gather block-items (m .blocks) ++ map (a-record (m .numbered)) (m .recs)
 
 pub scan-is : (m : Map) → scan (tail-of m) nothing-yet Static ≡ totalsOf (countsOf (totals-of m))
 scan-is m =
     let x = join (final-totals (m .blocks)) (rec-totals (m .recs)) in
-    scan-blocks (m .recs) (m .blocks) nothing-yet Static ∙ ap (λ (u : Totals). join u x) (join-neutral nothing-yet) ∙ neutral-join x ∙ map-parts m
+    scan-blocks (m .numbered) (m .recs) (m .blocks) nothing-yet Static ∙ ap (λ (u : Totals). join u x) (join-neutral nothing-yet) ∙ neutral-join x ∙ map-parts m

@@ -95,7 +95,7 @@ module _ (b : List ℕ) (at : ℕ) (is : List Item) (t : Totals) (o : Open) wher
   scan-entry (DynamicJumpi s e f n) q = ap (λ (u : Totals). scan is u NoneYet) (reordered t (shutOf o) (at-place 5 1))
   scan-entry (Way to path n) q =
       ap₂ (λ (k : ℕ) (p : Open). scan is (join t (at-place 11 k)) p) (path-long path n (way-inside b at q refl)) (seen-destined to o)
-  scan-entry (Record s to path n) q =
+  scan-entry (Record s to form energy path n) q =
       ap (λ (k : ℕ). scan is (join t (record-totals k (destined absent to))) o) (path-long path n (record-inside b at q refl))
       ∙ ap (λ (u : Totals). scan is (join t u) o) (record-destined to n)
   scan-entry Unknown q = ap (λ (u : Totals). scan is u o) (sym (join-neutral t))
@@ -143,7 +143,7 @@ one-more (Jumpi s e x y) o = omega (arith, no-kind o)
 one-more (DynamicJump s e n) o = omega (arith, no-kind o)
 one-more (DynamicJumpi s e f n) o = omega (arith, no-kind o)
 one-more (Way to path n) o = omega arith
-one-more (Record s to path n) o = both One (eqb to absent) (λ _. omega arith) (λ _. omega arith)
+one-more (Record s to form energy path n) o = both One (eqb to absent) (λ _. omega arith) (λ _. omega arith)
 one-more Unknown o = omega arith
 one-more Wrong o = omega arith
 one-more Cut o = omega arith

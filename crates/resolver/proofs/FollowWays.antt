@@ -91,6 +91,7 @@ module _ {code : List ℕ} {k : Plan} {start : ℕ} {l : Level} {at np : ℕ} {w
                 path = record { fits = omega (arith, h .room, f .planned .lentP) };
                 most = omega (arith, h .room, f .planned .mostP);
                 start = omega (arith, f .starts, f .planned .lentW .short);
+                energy = omega (arith, h .entering .energy, f .planned .limit);
                 entry = enters-nowhere refl refl;
                 inside = omega arith;
               };

@@ -17,7 +17,8 @@ use Rattle.tables.specs.Addrs.{addrs}
 use Rattle.steps.specs.Cursors.{firstCursor, nextCursor, lastCursor, AtBlock, Cursor, Asks, foundTo, live}
 use Rattle.steps.specs.Runs.{recsIn}
 use Rattle.resolver.specs.Fits.{Fits, levelOf, held, preparedIn}
-use Rattle.resolver.specs.Levels.{spentWith, Opened, Leveled, Trying, Tried}
+use Rattle.resolver.specs.Enters.{Entering}
+use Rattle.resolver.specs.Levels.{spentWith, Opened, Leveled, Tried}
 use Rattle.steps.specs.declared.Plan.{Plan}
 use Rattle.steps.specs.declared.Level.{Level}
 use Rattle.steps.specs.declared.Run.{Run}
@@ -125,20 +126,18 @@ module _ {code : List ℕ} {k : Plan} {start : ℕ} {l : Level} {m₀ : Mem} {o 
       pub going-falls : {at′ : ℕ} → at′ ≡ nextCursor (m .w) (m .r) (k .n) b (o .counts .records) at → fuel at′ < fuel at
       going-falls e = rw e (next .falls)
 
-      pub going-tries : {spent : Run} → spent ≡ spentWith cur → spent .energy ≤ k .limit → Trying code k start l at m spent
+      pub going-tries : {spent : Run} → spent ≡ spentWith cur → spent .energy ≤ k .limit → Entering code k start l at m spent
       going-tries s p =
           let lent : 9 * cur .counts .used ≤ length (m .s) = omega (arith, here .fits .tables .within .fitsS, here .fits .tables .within .lentS) in
           rw s (record {
-            entering = record {
-              turn = pre .turn;
-              since = pre .since;
-              fits = here .fits;
-              stands = stands-stay l (here .stays) (pre .stands) lent;
-              on-its = its-counts l (here .stays) (here .counts);
-              parental = parental k m (cur .counts) (here .fits .planned .is) (here .fits .planned .lentW .short) (pre .fits .sound) next;
-              unrefused = g .unrefused;
-            };
+            turn = pre .turn;
+            since = pre .since;
+            fits = here .fits;
+            stands = stands-stay l (here .stays) (pre .stands) lent;
+            on-its = its-counts l (here .stays) (here .counts);
+            parental = parental k m (cur .counts) (here .fits .planned .is) (here .fits .planned .lentW .short) (pre .fits .sound) next;
             energy = rw s at p;
+            unrefused = g .unrefused;
           })
 
       module _ {a : ℕ} (e : a ≡ lastCursor (m .r) (m .q) at) {marked : Bool} (v : marked ≡ markedBy (m .w) (k .n) a (o .counts .records + 1)) where

@@ -11,8 +11,8 @@ use Rattle.layout.specs.Buffers.{Mem, buffers}
 use Rattle.steps.specs.Paths.{Counting, Uncounting, Counted}
 use Rattle.steps.specs.Runs.{stOf, Did}
 use Rattle.resolver.specs.Fits.{Fits, levelOf, Stands, held, Stays}
-use Rattle.resolver.specs.Enters.{onward, Opens, Outcome, Entered}
-use Rattle.resolver.specs.Levels.{Came, Opened, Leveled, deeperBy, Trying, Tried}
+use Rattle.resolver.specs.Enters.{onward, Opens, Outcome, Entering, Entered}
+use Rattle.resolver.specs.Levels.{Came, Opened, Leveled, deeperBy, Tried}
 use Rattle.steps.specs.declared.Plan.{Plan}
 use Rattle.steps.specs.declared.Level.{Level}
 use Rattle.steps.specs.declared.Run.{Run}
@@ -22,15 +22,15 @@ use Rattle.resolver.proofs.LevelByParents.{deeper-later}
 use Rattle.resolver.proofs.LevelKept.{stays-counts, stays-then, stays-less, path-stays, stands-stay, its-counts}
 use Rattle.resolver.proofs.CountsAlone.{fits-recounted, stands-count, stands-uncount}
 
-module _ {code : List ℕ} {k : Plan} {start : ℕ} {l : Level} {at : ℕ} {m : Mem} {o : Run} (pre : Trying code k start l at m o)
+module _ {code : List ℕ} {k : Plan} {start : ℕ} {l : Level} {at : ℕ} {m : Mem} {o : Run} (pre : Entering code k start l at m o)
     {w₁ p₁ s₁ t₁ r₁ q₁ : List ℕ} {e : Opening} (entered : Entered code k start l at m o (buffers w₁ p₁ s₁ t₁ r₁ q₁) e) where
   -- what came of the parent, in a turn; and in the one that there is
   abbrev After : (t : Turn) (since b : ℕ) → Type 0
   After t since b =
       Outcome code k t since start (λ deeper. onward t deeper (l .left) (levelOf m l) (held code k m b at)) l m o (buffers w₁ p₁ s₁ t₁ r₁ q₁) e
 
-  out : After (pre .entering .turn) (pre .entering .since) 0
-  out = entered (pre .entering .turn) (pre .entering .since) 0 (pre .entering .fits)
+  out : After (pre .turn) (pre .since) 0
+  out = entered (pre .turn) (pre .since) 0 (pre .fits)
 
   pub parent-shut : not (e .opens) ≡ true → Tried code k start l at m o (buffers w₁ p₁ s₁ t₁ r₁ q₁) (e .run)
   parent-shut h = record {
@@ -41,10 +41,10 @@ module _ {code : List ℕ} {k : Plan} {start : ℕ} {l : Level} {at : ℕ} {m : 
   }
 
   module _ (h : not (e .opens) ≡ false) where
-    opens : Opens k (λ deeper. onward (pre .entering .turn) deeper (l .left) (levelOf m l) (held code k m 0 at)) l m o (buffers w₁ p₁ s₁ t₁ r₁ q₁) e
+    opens : Opens k (λ deeper. onward (pre .turn) deeper (l .left) (levelOf m l) (held code k m 0 at)) l m o (buffers w₁ p₁ s₁ t₁ r₁ q₁) e
     opens = out .opened (not-false (e .opens) h)
 
-    fits : Fits code k (pre .entering .turn) (pre .entering .since) start (buffers w₁ p₁ s₁ t₁ r₁ q₁) (e .run .counts)
+    fits : Fits code k (pre .turn) (pre .since) start (buffers w₁ p₁ s₁ t₁ r₁ q₁) (e .run .counts)
     fits = out .fits (opens .code)
 
     -- the counts stand before W's part for runs
@@ -66,8 +66,8 @@ module _ {code : List ℕ} {k : Plan} {start : ℕ} {l : Level} {at : ℕ} {m : 
 
       pub parent-opens : Opened code k start (e .level) (buffers w₂ p₁ s₁ t₁ r₁ q₁) (e .run)
       parent-opens = record {
-        turn = pre .entering .turn;
-        since = pre .entering .since;
+        turn = pre .turn;
+        since = pre .since;
         fits = fits-recounted fits (c .only);
         stands = stands;
         on-its = c .counts;
@@ -107,7 +107,7 @@ module _ {code : List ℕ} {k : Plan} {start : ℕ} {l : Level} {at : ℕ} {m : 
         module _ (z : d .code ≡ 0) where
           pub parent-uncounts : Uncounting (k .n) w₃ p₃ (l .np) (e .level .np)
           parent-uncounts =
-              let x = tried (pre .entering .turn) (pre .entering .since) 0 out in
+              let x = tried (pre .turn) (pre .since) 0 out in
               let f = x .fits z in
               stands-uncount f
               (stands-stay (e .level) (x .stays z) stands (omega (arith, f .tables .within .fitsS, f .tables .within .lentS)))

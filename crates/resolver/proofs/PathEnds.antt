@@ -51,15 +51,16 @@ ends-constant at-constant = refl
 ends-other : {s : Stack} {y : Found} {pc : ℕ} → Ends s (other pc) y → y ≡ nowhere
 ends-other at-other = refl
 
-pub ended-with : {p : List ℕ} {np start : ℕ} {k : Plan} {m m′ : tables.Mem} {l : Level} {o : Run} {y : Found} {a : Answer} {e : Opening}
-    → Noted p np k m (o .counts) start y m′ a → e ≡ endedWith o a l → Ended p np k m start l o y m′ e
-ended-with n f = rw f (record { is = refl; energy = refl; noted = n })
+pub ended-with : {p : List ℕ} {np start energy : ℕ} {k : Plan} {m m′ : tables.Mem} {l : Level} {o : Run} {y : Found} {a : Answer} {e : Opening}
+    → Noted p np k m (o .counts) start energy y m′ a → energy ≡ o .energy → e ≡ endedWith o a l → Ended p np k m start l o y m′ e
+ended-with {p} {np} {start} {k = k} {m} {m′} {o = o} {y} {a} n c f =
+    rw f (record { is = refl; energy = refl; noted = subst (λ (v : ℕ). Noted p np k m (o .counts) start v y m′ a) c n })
 
 -- the entry that leads nowhere
 pub ended-nowhere : {p : List ℕ} {np start : ℕ} {k : Plan} {m m′ : tables.Mem} {l : Level} {o : Run} {y : Entry} {e : Opening}
-    → y ≡ noEntry start → Ended p np k m (y .start) l o (newFound (m .s) y) m′ e → Ended p np k m start l o nowhere m′ e
+    → y ≡ noEntry start (o .energy) → Ended p np k m (y .start) l o (newFound (m .s) y) m′ e → Ended p np k m start l o nowhere m′ e
 ended-nowhere {p} {np} {start} {k} {m} {m′} {l} {o} {y} {e} f n =
-    subst (λ (g : Found). Ended p np k m start l o g m′ e) (new-nowhere (m .s) (noEntry start) refl)
+    subst (λ (g : Found). Ended p np k m start l o g m′ e) (new-nowhere (m .s) (noEntry start (o .energy)) refl)
     (subst (λ (x : Entry). Ended p np k m (x .start) l o (newFound (m .s) x) m′ e) f n)
 
 module _ {p : List ℕ} {np start : ℕ} {k : Plan} {m : tables.Mem} {l : Level} {x : Seen} {o : Run} where
@@ -75,31 +76,31 @@ module _ {p : List ℕ} {np start : ℕ} {k : Plan} {m : tables.Mem} {l : Level}
 
   module _ {m′ : tables.Mem} {a : Answer} {e : Opening} where
     pub arrived-jumpdest : Arriving p np k m start l x o → {t : ℕ} → x .symbol ≡ Jumpdest t
-        → Noted p np k m (o .counts) start (newFound (m .s) (record { start = start; to = t; from = x .from; cells = x .cells })) m′ a → e ≡ endedWith o a l
+        → Noted p np k m (o .counts) start (o .energy) (newFound (m .s) (record { start = start; to = t; from = x .from; cells = x .cells; energy = o .energy })) m′ a → e ≡ endedWith o a l
         → Arrived p np k m start l x o m′ e
     arrived-jumpdest b {t} g n f =
-        let end : Ended p np k m start l o (newFound (m .s) (record { start = start; to = t; from = x .from; cells = x .cells })) m′ e = ended-with n f in
-        let is : newFound (m .s) (record { start = start; to = t; from = x .from; cells = x .cells }) ≡ found t (stackAt (m .s) (9 * x .from) (x .cells)) =
-        new-at (m .s) (record { start = start; to = t; from = x .from; cells = x .cells }) (b .ready .tables .few) (b .lands t (ap symOf g)) in
+        let end : Ended p np k m start l o (newFound (m .s) (record { start = start; to = t; from = x .from; cells = x .cells; energy = o .energy })) m′ e = ended-with n refl f in
+        let is : newFound (m .s) (record { start = start; to = t; from = x .from; cells = x .cells; energy = o .energy }) ≡ found t (stackAt (m .s) (9 * x .from) (x .cells)) =
+        new-at (m .s) (record { start = start; to = t; from = x .from; cells = x .cells; energy = o .energy }) (b .ready .tables .few) (b .lands t (ap symOf g)) in
         record {
           opens = λ i h. absurd (omega (arith, ap tag (rw g at h)));
           ends = λ y h. rw (ends-jumpdest (rw g at h)) (subst (λ (h : Found). Ended p np k m start l o h m′ e) is end);
         }
 
-    pub arrived-constant : {v : ℕ} {y : Entry} → x .symbol ≡ Constant v → y ≡ noEntry start → Noted p np k m (o .counts) (y .start) (newFound (m .s) y) m′ a
+    pub arrived-constant : {v : ℕ} {y : Entry} → x .symbol ≡ Constant v → y ≡ noEntry start (o .energy) → Noted p np k m (o .counts) (y .start) (y .energy) (newFound (m .s) y) m′ a
         → e ≡ endedWith o a l → Arrived p np k m start l x o m′ e
     arrived-constant {v} {y} g i n f =
-        let end : Ended p np k m (y .start) l o (newFound (m .s) y) m′ e = ended-with n f in
+        let end : Ended p np k m (y .start) l o (newFound (m .s) y) m′ e = ended-with n (ap (λ (x : Entry). x .energy) i) f in
         record { opens = λ j h. absurd (omega (arith, ap tag (rw g at h))); ends = λ z h. rw (ends-constant (rw g at h)) (ended-nowhere i end) }
 
-    pub arrived-other : {v : ℕ} {y : Entry} → x .symbol ≡ Other v → y ≡ noEntry start → Noted p np k m (o .counts) (y .start) (newFound (m .s) y) m′ a
+    pub arrived-other : {v : ℕ} {y : Entry} → x .symbol ≡ Other v → y ≡ noEntry start (o .energy) → Noted p np k m (o .counts) (y .start) (y .energy) (newFound (m .s) y) m′ a
         → e ≡ endedWith o a l → Arrived p np k m start l x o m′ e
     arrived-other {v} {y} g i n f =
-        let end : Ended p np k m (y .start) l o (newFound (m .s) y) m′ e = ended-with n f in
+        let end : Ended p np k m (y .start) l o (newFound (m .s) y) m′ e = ended-with n (ap (λ (x : Entry). x .energy) i) f in
         record { opens = λ j h. absurd (omega (arith, ap tag (rw g at h))); ends = λ z h. rw (ends-other (rw g at h)) (ended-nowhere i end) }
 
   pub arriving-lands : Arriving p np k m start l x o → {t : ℕ} → x .symbol ≡ Jumpdest t
-      → Lands p np k m (o .counts) (record { start = start; to = t; from = x .from; cells = x .cells })
+      → Lands p np k m (o .counts) (record { start = start; to = t; from = x .from; cells = x .cells; energy = o .energy })
   arriving-lands a e = record {
     lent = a .lent;
     ready = record {
@@ -107,10 +108,11 @@ module _ {p : List ℕ} {np start : ℕ} {k : Plan} {m : tables.Mem} {l : Level}
       path = a .ready .path;
       most = a .ready .most;
       start = a .ready .start;
+      energy = a .ready .energy;
       entry = enters (a .lands _ (ap symOf e)) (a .state);
       inside = a .inside;
     };
   }
 
-  pub arriving-nowhere : Arriving p np k m start l x o → {y : Entry} → y ≡ noEntry start → Lands p np k m (o .counts) y
+  pub arriving-nowhere : Arriving p np k m start l x o → {y : Entry} → y ≡ noEntry start (o .energy) → Lands p np k m (o .counts) y
   arriving-nowhere a f = rw f (record { lent = a .lent; ready = a .ready })

@@ -312,18 +312,19 @@ module _ {code : List ℕ} {k : Plan} {start : ℕ} {l : Level} {at np : ℕ} {w
                   ends-sound at-constant d = absurd (let z : _≡_ {A = ℕ} 0 1 = cc in omega arith)
                   ends-sound at-other d = absurd (let z : _≡_ {A = ℕ} 0 1 = cc in omega arith)
 
-              module _ {y : Found} (i : Ends new (read par (l .position)) y) {w₂ r₂ q₂ s₂ : List ℕ} {d : Run} (n : Noted p np k (mem w′ r q s′) (g .counts) start y (mem w₂ r₂ q₂ s₂) (record { code = d .code; counts = d .counts }))
+              module _ {y : Found} (i : Ends new (read par (l .position)) y) {w₂ r₂ q₂ s₂ : List ℕ} {d : Run} (n : Noted p np k (mem w′ r q s′) (g .counts) start (o .energy) y (mem w₂ r₂ q₂ s₂) (record { code = d .code; counts = d .counts }))
                   (same : d .energy ≡ o .energy) where
                 follow-note : (deeper : search.Level → St → St) (mid : St) → clear mid ≡ stOf k (buffers w p s t r q) o → F deeper mid ≡ noted turn y (addrs p 0 np) (noted-down mid)
                 follow-note deeper mid e = follow-on deeper mid e ∙ arrive-ends turn deeper (addrs p 0 np) (noted-down mid) i
 
-                holds-here : (mid : St) → clear mid ≡ stOf k (buffers w p s t r q) o → Holding (k .rooms) (mem w′ r q s′) (g .counts) start turn (noted-down mid)
+                holds-here : (mid : St) → clear mid ≡ stOf k (buffers w p s t r q) o → Holding (k .rooms) (mem w′ r q s′) (g .counts) start (o .energy) turn (noted-down mid)
                 holds-here mid e =
                     let c = noted-clear mid e in
                     record {
                       recs = ap (λ (z : St). z .recs) c;
                       cells = cells-in-use turn (noted-down mid) (fits-here .tables) (fits-here .remembers) (fits-here .packs) (ap (λ (z : St). z .recs) c) (ap (λ (z : St). z .met) c) refl;
                       turn = f .started;
+                      counted = ap (λ (z : St). z .energy) c;
                     }
 
                 did-note : (deeper : search.Level → St → St) → Did (k .rooms) (F deeper) (stOf k (buffers w p s t r q) o) (d .code) (stOf k (buffers w₂ p s₂ t′ r₂ q₂) d)
@@ -337,7 +338,7 @@ module _ {code : List ℕ} {k : Plan} {start : ℕ} {l : Level} {at np : ℕ} {w
                       ap clear (follow-note deeper mid e) ∙ n .made turn (noted-down mid) (holds-here mid e) z ∙ rw (mets-are, same, ap (λ (u : St). u .energy) e);
                 }
 
-                new-rec : SoundRec (k .n) (record { start = start; to = y; path = addrs p 0 np })
+                new-rec : SoundRec (k .n) (record { start = start; to = y; path = addrs p 0 np; energy = o .energy })
                 new-rec = record {
                   long = omega (arith, addrs-length p 0 np, h .is, h .some, h .entering .stands .some);
                   inside = inside-here;

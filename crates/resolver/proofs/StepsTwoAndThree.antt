@@ -190,16 +190,17 @@ module _ {code : List ℕ} {k : Plan} {start : ℕ} {l : Level} {at : ℕ} {w p 
 
         -- ---- no weight is left: the path is recorded with no destination
 
-        module _ {w₂ r₂ q₂ s₂ : List ℕ} {d : Run} (n : Noted p′ np k (tables.mem w r q s) (o .counts) start nowhere (tables.mem w₂ r₂ q₂ s₂) (record { code = d .code; counts = d .counts }))
+        module _ {w₂ r₂ q₂ s₂ : List ℕ} {d : Run} (n : Noted p′ np k (tables.mem w r q s) (o .counts) start (o .energy) nowhere (tables.mem w₂ r₂ q₂ s₂) (record { code = d .code; counts = d .counts }))
             (same : d .energy ≡ o .energy) where
           abbrev stop : (search.Level → St → St) → St → St
           stop deeper = record-nowhere turn (addrs p′ 0 np)
 
-          holds-grown : (mid : St) → clear mid ≡ stOf k (buffers w p′ s t r q) o → Holding (k .rooms) (tables.mem w r q s) (o .counts) start turn mid
+          holds-grown : (mid : St) → clear mid ≡ stOf k (buffers w p′ s t r q) o → Holding (k .rooms) (tables.mem w r q s) (o .counts) start (o .energy) turn mid
           holds-grown mid e = record {
             recs = ap (λ (z : St). z .recs) e;
             cells = cells-in-use turn mid (f .tables) (f .remembers) (f .packs) (ap (λ (z : St). z .recs) e) (ap (λ (z : St). z .met) e) refl;
             turn = f .started;
+            counted = ap (λ (z : St). z .energy) e;
           }
 
           stop-did : (deeper : search.Level → St → St) → Did (k .rooms) (stop deeper) (stOf k (buffers w p′ s t r q) o) (d .code) (stOf k (buffers w₂ p′ s₂ t r₂ q₂) d)
@@ -211,7 +212,7 @@ module _ {code : List ℕ} {k : Plan} {start : ℕ} {l : Level} {at : ℕ} {w p 
                 n .made turn mid (holds-grown mid e) z ∙ rw (mets-are, same, ap (λ (u : St). u .energy) e);
           }
 
-          stop-rec : SoundRec (k .n) (record { start = start; to = nowhere; path = addrs p′ 0 np })
+          stop-rec : SoundRec (k .n) (record { start = start; to = nowhere; path = addrs p′ 0 np; energy = o .energy })
           stop-rec = record {
             long = omega (arith, addrs-length p′ 0 np, np-is, h .stands .some, some-more);
             inside = rw path-is (inside-append (h .stands .inside) (h .parental .inside));
@@ -289,10 +290,11 @@ module _ {code : List ℕ} {k : Plan} {start : ℕ} {l : Level} {at : ℕ} {w p 
               inside = h .parental .inside;
               sound = h .parental .sound;
             };
+            energy = h .energy;
             unrefused = h .unrefused;
           }
 
-      pub enter-strays : {y : Entry} → y ≡ noEntry start → Lands p′ np k (tables.mem w r q s) (o .counts) y
+      pub enter-strays : {y : Entry} → y ≡ noEntry start (o .energy) → Lands p′ np k (tables.mem w r q s) (o .counts) y
       enter-strays e = rw e (record {
         lent = h .fits .planned .lentW;
         ready = record {
@@ -300,16 +302,17 @@ module _ {code : List ℕ} {k : Plan} {start : ℕ} {l : Level} {at : ℕ} {w p 
           path = record { fits = omega (arith, g .is some-room, g .fits some-room, h .fits .planned .lentP, g .long) };
           most = omega (arith, g .is some-room, g .fits some-room, h .fits .planned .mostP);
           start = omega (arith, h .fits .starts, h .fits .planned .lentW .short);
+          energy = omega (arith, h .energy, h .fits .planned .limit);
           entry = enters-nowhere refl refl;
           inside = omega arith;
         };
       })
 
-      pub entered-stops : l .left ≡ 0 → {y : Entry} {w₂ r₂ q₂ s₂ : List ℕ} {a : Answer} {e : Opening} → y ≡ noEntry start
-          → Noted p′ np k (tables.mem w r q s) (o .counts) (y .start) (newFound s y) (tables.mem w₂ r₂ q₂ s₂) a → e ≡ endedWith o a l
+      pub entered-stops : l .left ≡ 0 → {y : Entry} {w₂ r₂ q₂ s₂ : List ℕ} {a : Answer} {e : Opening} → y ≡ noEntry start (o .energy)
+          → Noted p′ np k (tables.mem w r q s) (o .counts) (y .start) (y .energy) (newFound s y) (tables.mem w₂ r₂ q₂ s₂) a → e ≡ endedWith o a l
           → Entered code k start l at (buffers w p s t r q) o (buffers w₂ p′ s₂ t r₂ q₂) e
       entered-stops z {y} {w₂} {r₂} {q₂} {s₂} {a} {e} i m d turn since b f =
-          let end : Ended p′ np k (tables.mem w r q s) (y .start) l o (newFound s y) (tables.mem w₂ r₂ q₂ s₂) e = ended-with m d in
+          let end : Ended p′ np k (tables.mem w r q s) (y .start) l o (newFound s y) (tables.mem w₂ r₂ q₂ s₂) e = ended-with m (ap (λ (x : Entry). x .energy) i) d in
           let n = ended-nowhere i end in
           rw (n .is) (enter-stops turn since b f (sym is ∙ unskipped) g some-room (g .long) (n .noted) (n .energy) z)
 

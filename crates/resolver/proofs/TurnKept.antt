@@ -178,7 +178,7 @@ module _ {code : List ℕ} {k : Plan} {t : Turn} {since start : ℕ} {w p s T r 
 
   -- ---- what a path ends in
 
-  module _ {np : ℕ} {x : Found} {w′ r′ q′ s′ : List ℕ} {a : Answer} (o : Noted p np k (mem w r q s) c start x (mem w′ r′ q′ s′) a) where
+  module _ {np energy : ℕ} {x : Found} {w′ r′ q′ s′ : List ℕ} {a : Answer} (o : Noted p np k (mem w r q s) c start energy x (mem w′ r′ q′ s′) a) where
     noted-more : c .records ≤ a .counts .records
     noted-more = more (o .grows)
       where
@@ -189,7 +189,7 @@ module _ {code : List ℕ} {k : Plan} {t : Turn} {since start : ℕ} {w p s T r 
     pub noted-mets : metOf T s′ (c .rows) ≡ metOf T s (c .rows)
     noted-mets = mets-kept (f .remembers) s′ (o .around .bottom) (omega (arith, o .around .longS))
 
-    pub fits-noted : SoundRec (k .n) (record { start = start; to = x; path = addrs p 0 np }) → Fits code k t since start (buffers w′ p s′ T r′ q′) (a .counts)
+    pub fits-noted : SoundRec (k .n) (record { start = start; to = x; path = addrs p 0 np; energy = energy }) → Fits code k t since start (buffers w′ p s′ T r′ q′) (a .counts)
     fits-noted new = record {
       planned = planned-long w′ p s′ T r′ q′ (f .planned) (o .around .longW) refl;
       stored = f .stored;
@@ -206,12 +206,12 @@ module _ {code : List ℕ} {k : Plan} {t : Turn} {since start : ℕ} {w p s T r 
       where
         all : {A B : Type 0} (y : Rec) → In y (recs (k .rooms) (mem w′ r′ q′ s′) (a .counts))
             → ((recs (k .rooms) (mem w′ r′ q′ s′) (a .counts) ≡ recs (k .rooms) (mem w r q s) c) × A)
-            ⊎ ((recs (k .rooms) (mem w′ r′ q′ s′) (a .counts) ≡ recs (k .rooms) (mem w r q s) c ++ record { start = start; to = x; path = addrs p 0 np } ∷ []) × B)
+            ⊎ ((recs (k .rooms) (mem w′ r′ q′ s′) (a .counts) ≡ recs (k .rooms) (mem w r q s) c ++ record { start = start; to = x; path = addrs p 0 np; energy = energy } ∷ []) × B)
             → SoundRec (k .n) y
         all y i (inl e) = f .sound .each y (rw (e .0) at i)
         all y i (inr e) = either (in-cases (recs (k .rooms) (mem w r q s) c) (rw (e .0) at i))
           where
-            either : In y (recs (k .rooms) (mem w r q s) c) ⊎ In y (record { start = start; to = x; path = addrs p 0 np } ∷ []) → SoundRec (k .n) y
+            either : In y (recs (k .rooms) (mem w r q s) c) ⊎ In y (record { start = start; to = x; path = addrs p 0 np; energy = energy } ∷ []) → SoundRec (k .n) y
             either (inl h) = f .sound .each y h
             either (inr h) = rw (in-only h) new
 

@@ -99,7 +99,7 @@ pub record Outcome (code : List ℕ) (k : Plan) (t : Turn) (since start : ℕ) (
 pub record Ended (p : List ℕ) (np : ℕ) (k : Plan) (m : tables.Mem) (start : ℕ) (l : Level) (o : Run) (y : Found) (m′ : tables.Mem) (e : Opening) : Type 0 where
   pub is : e ≡ shutWith (e .run) l
   pub energy : e .run .energy ≡ o .energy
-  pub noted : Noted p np k m (o .counts) start y m′ (record { code = e .run .code; counts = e .run .counts })
+  pub noted : Noted p np k m (o .counts) start (o .energy) y m′ (record { code = e .run .code; counts = e .run .counts })
 
 -- what a path ends in, by the symbol read
 pub data Ends (s : Stack) : Sym → Found → Type 0 where
@@ -109,7 +109,7 @@ pub data Ends (s : Stack) : Sym → Found → Type 0 where
 
 pub record Arriving (p : List ℕ) (np : ℕ) (k : Plan) (m : tables.Mem) (start : ℕ) (l : Level) (x : Seen) (o : Run) : Type 0 where
   pub lent : Room (k .n) (m .w)
-  pub ready : Ready p np (k .n) (k .buckets) (k .rooms) m (o .counts) (noEntry start)
+  pub ready : Ready p np (k .n) (k .buckets) (k .rooms) m (o .counts) (noEntry start (o .energy))
   pub state : State (m .s) (9 * x .from) (x .cells)
   pub inside : x .from + x .cells ≤ o .counts .used
   pub lands : (t : ℕ) → symOf (x .symbol) ≡ jumpdest t → t ≤ k .n
@@ -119,7 +119,7 @@ pub record Arrived (p : List ℕ) (np : ℕ) (k : Plan) (m : tables.Mem) (start 
   pub opens : (n : ℕ) → symOf (x .symbol) ≡ before n → (e ≡ openWith o np n x l) × (m′ ≡ m)
   pub ends : (y : Found) → Ends (stackAt (m .s) (9 * x .from) (x .cells)) (symOf (x .symbol)) y → Ended p np k m start l o y m′ e
 
--- a level and a parent of it in hand, in some turn
+-- a level and a parent of it in hand, in some turn, whose unit is not past the limit
 pub record Entering (code : List ℕ) (k : Plan) (start : ℕ) (l : Level) (at : ℕ) (m : Mem) (o : Run) : Type 0 where
   pub turn : Turn
   pub since : ℕ
@@ -127,6 +127,7 @@ pub record Entering (code : List ℕ) (k : Plan) (start : ℕ) (l : Level) (at :
   pub stands : Stands k m (o .counts) l
   pub on-its : OnIts k m l
   pub parental : Parental code k m (o .counts) at
+  pub energy : o .energy ≤ k .limit
   pub unrefused : o .code ≡ 0
 
 abbrev pub Entered : List ℕ → Plan → ℕ → Level → ℕ → Mem → Run → Mem → Opening → Type 0

@@ -12,7 +12,7 @@ use Rattle.steps.specs.declared.Plan.{Plan}
 use Rattle.steps.specs.declared.Level.{Level}
 use Rattle.steps.specs.declared.Run.{Run}
 use Rattle.resolver.specs.Fits.{Fits, levelOf, Stands, OnIts, held, Stays}
-use Rattle.resolver.specs.Enters.{onward, Entering}
+use Rattle.resolver.specs.Enters.{onward}
 
 abbrev pub spentWith : Run → Run
 spentWith o = record { code = o .code; energy = o .energy + 1; counts = o .counts }
@@ -38,10 +38,6 @@ pub record Opened (code : List ℕ) (k : Plan) (start : ℕ) (l : Level) (m : Me
 pub record Leveled (code : List ℕ) (k : Plan) (start : ℕ) (l : Level) (m : Mem) (o : Run) (m′ : Mem) (d : Run) : Type 0 where
   pub came : (t : Turn) (since : ℕ) → Fits code k t since start m (o .counts) → Came code k t since start (level (k .limit) t (l .left) (levelOf m l)) l m o m′ d
   pub energy : d .code ≡ 0 → d .energy ≤ k .limit + (l .left + 1)
-
-pub record Trying (code : List ℕ) (k : Plan) (start : ℕ) (l : Level) (at : ℕ) (m : Mem) (o : Run) : Type 0 where
-  pub entering : Entering code k start l at m o
-  pub energy : o .energy ≤ k .limit
 
 -- what opens a level, by a level's number
 abbrev pub deeperBy : ℕ → Turn → ℕ → search.Level → St → St

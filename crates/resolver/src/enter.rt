@@ -111,14 +111,15 @@ fn skipped(w: &[u8], n: usize, at: usize) -> bool
 }
 
 // The entry of a path that leads nowhere.
-fn no_entry(start: usize) -> Entry
-    ensures { λ e. ⌜ e ≡ noEntry start ⌝ }
+fn no_entry(start: usize, energy: usize) -> Entry
+    ensures { λ e. ⌜ e ≡ noEntry start energy ⌝ }
 {
     Entry {
         start,
         to: MISSING,
         from: 0,
         cells: 0,
+        energy,
     }
 }
 
@@ -150,11 +151,20 @@ fn arrive(
                 to,
                 from: x.from,
                 cells: x.cells,
+                energy: o.energy,
             };
             ended(o, land(p, np, w, r, q, s, k, c, e), l)
         }
-        StackSym::Constant(_) => ended(o, land(p, np, w, r, q, s, k, c, no_entry(start)), l),
-        StackSym::Other(_) => ended(o, land(p, np, w, r, q, s, k, c, no_entry(start)), l),
+        StackSym::Constant(_) => ended(
+            o,
+            land(p, np, w, r, q, s, k, c, no_entry(start, o.energy)),
+            l,
+        ),
+        StackSym::Other(_) => ended(
+            o,
+            land(p, np, w, r, q, s, k, c, no_entry(start, o.energy)),
+            l,
+        ),
     }
 }
 
@@ -241,7 +251,11 @@ pub fn enter(
     }
     if l.left == 0 {
         let c = o.counts;
-        return ended(o, land(p, np, w, r, q, s, k, c, no_entry(start)), l);
+        return ended(
+            o,
+            land(p, np, w, r, q, s, k, c, no_entry(start, o.energy)),
+            l,
+        );
     }
     follow(code, w, p, s, t, r, q, k, start, l, at, np, o)
 }

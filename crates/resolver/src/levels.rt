@@ -14,7 +14,8 @@ use steps::path::uncount;
 ghost use mathlib.Core.Path.{_≡_};
 ghost use Prim.Native.Nat.{_+_, _<_, _^_};
 ghost use Rattle.layout.specs.Buffers.{buffers};
-ghost use Rattle.resolver.specs.Levels.{spentWith, Opened, Leveled, Trying, Tried};
+ghost use Rattle.resolver.specs.Enters.{Entering};
+ghost use Rattle.resolver.specs.Levels.{spentWith, Opened, Leveled, Tried};
 
 // A unit of energy.
 fn spend(o: Run) -> Run
@@ -85,7 +86,7 @@ fn parent(
     at: usize,
     o: Run,
 ) -> Run
-    requires { ⌜ Trying (now code) k start l at (buffers (now w) (now p) (now s) (now t) (now r) (now q)) o ⌝ }
+    requires { ⌜ Entering (now code) k start l at (buffers (now w) (now p) (now s) (now t) (now r) (now q)) o ⌝ }
     ensures { λ d. ⌜ Tried (now (code .entry)) k start l at
         (buffers (now (w .entry)) (now (p .entry)) (now (s .entry)) (now (t .entry)) (now (r .entry)) (now (q .entry))) o
         (buffers (now (w .exit)) (now (p .exit)) (now (s .exit)) (now (t .exit)) (now (r .exit)) (now (q .exit))) d ⌝ }

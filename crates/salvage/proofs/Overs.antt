@@ -30,7 +30,7 @@ module _ (b : List ℕ) (at : ℕ) {p : Order} where
   pub run-sevens : {low block left : ℕ} {r : Bool} → p ≡ Sevens low block left → r ≡ sevenAt b at → r ≡ runs p b at
   run-sevens q h = h ∙ sym (ap (λ (x : Order). runs x b at) q)
 
-  pub run-records : p ≡ Records → false ≡ runs p b at
+  pub run-records : {form : ℕ} → p ≡ Records form → false ≡ runs p b at
   run-records q = sym (ap (λ (x : Order). runs x b at) q)
 
 -- ---- over

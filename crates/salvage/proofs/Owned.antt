@@ -194,7 +194,7 @@ module _ (b : List ℕ) where
           → stoppedOf p at (sevens (from mine at)) ≡ stoppedOf p at (sevens (from b at))
       stopped-same (Blocks low) e = refl
       stopped-same (Sevens low block left) e = ap (stoppedOf (Sevens low block left) at) (ap sevens e ∙ own-sevens (n - s .blocks) (m - s .records) (from b at))
-      stopped-same Records e = refl
+      stopped-same (Records form) e = refl
 
       abbrev class-there : Class
       class-there = classOf (entryAt b at)

@@ -32,20 +32,22 @@ block-to s (Sevens low block left) q r e =
     both (λ (x : Step). x ≡ To r → q ≡ r) (eqb left 0)
     (λ _. both (λ (x : Step). x ≡ To r → q ≡ r) (leb low s) (λ _ (g : To q ≡ To r). cc) (λ _ (g : Stop ≡ To r). never (cc)))
     (λ _ (g : Stop ≡ To r). never (cc)) e
-block-to s Records q r e = never (cc)
+block-to s (Records form) q r e = never (cc)
 
 way-to : (p r : Order) → wayStep p ≡ To r → running p ≡ running r
 way-to (Blocks low) r e = never (cc)
 way-to (Sevens low block left) r e =
     both (λ (x : Step). x ≡ To r → true ≡ running r) (eqb left 0) (λ _ (g : Stop ≡ To r). never (cc))
     (λ _ (g : To (Sevens low block (left - 1)) ≡ To r). let same : Sevens low block (left - 1) ≡ r = cc in ap running same) e
-way-to Records r e = never (cc)
+way-to (Records form) r e = never (cc)
 
-record-to : (p r : Order) → recordStep p ≡ To r → false ≡ running r
-record-to (Blocks low) r e = let same : Records ≡ r = cc in ap running same
-record-to (Sevens low block left) r e =
-    both (λ (x : Step). x ≡ To r → false ≡ running r) (eqb left 0) (λ _ (g : To Records ≡ To r). let same : Records ≡ r = cc in ap running same) (λ _ (g : Stop ≡ To r). never (cc)) e
-record-to Records r e = let same : Records ≡ r = cc in ap running same
+record-to : (form : ℕ) (p r : Order) → recordStep form p ≡ To r → false ≡ running r
+record-to form (Blocks low) r e = let same : Records form ≡ r = cc in ap running same
+record-to form (Sevens low block left) r e =
+    both (λ (x : Step). x ≡ To r → false ≡ running r) (eqb left 0) (λ _ (g : To (Records form) ≡ To r). let same : Records form ≡ r = cc in ap running same) (λ _ (g : Stop ≡ To r). never (cc)) e
+record-to form (Records before) r e =
+    both (λ (x : Step). x ≡ To r → false ≡ running r) (eqb form before) (λ _ (g : To (Records before) ≡ To r). let same : Records before ≡ r = cc in ap running same)
+    (λ _ (g : Stop ≡ To r). never (cc)) e
 
 -- ---- an entry of a sort, by its class
 
@@ -82,7 +84,7 @@ module _ (there : ℕ) (body : List ℕ) where
   told-right (BLOCK DYNAMIC-JUMP) h = told-dynamic (BLOCK DYNAMIC-JUMP) (field 0 2 body) (field 4 4 body) refl refl (λ _. refl)
   told-right (BLOCK DYNAMIC-JUMPI) h = told-dynamic (BLOCK DYNAMIC-JUMPI) (field 0 2 body) (field 6 4 body) refl refl (λ _. refl)
   told-right (WAY missing) h = record { blocks-are = refl; records-are = refl; run-is = λ p q at e. way-to p q e }
-  told-right (RECORD to missing) h = record { blocks-are = refl; records-are = refl; run-is = λ p q at e. record-to p q e }
+  told-right (RECORD to missing) h = record { blocks-are = refl; records-are = refl; run-is = λ p q at e. record-to to p q e }
   told-right UNKNOWN h = absurd (h refl)
 
   told-wrong : (x : Sort) → Tells x (known x Wrong)

@@ -33,7 +33,7 @@ fn of_run(archive: &[u8], at: usize, p: Order) -> bool
             seven_at(archive, at)
         }
         Order::Sevens { .. } => seven_at(archive, at),
-        Order::Records => false,
+        Order::Records { .. } => false,
     }
 }
 

@@ -23,11 +23,11 @@ module _ {a a₁ : Answer} {b b₁ b′ : List ℕ} (p : a₁ ≡ a) (q : b₁ �
   output-same : b′ ≡ output-after a₁ b₁ → b′ ≡ output-after a b
   output-same e = e ∙ rw (p, q)
 
-pub told : {limit : ℕ} {code : List ℕ} {m m₁ m′ : Mem} {out out₁ out′ : List ℕ} {x : ℕ} → Marked m out m₁ out₁ → Exported limit 0 code m₁ out₁ m′ out′ x
-    → Told (answer (in-mode 0) (lentOf m out) limit code) m out m′ out′
+pub told : {limit : ℕ} {code : List ℕ} {m m₁ m′ : Mem} {out out₁ out′ : List ℕ} {x : ℕ} → Marked m out m₁ out₁ → Exported limit 1 0 code m₁ out₁ m′ out′ x
+    → Told (answer (in-mode 0) (lentOf m out) limit 1 code) m out m′ out′
 told {limit} {code} {m} {m₁} {m′} {out} {out₁} {out′} k e =
     let lengths : lentOf m₁ out₁ ≡ lentOf m out = simp (k .w, k .p, k .s, k .t, k .r, k .q, k .out-is, length-each) in
-    let same : answer (in-mode 0) (lentOf m₁ out₁) limit code ≡ answer (in-mode 0) (lentOf m out) limit code = ap (λ (l : Lent). answer (in-mode 0) l limit code) lengths in
+    let same : answer (in-mode 0) (lentOf m₁ out₁) limit 1 code ≡ answer (in-mode 0) (lentOf m out) limit 1 code = ap (λ (l : Lent). answer (in-mode 0) l limit 1 code) lengths in
     record {
       w = room-same same (k .w) (e .w);
       p = room-same same (k .p) (e .p);
@@ -59,13 +59,13 @@ pub lends : (c : Case) (code w p s t r q out : List ℕ) {n kw kp ks kt kr kq ko
     → n ≡ min (c .length) (length code) → kw ≡ min (c .w) (length w) → kp ≡ min (c .p) (length p) → ks ≡ min (c .s) (length s)
     → kt ≡ min (c .t) (length t) → kr ≡ min (c .r) (length r) → kq ≡ min (c .q) (length q) → ko ≡ min (c .out) (length out)
     → Told
-    (answer (in-mode 0) (lentOf (buffers (take kw w) (take kp p) (take ks s) (take kt t) (take kr r) (take kq q)) (take ko out)) (c .limit) (take n code))
+    (answer (in-mode 0) (lentOf (buffers (take kw w) (take kp p) (take ks s) (take kt t) (take kr r) (take kq q)) (take ko out)) (c .limit) 1 (take n code))
     (buffers (take kw w) (take kp p) (take ks s) (take kt t) (take kr r) (take kq q)) (take ko out) (buffers w′ p′ s′ t′ r′ q′) out′
     → Lending c (reply c code (buffers w p s t r q) out) (buffers w p s t r q) out
     (buffers (w′ ++ drop kw w) (p′ ++ drop kp p) (s′ ++ drop ks s) (t′ ++ drop kt t) (r′ ++ drop kr r) (q′ ++ drop kq q)) (out′ ++ drop ko out)
 unfolding reply
 lends c code w p s t r q out {n} {kw} {kp} {ks} {kt} {kr} {kq} {ko} en ew ep es et er eq eo a =
-    let same : answer (in-mode 0) (lentOf (buffers (take kw w) (take kp p) (take ks s) (take kt t) (take kr r) (take kq q)) (take ko out)) (c .limit) (take n code)
+    let same : answer (in-mode 0) (lentOf (buffers (take kw w) (take kp p) (take ks s) (take kt t) (take kr r) (take kq q)) (take ko out)) (c .limit) 1 (take n code)
     ≡ reply c code (buffers w p s t r q) out =
     rw (taken (c .w) w ew, taken (c .p) p ep, taken (c .s) s es, taken (c .t) t et, taken (c .r) r er, taken (c .q) q eq, taken (c .out) out eo, en) in
     record {

@@ -59,7 +59,7 @@ pub record Told (a : Answer) (m : Mem) (out : List ℕ) (m′ : Mem) (out′ : L
 abbrev pub lending : (List ℕ → List ℕ) → ℕ → List ℕ → List ℕ
 lending f k b = f (marks (min k (length b))) ++ drop (min k (length b)) b
 
--- document 01's answer to a case, in mode 0: so much is lent of each buffer as it says, if that is there
+-- document 01's answer to a case, with records of kind 8 and in mode 0: so much is lent of each buffer as it says, if that is there
 unfoldable pub reply : Case → List ℕ → Mem → List ℕ → Answer
 reply c code m out =
     answer (in-mode 0)
@@ -72,7 +72,7 @@ reply c code m out =
       q = min (c .q) (length (m .q));
       out = min (c .out) (length out);
     })
-    (c .limit)
+    (c .limit) 1
     (take (min (c .length) (length code)) code)
 
 -- what it leaves of each buffer

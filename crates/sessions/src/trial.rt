@@ -132,7 +132,7 @@ fn part(wanted: usize, room: &[u8]) -> usize
     if wanted < all { wanted } else { all }
 }
 
-// Calls the entry with every lent byte marked, and tells what came of it.
+// Calls the entry, for records of kind 8 and in mode 0, with every lent byte marked, and tells what came of it.
 fn tell(
     limit: usize,
     code: &[u8],
@@ -147,12 +147,12 @@ fn tell(
     ensures { λ _. ⌜ Told
         (answer (in-mode 0)
         (lentOf (buffers (now (w .entry)) (now (p .entry)) (now (s .entry)) (now (t .entry)) (now (r .entry)) (now (q .entry))) (now (out .entry)))
-        limit (now (code .entry)))
+        limit 1 (now (code .entry)))
         (buffers (now (w .entry)) (now (p .entry)) (now (s .entry)) (now (t .entry)) (now (r .entry)) (now (q .entry))) (now (out .entry))
         (buffers (now (w .exit)) (now (p .exit)) (now (s .exit)) (now (t .exit)) (now (r .exit)) (now (q .exit))) (now (out .exit)) ⌝ }
 {
     fill_all(w, p, s, t, r, q, out);
-    let answer = aznifrem_map(limit as u64, 0, code, w, p, s, t, r, q, out);
+    let answer = aznifrem_map(limit as u64, 1, 0, code, w, p, s, t, r, q, out);
     report(answer, w, p, s, t, r, q, out);
 }
 

@@ -34,9 +34,10 @@ prepared r code = let is = instructions code in nodes r code is (blocks (r .row)
 unfoldable pub searched : Rules → ℕ → List ℕ → St
 searched r limit code = search limit (prepared r code)
 
--- the map that it gives
-unfoldable pub mapped : Rules → List ℕ → St → Map
-mapped r code s = record { size = length code; energy = s .energy; blocks = pruned (finals (prepared r code) (s .recs)); recs = s .recs }
+-- the map that it gives; "Kind 8 is still written if the caller's choice number is not 0"
+unfoldable pub mapped : Rules → ℕ → List ℕ → St → Map
+mapped r choice code s =
+    record { size = length code; energy = s .energy; blocks = pruned (finals (prepared r code) (s .recs)); recs = s .recs; numbered = eqb choice 0 }
 
 -- "9 comes last"; the output's units are bytes
 abbrev pub within-out : Lent → Map → Answer
@@ -48,10 +49,10 @@ within-rooms ok zero = ok
 within-rooms ok (suc n) = refused (suc n)
 
 -- "1, 2, 3 are tested in that order"; "13, mode neither 0 nor 1, tested after 2"
-unfoldable pub answer : Rules → Lent → ℕ → List ℕ → Answer
-answer r l limit code =
+unfoldable pub answer : Rules → Lent → ℕ → ℕ → List ℕ → Answer
+answer r l limit choice code =
     let s = searched r limit code in
-    let ok = within-out l (mapped r code s) in
+    let ok = within-out l (mapped r choice code s) in
     let run = within-rooms ok (shortage l (s .needs)) in
     if (ltb longest (length code)) (refused 1)
     (if (ltb 500000 limit) (refused 2)

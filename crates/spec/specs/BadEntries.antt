@@ -28,6 +28,11 @@ pub data HasRecord : List Entry → Type 0 where
   right-there : {e : Entry} {es : List Entry} {at missing : ℕ} → sort (e .kind) ≡ RECORD at missing → HasRecord (e ∷ es)
   further : {e : Entry} {es : List Entry} → HasRecord es → HasRecord (e ∷ es)
 
+-- a record of the other kind, whose path length stands elsewhere
+pub data OtherRecord (at : ℕ) : List Entry → Type 0 where
+  other-there : {e : Entry} {es : List Entry} {by missing : ℕ} → sort (e .kind) ≡ RECORD by missing → (at ≡ by → ⊥) → OtherRecord at (e ∷ es)
+  other-further : {e : Entry} {es : List Entry} → OtherRecord at es → OtherRecord at (e ∷ es)
+
 -- the block's before it: the last of the blocks
 pub data LastBlock (p : Entry) : List Entry → Type 0 where
   it-is : {es : List Entry} {x : Ends} → sort (p .kind) ≡ BLOCK x → LastBlock p (p ∷ es)
@@ -56,6 +61,8 @@ pub data Wrong (es : List Entry) (e : Entry) (rest : List ℕ) : Type 0 where
   block-after-record : {x : Ends} → sort (e .kind) ≡ BLOCK x → HasRecord es → Wrong es e rest
   start-not-above : {x : Ends} {p : Entry} → sort (e .kind) ≡ BLOCK x → LastBlock p es → start-in (e .body) ≤ start-in (p .body) → Wrong es e rest
   away-from-dynamic : {missing : ℕ} → sort (e .kind) ≡ WAY missing → (OfDynamic es → ⊥) → Wrong es e rest
+  -- "after one of 8 and 9 the other is a bad entry"
+  after-the-other : {at missing : ℕ} → sort (e .kind) ≡ RECORD at missing → OtherRecord at es → Wrong es e rest
   count-not-met : {c n : ℕ} → owes (sort (e .kind)) (e .body) ≡ some c → Sevens rest n → (c ≡ n → ⊥) → Wrong es e rest
 
 -- a bad entry at an offset

@@ -8,12 +8,13 @@ use Rattle.spec.specs.Blocks.{Kind, terminate, jump, jumpi, dynamic-jump
 use Rattle.spec.specs.Search.{Found, nowhere, found, Rec}
 use Rattle.spec.specs.Ending.{Final}
 
--- a whole answer: the code's length, the energy used, the blocks and the record
+-- a whole answer: the code's length, the energy used, the blocks and the record, which is written with its numbers or without
 pub record Map : Type 0 where
   pub size : ℕ
   pub energy : ℕ
   pub blocks : List Final
   pub recs : List Rec
+  pub numbered : Bool
 
 -- "Output entries: length of body (4 bytes), kind (2), body; little-endian."
 abbrev pub item : ℕ → List ℕ → List ℕ
@@ -57,13 +58,14 @@ extent b = little 2 (b .start) ++ little 2 (b .end)
 abbrev pub block-entries : Map → List (List ℕ)
 block-entries m = gather (λ (f : Final). shown (extent (f .block)) (f .entries) (f .block .kind)) (m .blocks)
 
--- "8 record: start, to, path length, path."
-abbrev pub record-entry : Rec → List ℕ
-record-entry r = item 8 (little 2 (r .start) ++ little 2 (destination (r .to)) ++ path-bytes (r .path))
+-- "8 record: start, to, path length, path."; numbered, "kind 9: start, to, energy, path length, path"
+abbrev pub record-entry : Bool → Rec → List ℕ
+record-entry false r = item 8 (little 2 (r .start) ++ little 2 (destination (r .to)) ++ path-bytes (r .path))
+record-entry true r = item 9 (little 2 (r .start) ++ little 2 (destination (r .to)) ++ little 4 (r .energy) ++ path-bytes (r .path))
 
 -- "Order: head, blocks by start each with its 7s, records as found."
 unfoldable pub entries : Map → List (List ℕ)
-entries m = head m ∷ block-entries m ++ map record-entry (m .recs)
+entries m = head m ∷ block-entries m ++ map (record-entry (m .numbered)) (m .recs)
 
 abbrev pub joined : List (List ℕ) → List ℕ
 joined = gather (λ (e : List ℕ). e)

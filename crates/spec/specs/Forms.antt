@@ -49,9 +49,10 @@ sort k =
     (if (eqb k 5) (BLOCK DYNAMIC-JUMP)
     (if (eqb k 6) (BLOCK DYNAMIC-JUMPI)
     (if (eqb k 7) (WAY absent)
-    (if (eqb k 8) (RECORD 4 absent) UNKNOWN)))))))
+    (if (eqb k 8) (RECORD 4 absent)
+    (if (eqb k 9) (RECORD 8 absent) UNKNOWN))))))))
 
--- how long the kind says that the body is; 7 and 8 by the path length that it announces
+-- how long the kind says that the body is; 7, 8 and 9 by the path length that it announces
 abbrev pub long : Sort → List ℕ → ℕ
 long HEAD body = 12
 long (BLOCK TERMINATE) body = 5

@@ -87,8 +87,8 @@ pub record PathEntry : Type 0 where
 abbrev pub shows : ℕ → ℕ → (ℕ → List PathEntry) → Item → List PathEntry
 shows b at on (a-head s n m e) = on b
 shows b at on (a-block c n) = on (c .start)
-shows b at on (a-way t p) = record { offset = at; entry = record { start = b; to = t; path = p } } ∷ on b
-shows b at on (a-record r) = record { offset = at; entry = r } ∷ on b
+shows b at on (a-way t p) = record { offset = at; entry = record { start = b; to = t; path = p; energy = 0 } } ∷ on b
+shows b at on (a-record numbered r) = record { offset = at; entry = r } ∷ on b
 shows b at on no-item = on b
 
 -- a 7 is of the block before it, here at b
@@ -156,5 +156,6 @@ work-after (not-right at place) w = replicate (length w) 0
 work-after accepted w = replicate (length w) 0
 
 -- ---- a run of ours "shown with that run's edges before pruning": the final blocks before pruning, and the record
-unfoldable pub unpruned : Rules → List ℕ → St → Map
-unpruned rules code s = record { size = length code; energy = s .energy; blocks = finals (prepared rules code) (s .recs); recs = s .recs }
+unfoldable pub unpruned : Rules → ℕ → List ℕ → St → Map
+unpruned rules choice code s =
+    record { size = length code; energy = s .energy; blocks = finals (prepared rules code) (s .recs); recs = s .recs; numbered = eqb choice 0 }

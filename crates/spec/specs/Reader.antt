@@ -61,18 +61,20 @@ formed s body = eqb (length body) (long s body) && fair s body
 
 -- ---- (iii) the order
 
--- the head is to come; blocks may come, from a start on, and 7s or not; records alone may come
+-- the head is to come; blocks may come, from a start on, and 7s or not; records alone may come, of the kind of those before, told by where its path length
+-- stands
 pub data Place : Type 0 where
   first : Place
   blocks : ℕ → Bool → Place
-  records : Place
+  records : ℕ → Place
 
 -- the place behind an entry that may come; no other may
 abbrev pub next : Sort → ℕ → Place → Option Place
 next HEAD start first = some (blocks 0 false)
 next (WAY missing) start (blocks low true) = some (blocks low true)
-next (RECORD at missing) start (blocks low sevens) = some records
-next (RECORD at missing) start records = some records
+next (RECORD at missing) start (blocks low sevens) = some (records at)
+-- "after one of 8 and 9 the other is a bad entry"
+next (RECORD at missing) start (records by) = if (eqb at by) (some (records by)) none
 -- "a block start not above the one before"
 next (BLOCK x) start (blocks low sevens) = if (leb low start) (some (blocks (suc start) (dynamic x))) none
 -- "a missing head"
@@ -81,11 +83,11 @@ next (WAY missing) start first = none
 next (RECORD at missing) start first = none
 -- "entries out of order"
 next HEAD start (blocks low sevens) = none
-next HEAD start records = none
-next (BLOCK x) start records = none
+next HEAD start (records by) = none
+next (BLOCK x) start (records by) = none
 -- "kind 7 away from a dynamic block"
 next (WAY missing) start (blocks low false) = none
-next (WAY missing) start records = none
+next (WAY missing) start (records by) = none
 -- "unknown kinds"
 next UNKNOWN start p = none
 
@@ -120,7 +122,7 @@ taken at ok on (some p) = let later = on p in if ok later (some at)
 unfoldable pub first-bad : List Piece → Place → Option ℕ
 first-bad [] first = some 0
 first-bad [] (blocks low sevens) = none
-first-bad [] records = none
+first-bad [] (records by) = none
 first-bad (cut at ∷ ps) p = some at
 first-bad (whole at e ∷ ps) p =
     let s = sort (e .kind) in
@@ -128,12 +130,12 @@ first-bad (whole at e ∷ ps) p =
 
 -- ---- the map that the entries hold
 
--- an entry with its numbers; a block with its count, 0 where it has none
+-- an entry with its numbers; a block with its count, 0 where it has none; a record, and whether it has its number
 pub data Item : Type 0 where
   a-head : ℕ → ℕ → ℕ → ℕ → Item
   a-block : Block → ℕ → Item
   a-way : Found → List ℕ → Item
-  a-record : Rec → Item
+  a-record : Bool → Rec → Item
   no-item : Item
 
 -- the state that a search keeps for a destination is not written, and none is read
@@ -149,6 +151,11 @@ addresses (x ∷ y ∷ bs) = number (x ∷ y ∷ []) ∷ addresses bs
 abbrev pub blocked : List ℕ → Kind → Block
 blocked body k = block (field 0 2 body) (field 0 2 body) (field 2 2 body) k
 
+-- the number of a record that has one
+abbrev pub numbered-by : Bool → ℕ → ℕ
+numbered-by true n = n
+numbered-by false n = 0
+
 abbrev pub item-of : Sort → List ℕ → Item
 item-of HEAD body = a-head (field 0 2 body) (field 2 2 body) (field 4 4 body) (field 8 4 body)
 item-of (BLOCK TERMINATE) body = a-block (blocked body (terminate (eqb (field 4 1 body) 1))) 0
@@ -157,7 +164,8 @@ item-of (BLOCK JUMPI) body = a-block (blocked body (jumpi (field 4 2 body) (fiel
 item-of (BLOCK DYNAMIC-JUMP) body = a-block (blocked body dynamic-jump) (field 4 4 body)
 item-of (BLOCK DYNAMIC-JUMPI) body = a-block (blocked body (dynamic-jumpi (field 4 2 body))) (field 6 4 body)
 item-of (WAY missing) body = a-way (destined missing (field 0 2 body)) (addresses (drop 6 body))
-item-of (RECORD at missing) body = a-record (record { start = field 0 2 body; to = destined missing (field 2 2 body); path = addresses (drop (at + 4) body) })
+item-of (RECORD at missing) body =
+    a-record (eqb at 8) (record { start = field 0 2 body; to = destined missing (field 2 2 body); path = addresses (drop (at + 4) body); energy = numbered-by (eqb at 8) (field 4 4 body) })
 item-of UNKNOWN body = no-item
 
 unfoldable pub items : List Piece → List Item
@@ -168,10 +176,10 @@ items (whole at e ∷ ps) = item-of (sort (e .kind)) (e .body) ∷ items ps
 -- the 7s that come first, as entries of the block at a
 unfoldable pub ways : ℕ → List Item → List Rec
 ways a [] = []
-ways a (a-way t p ∷ is) = record { start = a; to = t; path = p } ∷ ways a is
+ways a (a-way t p ∷ is) = record { start = a; to = t; path = p; energy = 0 } ∷ ways a is
 ways a (a-head s n m e ∷ is) = []
 ways a (a-block b n ∷ is) = []
-ways a (a-record r ∷ is) = []
+ways a (a-record b r ∷ is) = []
 ways a (no-item ∷ is) = []
 
 -- the blocks, each with its 7s
@@ -180,16 +188,25 @@ finals-in [] = []
 finals-in (a-block b n ∷ is) = record { block = b; entries = ways (b .start) is } ∷ finals-in is
 finals-in (a-way t p ∷ is) = finals-in is
 finals-in (a-head s n m e ∷ is) = finals-in is
-finals-in (a-record r ∷ is) = finals-in is
+finals-in (a-record b r ∷ is) = finals-in is
 finals-in (no-item ∷ is) = finals-in is
 
 unfoldable pub recs-in : List Item → List Rec
 recs-in [] = []
-recs-in (a-record r ∷ is) = r ∷ recs-in is
+recs-in (a-record b r ∷ is) = r ∷ recs-in is
 recs-in (a-way t p ∷ is) = recs-in is
 recs-in (a-block b n ∷ is) = recs-in is
 recs-in (a-head s n m e ∷ is) = recs-in is
 recs-in (no-item ∷ is) = recs-in is
+
+-- they have their numbers, which the first one tells
+unfoldable pub numbered-in : List Item → Bool
+numbered-in [] = false
+numbered-in (a-record b r ∷ is) = b
+numbered-in (a-way t p ∷ is) = numbered-in is
+numbered-in (a-block b n ∷ is) = numbered-in is
+numbered-in (a-head s n m e ∷ is) = numbered-in is
+numbered-in (no-item ∷ is) = numbered-in is
 
 -- ---- (v) "wrong head counts are looked at last and give offset 0"
 
@@ -198,10 +215,10 @@ counted n m a = if (eqb n (length (a .blocks)) && eqb m (length (a .recs))) (hol
 
 abbrev pub held : List Item → Reading
 held [] = bad 0
-held (a-head size n m energy ∷ is) = counted n m (record { size = size; energy = energy; blocks = finals-in is; recs = recs-in is })
+held (a-head size n m energy ∷ is) = counted n m (record { size = size; energy = energy; blocks = finals-in is; recs = recs-in is; numbered = numbered-in is })
 held (a-block b n ∷ is) = bad 0
 held (a-way t p ∷ is) = bad 0
-held (a-record r ∷ is) = bad 0
+held (a-record b r ∷ is) = bad 0
 held (no-item ∷ is) = bad 0
 
 abbrev pub verdict : List Piece → Option ℕ → Reading
@@ -212,20 +229,28 @@ verdict ps (some at) = bad at
 unfoldable pub read : List ℕ → Reading
 read b = let ps = pieces b 0 0 in verdict ps (first-bad ps first)
 
--- ---- what the bytes of a map keep of it: all but the states that a search keeps for destinations
+-- ---- what the bytes of a map keep of it: all but the states that a search keeps for destinations, and the numbers of records where they are not written
 
 abbrev pub stateless : Found → Found
 stateless nowhere = nowhere
 stateless (found t s) = found t no-state
 
 abbrev pub plain-rec : Rec → Rec
-plain-rec r = record { start = r .start; to = stateless (r .to); path = r .path }
+plain-rec r = record { start = r .start; to = stateless (r .to); path = r .path; energy = 0 }
+
+abbrev pub plain-record : Bool → Rec → Rec
+plain-record b r = record { start = r .start; to = stateless (r .to); path = r .path; energy = numbered-by b (r .energy) }
+
+-- of no record no kind is told
+abbrev pub told-by : List Rec → Bool → Bool
+told-by [] b = false
+told-by (r ∷ rs) b = b
 
 abbrev pub plain-final : Final → Final
 plain-final f = record { block = f .block; entries = map plain-rec (f .entries) }
 
 abbrev pub plain : Map → Map
-plain m = record { size = m .size; energy = m .energy; blocks = map plain-final (m .blocks); recs = map plain-rec (m .recs) }
+plain m = record { size = m .size; energy = m .energy; blocks = map plain-final (m .blocks); recs = map (plain-record (m .numbered)) (m .recs); numbered = told-by (m .recs) (m .numbered) }
 
 -- a number and a value as one: a value of 2^56 or more, which no buffer has, is told as 2^56 − 1
 abbrev pub told : ℕ → ℕ → ℕ

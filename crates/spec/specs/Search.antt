@@ -85,7 +85,8 @@ direct = gather (λ (r : Node). map (λ (t : ℕ). parent t (r .block .start ∷
 abbrev pub edges : List Node → List Edge
 edges = gather (λ (r : Node). map (edge (r .block .start) (r .block .start)) (sides (r .block .kind)))
 
--- ---- the record: with a destination and the state that is kept for it, or without
+-- ---- the record: with a destination and the state that is kept for it, or without; and its number, "the energy spent, from the start of the run, when it
+-- was made" (document 02, No. 5)
 
 pub data Found : Type 0 where
   nowhere : Found
@@ -95,6 +96,7 @@ pub record Rec : Type 0 where
   pub start : ℕ
   pub to : Found
   pub path : List ℕ
+  pub energy : ℕ
 
 abbrev pub is-at : ℕ → Found → Bool
 is-at t nowhere = false
@@ -195,13 +197,13 @@ writes path s = need Q (addresses s + length path) (need R (suc (length (s .recs
 -- "recorded without destination unless that path is already so recorded"
 unfoldable pub record-nowhere : Turn → List ℕ → St → St
 record-nowhere c path s =
-    let made = add (record { start = c .start; to = nowhere; path = path }) (writes path s) in
+    let made = add (record { start = c .start; to = nowhere; path = path; energy = s .energy }) (writes path s) in
     if (some? (λ (r : Rec). is-nowhere (r .to) && same path (r .path)) (s .recs)) s made
 
 -- "recorded unless that destination has that path already"
 unfoldable pub record-found : Turn → ℕ → Stack → List ℕ → St → St
 record-found c t new path s =
-    let made = add (record { start = c .start; to = found t new; path = path }) (need S (in-use c s + cells new) (writes path s)) in
+    let made = add (record { start = c .start; to = found t new; path = path; energy = s .energy }) (need S (in-use c s + cells new) (writes path s)) in
     if (some? (λ (r : Rec). is-at t (r .to) && same path (r .path)) (s .recs)) s made
 
 -- ---- "Per parent, in this order"

@@ -150,7 +150,7 @@ spared-mark {n} {buckets} {a} {when} {w} {w′} i m = by-mark i m (λ _ s. store
 
 -- ---- noted: recorded, and marked if it is new
 
-module _ {p : List ℕ} {np n buckets start : ℕ} {k : Rooms} {m m′ : tables.Mem} {c : Counts} {x : Found} {a : Answer} (h : Recorded p np n buckets k m c start x m′ a) where
+module _ {p : List ℕ} {np n buckets start energy : ℕ} {k : Rooms} {m m′ : tables.Mem} {c : Counts} {x : Found} {a : Answer} (h : Recorded p np n buckets k m c start energy x m′ a) where
   -- recording leaves the marks
   mark-recorded : (y : ℕ) → y ≤ n → markAt (m′ .w) n y ≡ markAt (m .w) n y
   mark-recorded y l =
@@ -164,7 +164,7 @@ module _ {p : List ℕ} {np n buckets start : ℕ} {k : Rooms} {m m′ : tables.
       go (inl e) = ap f (e .1)
       go (inr e) = ap f (e .1) ∙ g
 
-  recorded-grows : Grows k m c (record { start = start; to = x; path = addrs p 0 np }) m′ (a .counts)
+  recorded-grows : Grows k m c (record { start = start; to = x; path = addrs p 0 np; energy = energy }) m′ (a .counts)
   recorded-grows = go (recorded-more h)
     where
       go : {A B : Type 0} → (A × (a .counts ≡ c)) ⊎ (B × (a .counts ≡ counted c np (kept x)))
@@ -172,12 +172,12 @@ module _ {p : List ℕ} {np n buckets start : ℕ} {k : Rooms} {m m′ : tables.
       go (inl e) = inl (e .0, ap (λ (d : Counts). d .records) (e .1))
       go (inr e) = inr (e .0, ap (λ (d : Counts). d .records) (e .1))
 
-module _ {p : List ℕ} {np start : ℕ} {k : Plan} {w r q s w₁ r₁ q₁ s₁ : List ℕ} {c : Counts} {x : Found} {a : Answer}
-    (h : Recorded p np (k .n) (k .buckets) (k .rooms) (tables.mem w r q s) c start x (tables.mem w₁ r₁ q₁ s₁) a) where
+module _ {p : List ℕ} {np start energy : ℕ} {k : Plan} {w r q s w₁ r₁ q₁ s₁ : List ℕ} {c : Counts} {x : Found} {a : Answer}
+    (h : Recorded p np (k .n) (k .buckets) (k .rooms) (tables.mem w r q s) c start energy x (tables.mem w₁ r₁ q₁ s₁) a) where
   -- what recording leaves, with W marked or as it is
   noted-by : {w₂ : List ℕ} → Spared (k .n) (k .buckets) w₁ w₂ → (a .counts .records ≡ c .records → w₂ ≡ w₁)
       → (a .counts .records ≡ c .records + 1 → (y : ℕ) → y ≤ k .n → markAt w₂ (k .n) y ≡ remarked (mem y (dest x)) (c .records) (markAt w₁ (k .n) y))
-      → Noted p np k (tables.mem w r q s) c start x (tables.mem w₂ r₁ q₁ s₁) a
+      → Noted p np k (tables.mem w r q s) c start energy x (tables.mem w₂ r₁ q₁ s₁) a
   noted-by {w₂} o same more =
       let v = h .stays in
       let b = h .beyond in
@@ -218,7 +218,7 @@ module _ {p : List ℕ} {np start : ℕ} {k : Plan} {w r q s w₁ r₁ q₁ s₁
           rw (lt-ltb (c .records) (a .counts .records) (omega (arith, e .1))) (more (e .1) y l ∙ ap (remarked (mem y (dest x)) (c .records)) (mark-recorded h y l))
 
       go : {reached : List ℕ} {since : ℕ} → since ≤ c .records → Marks (k .n) w reached since (recs (k .rooms) (tables.mem w r q s) c)
-          → Grows (k .rooms) (tables.mem w r q s) c (record { start = start; to = x; path = addrs p 0 np }) (tables.mem w₁ r₁ q₁ s₁) (a .counts)
+          → Grows (k .rooms) (tables.mem w r q s) c (record { start = start; to = x; path = addrs p 0 np; energy = energy }) (tables.mem w₁ r₁ q₁ s₁) (a .counts)
           → Marks (k .n) w₂ reached since (recs (k .rooms) (tables.mem w₂ r₁ q₁ s₁) (a .counts))
       go l g (inl e) =
           subst (Marks (k .n) w₂ _ _) (sym (e .0)) (marks-kept g (λ y b. rw (same (e .1)) (mark-recorded h y b)))
@@ -227,13 +227,13 @@ module _ {p : List ℕ} {np start : ℕ} {k : Plan} {w r q s w₁ r₁ q₁ s₁
           (λ y b. more (e .1) y b ∙ ap (remarked (mem y (dest x)) (c .records)) (mark-recorded h y b)))
 
   -- nothing was added, so nothing is marked
-  pub landed-old : a .counts .records ≡ c .records → Noted p np k (tables.mem w r q s) c start x (tables.mem w₁ r₁ q₁ s₁) a
+  pub landed-old : a .counts .records ≡ c .records → Noted p np k (tables.mem w r q s) c start energy x (tables.mem w₁ r₁ q₁ s₁) a
   landed-old e = noted-by spared-all (λ _. refl) (λ g. absurd (omega arith))
 
 -- no destination: nothing to mark
-strayed : {p : List ℕ} {np start : ℕ} {k : Plan} {w r q s w₁ r₁ q₁ s₁ : List ℕ} {c : Counts} {a : Answer}
-    → Recorded p np (k .n) (k .buckets) (k .rooms) (tables.mem w r q s) c start nowhere (tables.mem w₁ r₁ q₁ s₁) a
-    → Noted p np k (tables.mem w r q s) c start nowhere (tables.mem w₁ r₁ q₁ s₁) a
+strayed : {p : List ℕ} {np start energy : ℕ} {k : Plan} {w r q s w₁ r₁ q₁ s₁ : List ℕ} {c : Counts} {a : Answer}
+    → Recorded p np (k .n) (k .buckets) (k .rooms) (tables.mem w r q s) c start energy nowhere (tables.mem w₁ r₁ q₁ s₁) a
+    → Noted p np k (tables.mem w r q s) c start energy nowhere (tables.mem w₁ r₁ q₁ s₁) a
 strayed h = noted-by h spared-all (λ _. refl) (λ _ y l. sym (if-false false _ _ refl))
 
 -- the number of records, of which there are few, and two more
@@ -249,16 +249,16 @@ lands-inside {k = k} {m = m} {e = e} y d = go (y .ready .entry)
     go (enters i _) = i
 
 module _ {p : List ℕ} {np : ℕ} {k : Plan} {w r q s w₁ r₁ q₁ s₁ : List ℕ} {c : Counts} {e : Entry} {a : Answer} (y : Lands p np k (tables.mem w r q s) c e)
-    (h : Recorded p np (k .n) (k .buckets) (k .rooms) (tables.mem w r q s) c (e .start) (newFound s e) (tables.mem w₁ r₁ q₁ s₁) a) where
+    (h : Recorded p np (k .n) (k .buckets) (k .rooms) (tables.mem w r q s) c (e .start) (e .energy) (newFound s e) (tables.mem w₁ r₁ q₁ s₁) a) where
   -- the same of where the entry leads
-  recorded-as : {x : Found} → newFound s e ≡ x → Recorded p np (k .n) (k .buckets) (k .rooms) (tables.mem w r q s) c (e .start) x (tables.mem w₁ r₁ q₁ s₁) a
-  recorded-as is = subst (λ (x : Found). Recorded p np (k .n) (k .buckets) (k .rooms) (tables.mem w r q s) c (e .start) x (tables.mem w₁ r₁ q₁ s₁) a) is h
+  recorded-as : {x : Found} → newFound s e ≡ x → Recorded p np (k .n) (k .buckets) (k .rooms) (tables.mem w r q s) c (e .start) (e .energy) x (tables.mem w₁ r₁ q₁ s₁) a
+  recorded-as is = subst (λ (x : Found). Recorded p np (k .n) (k .buckets) (k .rooms) (tables.mem w r q s) c (e .start) (e .energy) x (tables.mem w₁ r₁ q₁ s₁) a) is h
 
-  noted-as : {x : Found} {w₂ : List ℕ} → newFound s e ≡ x → Noted p np k (tables.mem w r q s) c (e .start) x (tables.mem w₂ r₁ q₁ s₁) a
-      → Noted p np k (tables.mem w r q s) c (e .start) (newFound s e) (tables.mem w₂ r₁ q₁ s₁) a
-  noted-as {w₂ = w₂} is n = subst (λ (x : Found). Noted p np k (tables.mem w r q s) c (e .start) x (tables.mem w₂ r₁ q₁ s₁) a) (sym is) n
+  noted-as : {x : Found} {w₂ : List ℕ} → newFound s e ≡ x → Noted p np k (tables.mem w r q s) c (e .start) (e .energy) x (tables.mem w₂ r₁ q₁ s₁) a
+      → Noted p np k (tables.mem w r q s) c (e .start) (e .energy) (newFound s e) (tables.mem w₂ r₁ q₁ s₁) a
+  noted-as {w₂ = w₂} is n = subst (λ (x : Found). Noted p np k (tables.mem w r q s) c (e .start) (e .energy) x (tables.mem w₂ r₁ q₁ s₁) a) (sym is) n
 
-  pub landed-nowhere : e .to ≡ absent → Noted p np k (tables.mem w r q s) c (e .start) (newFound s e) (tables.mem w₁ r₁ q₁ s₁) a
+  pub landed-nowhere : e .to ≡ absent → Noted p np k (tables.mem w r q s) c (e .start) (e .energy) (newFound s e) (tables.mem w₁ r₁ q₁ s₁) a
   landed-nowhere z = let is = new-nowhere s e z in noted-as is (strayed (recorded-as is))
 
   -- what `mark` asks
@@ -271,7 +271,7 @@ module _ {p : List ℕ} {np : ℕ} {k : Plan} {w r q s w₁ r₁ q₁ s₁ : Lis
 
   -- a record was added, so its destination is marked
   pub landed-new : (e .to ≡ absent → ⊥) → {w₂ : List ℕ} → (a .counts .records ≡ c .records → ⊥) → Marked (k .n) w₁ (e .to) (c .records + 2) w₂
-      → Noted p np k (tables.mem w r q s) c (e .start) (newFound s e) (tables.mem w₂ r₁ q₁ s₁) a
+      → Noted p np k (tables.mem w r q s) c (e .start) (e .energy) (newFound s e) (tables.mem w₂ r₁ q₁ s₁) a
   landed-new some-to {w₂} d m =
       let is : newFound s e ≡ found (e .to) (stackAt s (9 * e .from) (e .cells)) = new-at s e (y .ready .tables .few) (lands-inside y some-to) in
       noted-as is (noted-by (recorded-as is) (spared-mark (lands-address some-to) m) (λ g. absurd (d g)) (λ _ z l. marked z (ℕ-discrete z (e .to))))
@@ -284,9 +284,9 @@ module _ {p : List ℕ} {np : ℕ} {k : Plan} {w r q s w₁ r₁ q₁ s₁ : Lis
 
 -- ---- for the caller: the older records stay
 
-pub noted-older : {p : List ℕ} {np start : ℕ} {k : Plan} {m m′ : tables.Mem} {c : Counts} {x : Found} {a : Answer} → Noted p np k m c start x m′ a
+pub noted-older : {p : List ℕ} {np start energy : ℕ} {k : Plan} {m m′ : tables.Mem} {c : Counts} {x : Found} {a : Answer} → Noted p np k m c start energy x m′ a
     → take (c .records) (recs (k .rooms) m′ (a .counts)) ≡ recs (k .rooms) m c
-noted-older {p} {np} {start} {k} {m} {m′} {c} {x} {a} h = go (h .grows)
+noted-older {p} {np} {start} {energy} {k} {m} {m′} {c} {x} {a} h = go (h .grows)
   where
     long : length (recs (k .rooms) m c) ≡ c .records
     long = recs-length (m .r) (m .q) (m .s) (k .rooms .s) (c .records)
@@ -294,7 +294,7 @@ noted-older {p} {np} {start} {k} {m} {m′} {c} {x} {a} h = go (h .grows)
     all : take (c .records) (recs (k .rooms) m c) ≡ recs (k .rooms) m c
     all = take-all (c .records) (recs (k .rooms) m c) (omega (arith, long))
 
-    go : Grows (k .rooms) m c (record { start = start; to = x; path = addrs p 0 np }) m′ (a .counts)
+    go : Grows (k .rooms) m c (record { start = start; to = x; path = addrs p 0 np; energy = energy }) m′ (a .counts)
         → take (c .records) (recs (k .rooms) m′ (a .counts)) ≡ recs (k .rooms) m c
     go (inl e) = ap (take (c .records)) (e .0) ∙ all
     go (inr e) = ap (take (c .records)) (e .0) ∙ take-append-le (c .records) (recs (k .rooms) m c) _ (omega (arith, long)) ∙ all

@@ -38,9 +38,9 @@ use Rattle.steps.specs.declared.state_of.Taken.{Taken}
 
 -- ---- what is found
 
-pub one-noted : {p : List ℕ} {np start : ℕ} {k : Plan} {m m′ m″ : tables.Mem} {c : Counts} {x : Found} {a e : Answer} → AllBytes m′ → AllBytes m″
-    → Noted p np k m c start x m′ a → Noted p np k m c start x m″ e → (a ≡ e) × (m′ ≡ m″)
-one-noted {p} {np} {start} {k} {m} {m′} {m″} {c} {x} {a} {e} b d f g = go (keyed (a .code) 0) (recorded? x (addrs p 0 np) (recs (k .rooms) m c)) refl
+pub one-noted : {p : List ℕ} {np start energy : ℕ} {k : Plan} {m m′ m″ : tables.Mem} {c : Counts} {x : Found} {a e : Answer} → AllBytes m′ → AllBytes m″
+    → Noted p np k m c start energy x m′ a → Noted p np k m c start energy x m″ e → (a ≡ e) × (m′ ≡ m″)
+one-noted {p} {np} {start} {energy} {k} {m} {m′} {m″} {c} {x} {a} {e} b d f g = go (keyed (a .code) 0) (recorded? x (addrs p 0 np) (recs (k .rooms) m c)) refl
   where
     code : a .code ≡ e .code
     code = f .tells ∙ sym (g .tells)

@@ -56,17 +56,17 @@ Grows k m c x m′ d = ((recs k m′ d ≡ recs k m c) × (d .records ≡ c .rec
 
 -- The code is the first shortage of what document 01 notes; where it is 0 the buffers hold what document 01 makes, and W's marks say what is reached; else
 -- all is untouched.
-pub record Noted (p : List ℕ) (np : ℕ) (k : Plan) (m : tables.Mem) (c : Counts) (start : ℕ) (x : Found) (m′ : tables.Mem) (a : Answer) : Type 0 where
-  pub code : (t : Turn) (st : St) → Holding (k .rooms) m c start t st → (l : Lent) → Lends l (k .rooms)
+pub record Noted (p : List ℕ) (np : ℕ) (k : Plan) (m : tables.Mem) (c : Counts) (start energy : ℕ) (x : Found) (m′ : tables.Mem) (a : Answer) : Type 0 where
+  pub code : (t : Turn) (st : St) → Holding (k .rooms) m c start energy t st → (l : Lent) → Lends l (k .rooms)
       → shortage l (noted t x (addrs p 0 np) st .needs) ≡ or-else (shortage l (st .needs)) (a .code)
-  pub made : (t : Turn) (st : St) → Holding (k .rooms) m c start t st → a .code ≡ 0 → clear (noted t x (addrs p 0 np) st) ≡ with-recs (k .rooms) m′ (a .counts) st
+  pub made : (t : Turn) (st : St) → Holding (k .rooms) m c start energy t st → a .code ≡ 0 → clear (noted t x (addrs p 0 np) st) ≡ with-recs (k .rooms) m′ (a .counts) st
   pub tells : a .code ≡ if (recorded? x (addrs p 0 np) (recs (k .rooms) m c)) 0 (shortOf (k .rooms) (entryNeeds c np (kept x)))
   pub holds : a .code ≡ 0 → recs (k .rooms) m′ (a .counts)
-      ≡ if (recorded? x (addrs p 0 np) (recs (k .rooms) m c)) (recs (k .rooms) m c) (recs (k .rooms) m c ++ record { start = start; to = x; path = addrs p 0 np } ∷ [])
+      ≡ if (recorded? x (addrs p 0 np) (recs (k .rooms) m c)) (recs (k .rooms) m c) (recs (k .rooms) m c ++ record { start = start; to = x; path = addrs p 0 np; energy = energy } ∷ [])
   pub counts : a .code ≡ 0 → a .counts ≡ if (recorded? x (addrs p 0 np) (recs (k .rooms) m c)) c (counted c np (kept x))
   pub known : recorded? x (addrs p 0 np) (recs (k .rooms) m c) ≡ true → m′ ≡ m
   pub refused : (a .code ≡ 0 → ⊥) → (m′ ≡ m) × (a .counts ≡ c)
-  pub grows : Grows (k .rooms) m c (record { start = start; to = x; path = addrs p 0 np }) m′ (a .counts)
+  pub grows : Grows (k .rooms) m c (record { start = start; to = x; path = addrs p 0 np; energy = energy }) m′ (a .counts)
   pub tables : Tables (k .n) (k .buckets) (k .rooms) m′ (a .counts)
   pub marked : (y : ℕ) → y ≤ k .n
       → markAt (m′ .w) (k .n) y ≡ remarked (ltb (c .records) (a .counts .records) && mem y (dest x)) (c .records) (markAt (m .w) (k .n) y)

@@ -23,7 +23,7 @@ pub fn land(
     e: Entry,
 ) -> Answer
     requires { ⌜ Lands (now p) np k (mem (now w) (now r) (now q) (now s)) c e ⌝ }
-    ensures { λ a. ⌜ Noted (now (p .entry)) np k (mem (now (w .entry)) (now (r .entry)) (now (q .entry)) (now (s .entry))) c (e .start) (newFound (now (s .entry)) e)
+    ensures { λ a. ⌜ Noted (now (p .entry)) np k (mem (now (w .entry)) (now (r .entry)) (now (q .entry)) (now (s .entry))) c (e .start) (e .energy) (newFound (now (s .entry)) e)
         (mem (now (w .exit)) (now (r .exit)) (now (q .exit)) (now (s .exit))) a ⌝ }
 {
     let a = record_entry(p, np, w, r, q, s, k.rooms, c, k.n, k.buckets, e);

@@ -47,7 +47,7 @@ module _ {p w r q s : List ℕ} {np n buckets sum : ℕ} {k : Rooms} {c : Counts
         rw says (record {
           chains = t .chains;
           parents = t .parents;
-          says = record { start = a .ready .start; to = leads-to (a .ready .entry); ends = omega arith; kept = omega arith; sum = a .summed .small };
+          says = record { start = a .ready .start; to = leads-to (a .ready .entry); ends = omega arith; kept = omega arith; sum = a .summed .small; energy = a .ready .energy };
           inR = omega arith;
           few = t .few;
           small = omega arith;
@@ -118,7 +118,7 @@ module _ {p w r q s : List ℕ} {np n buckets sum : ℕ} {k : Rooms} {c : Counts
 
     new-rec : recAt r′ q′ s′ (k .s) (c .records) ≡ newRec s e (addrs p 0 np)
     unfolding recAt
-    new-rec = rw (l .says .start, new-found, new-path)
+    new-rec = rw (l .says .start, new-found, new-path, l .says .energy)
 
     -- ---- all of them
 

@@ -17,7 +17,7 @@ use Rattle.lent.proofs.Parts.{drop-more}
 use Rattle.lent.proofs.Once.{Bytes, Same, same-num, same-as, same-then, same-rows, same-whole}
 use Rattle.layout.specs.Fields.{FIRST-FOUND, LAST-FOUND, COUNT, firstFoundAt, lastFoundAt}
 use Rattle.layout.specs.Parts.{fieldsPlace, listPlace, bucketsPlace, bucketPlace, SameRows, PastBuckets}
-use Rattle.layout.specs.Records.{recordPlace, R-TO, R-FREE, startAt, toAt, nextAt, linkAt, sumAt, endOf, keptOf}
+use Rattle.layout.specs.Records.{recordPlace, R-TO, R-FREE, startAt, toAt, nextAt, linkAt, sumAt, energyAt, endOf, keptOf}
 use Rattle.layout.proofs.Once.{same-to-list}
 use Rattle.state.specs.Cells.{stackAt, Lies}
 use Rattle.state.proofs.Syms.{split}
@@ -105,6 +105,10 @@ module _ {n buckets : ℕ} {k : Rooms} {m m′ : Mem} {c : Counts} (p : Tables n
   unfolding recAt
   paths i h = ap (λ (y : Rec). y .path) (rec i h)
 
+  energies : (i : ℕ) → i < c .records → energyAt (m .r) i ≡ energyAt (m′ .r) i
+  unfolding recAt
+  energies i h = ap (λ (y : Rec). y .energy) (rec i h)
+
   tos : (i : ℕ) → i < c .records → toAt (m .r) i ≡ toAt (m′ .r) i
   tos i h = goes-to (m .r) (m .s) (k .s) i (founds i h) ∙ sym (goes-to (m′ .r) (m′ .s) (k .s) i refl)
 
@@ -144,13 +148,13 @@ module _ {n buckets : ℕ} {k : Rooms} {m m′ : Mem} {c : Counts} (p : Tables n
 
   -- the rows of R but for their free bytes
   module _ (b : Bytes (m .r)) (d : Bytes (m′ .r)) (long : length (m .r) ≡ length (m′ .r)) where
-    row-bytes : (i : ℕ) → i < c .records → Same (m .r) (m′ .r) (recordPlace i) 24
+    row-bytes : (i : ℕ) → i < c .records → Same (m .r) (m′ .r) (recordPlace i) 28
     unfolding endOf keptOf
     row-bytes i l =
         let at : (o : ℕ) → numAt 4 (m .r) (recordPlace i + o) ≡ numAt 4 (m′ .r) (recordPlace i + o) → Same (m .r) (m′ .r) (recordPlace i + o) 4 = λ o e. same-num b d long 4 (recordPlace i + o) e in
         let front : Same (m .r) (m′ .r) (recordPlace i) 4 = same-then (same-num b d long 2 (recordPlace i) (starts i l)) (same-num b d long 2 (recordPlace i + R-TO) (tos i l)) refl in
         let half : Same (m .r) (m′ .r) (recordPlace i) 12 = same-then (same-then front (at 4 (ends (suc i) l)) refl) (at 8 (kepts (suc i) l)) refl in
-        same-then (same-then (same-then half (at 12 (nexts i l)) refl) (at 16 (links i l)) refl) (at 20 (sums i l)) refl
+        same-then (same-then (same-then (same-then half (at 12 (nexts i l)) refl) (at 16 (links i l)) refl) (at 20 (sums i l)) refl) (at 24 (energies i l)) refl
 
   -- the addresses of Q in use
   module _ (b : Bytes (m .q)) (d : Bytes (m′ .q)) (long : length (m .q) ≡ length (m′ .q)) where
@@ -218,7 +222,7 @@ pub record AllLong (m m′ : Mem) : Type 0 where
 
 -- all that the records stand in, and their links, is the same
 pub record OneTables (n buckets : ℕ) (k : Rooms) (c : Counts) (m m′ : Mem) : Type 0 where
-  pub rows : (i : ℕ) → i < c .records → Same (m .r) (m′ .r) (recordPlace i) 24
+  pub rows : (i : ℕ) → i < c .records → Same (m .r) (m′ .r) (recordPlace i) 28
   pub paths : Same (m .q) (m′ .q) 0 (2 * c .addresses)
   pub states : Same (m .s) (m′ .s) (9 * (k .s - c .kept)) (9 * c .kept)
   pub parents : (a : ℕ) → a ≤ n → Same (m .w) (m′ .w) (fieldsPlace n a + FIRST-FOUND) 8
@@ -243,7 +247,7 @@ module _ {n buckets : ℕ} {k : Rooms} {r₀ q₀ s₀ : List ℕ} {m′ m″ : 
   more-r a b =
       let row : (i : ℕ) → i < c .records → Same (m′ .r) (m″ .r) (0 + recordPlace i) 32 =
       λ i l.
-      let free : Same (m′ .r) (m″ .r) (recordPlace i + R-FREE) 8 = same-num a b (p .longR ∙ sym (q .longR)) 8 (recordPlace i + R-FREE) (p .rows i l .free ∙ sym (q .rows i l .free)) in
+      let free : Same (m′ .r) (m″ .r) (recordPlace i + R-FREE) 4 = same-num a b (p .longR ∙ sym (q .longR)) 4 (recordPlace i + R-FREE) (p .rows i l .free ∙ sym (q .rows i l .free)) in
       same-as (same-then (one .rows i (omega arith)) free refl) (omega arith) refl in
       same-whole (recordPlace (c .records) + R-FREE) (same-then (same-rows 0 32 (c .records) row) (one .rows (c .records) (omega arith)) (omega arith)) (p .tail ∙ sym (q .tail))
 

@@ -116,7 +116,7 @@ module _ {r r′ q s : List ℕ} {n room m : ℕ} (q′ s′ : List ℕ) (few : 
     (k : ℕ) (top : keptOf r m ≤ k) (fits : 9 * room ≤ length s′) (most : k ≤ room) (back : drop (9 * (room - k)) s′ ≡ drop (9 * (room - k)) s) where
   rec-kept : (i : ℕ) → i < m → recAt r′ q′ s′ room i ≡ recAt r q s room i
   unfolding recAt
-  rec-kept i l = rw (same i l .start, found-same same s′ goes k top fits most back i l few, path-same same q′ rows a ends front i l)
+  rec-kept i l = rw (same i l .start, found-same same s′ goes k top fits most back i l few, path-same same q′ rows a ends front i l, same i l .energy)
 
   firsts : (j : ℕ) → j ≤ m → recsOf r′ q′ s′ room j ≡ recsOf r q s room j
   unfolding recsOf

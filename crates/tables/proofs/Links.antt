@@ -15,7 +15,7 @@ use Rattle.lent.proofs.Numbers.{number-little, num-suffix}
 use Rattle.lent.proofs.Stored.{kept-take, kept-drop, kept-part, kept-num, read-num, read-back, stored-join}
 use Rattle.layout.specs.Fields.{FIRST-FOUND, LAST-FOUND, COUNT, firstFoundAt, lastFoundAt, newestAt}
 use Rattle.layout.specs.Parts.{rowsEnd, fieldsPlace, listPlace, bucketPlace, PastFields}
-use Rattle.layout.specs.Records.{RECORD, recordPlace, R-TO, R-ENDS, R-KEPT, R-NEXT, R-LINK, R-SUM, R-FREE, toAt, nextAt, linkAt, sumAt, endOf, keptOf}
+use Rattle.layout.specs.Records.{RECORD, recordPlace, R-TO, R-ENDS, R-KEPT, R-NEXT, R-LINK, R-SUM, R-ENERGY, R-FREE, toAt, nextAt, linkAt, sumAt, endOf, keptOf}
 use Rattle.tables.specs.Records.{bucketAt, Chains}
 use Rattle.tables.specs.Links.{saysBytes, linkBytes, rowBytes, SameRow, Says, Parents, Apart, Beyond, Joins, Joined, Sayable, Links, Linked}
 use Rattle.tables.specs.declared.link.Fields.{Fields}
@@ -30,17 +30,18 @@ module _ {at : ℕ} {r r₁ r₂ r₃ : List ℕ} where
   unfolding saysBytes
   says-stored f a b c d = stored-join (stored-join (stored-join a b) c) d
 
-module _ (at link sum : ℕ) {r r₁ r₂ r₃ : List ℕ} where
+module _ (at link sum energy : ℕ) {r r₁ r₂ r₃ r₄ : List ℕ} where
   pub links-stored : Stored 4 r (at + R-NEXT) (little 4 0) r₁ → Stored 4 r₁ (at + R-LINK) (little 4 link) r₂ → Stored 4 r₂ (at + R-SUM) (little 4 sum) r₃
-      → Stored 12 r (at + R-NEXT) (linkBytes link sum) r₃
+      → Stored 4 r₃ (at + R-ENERGY) (little 4 energy) r₄ → Stored 16 r (at + R-NEXT) (linkBytes link sum energy) r₄
   unfolding linkBytes
-  links-stored a b c =
+  links-stored a b c d =
       let e : at + R-LINK ≡ at + R-NEXT + 4 = omega arith in
       let f : at + R-SUM ≡ at + R-NEXT + 8 = omega arith in
-      stored-join (stored-join a (rw e at b)) (rw f at c)
+      let g : at + R-ENERGY ≡ at + R-NEXT + 12 = omega arith in
+      stored-join (stored-join (stored-join a (rw e at b)) (rw f at c)) (rw g at d)
 
-pub row-stored : (f : Fields) (link : ℕ) {at : ℕ} {r r₁ r₂ : List ℕ} → Stored 12 r at (saysBytes f) r₁ → Stored 12 r₁ (at + R-NEXT) (linkBytes link (f .sum)) r₂
-    → Stored 24 r at (rowBytes f link) r₂
+pub row-stored : (f : Fields) (link : ℕ) {at : ℕ} {r r₁ r₂ : List ℕ} → Stored 12 r at (saysBytes f) r₁ → Stored 16 r₁ (at + R-NEXT) (linkBytes link (f .sum) (f .energy)) r₂
+    → Stored 28 r at (rowBytes f link) r₂
 unfolding rowBytes
 row-stored f link a b = stored-join a b
 
@@ -55,7 +56,8 @@ same-row i s low high =
       kept = kept-num s 4 (recordPlace i + R-KEPT) (λ g. omega (arith, low (omega arith)));
       link = kept-num s 4 (recordPlace i + R-LINK) (λ g. omega (arith, high g));
       sum = kept-num s 4 (recordPlace i + R-SUM) (λ g. omega (arith, high (omega arith)));
-      free = kept-num s 8 (recordPlace i + R-FREE) (λ g. omega (arith, high (omega arith)));
+      energy = kept-num s 4 (recordPlace i + R-ENERGY) (λ g. omega (arith, high (omega arith)));
+      free = kept-num s 4 (recordPlace i + R-FREE) (λ g. omega (arith, high (omega arith)));
     }
 
 pub same-then : {r r₁ r₂ : List ℕ} {i : ℕ} → SameRow r r₁ i → SameRow r₁ r₂ i → SameRow r r₂ i
@@ -67,13 +69,14 @@ same-then p q =
       kept = q .kept ∙ p .kept;
       link = q .link ∙ p .link;
       sum = q .sum ∙ p .sum;
+      energy = q .energy ∙ p .energy;
       free = q .free ∙ p .free;
     }
 
 pub same-all : (r : List ℕ) (i : ℕ) → SameRow r r i
-same-all r i = record { start = refl; to = refl; ends = refl; kept = refl; link = refl; sum = refl; free = refl }
+same-all r i = record { start = refl; to = refl; ends = refl; kept = refl; link = refl; sum = refl; energy = refl; free = refl }
 
-module _ (m : ℕ) (f : Fields) (link : ℕ) {r r′ : List ℕ} (s : Stored 24 r (recordPlace m) (rowBytes f link) r′) where
+module _ (m : ℕ) (f : Fields) (link : ℕ) {r r′ : List ℕ} (s : Stored 28 r (recordPlace m) (rowBytes f link) r′) where
   row-next : nextAt r′ m ≡ 0
   unfolding rowBytes saysBytes linkBytes numAt
   row-next = read-num s 4 R-NEXT (omega arith) ∙ number-little 4 0 (omega arith)
@@ -91,6 +94,7 @@ module _ (m : ℕ) (f : Fields) (link : ℕ) {r r′ : List ℕ} (s : Stored 24 
         ends = read-num s 4 R-ENDS (omega arith) ∙ number-little 4 (f .ends) (h .ends);
         kept = read-num s 4 R-KEPT (omega arith) ∙ number-little 4 (f .kept) (h .kept);
         sum = read-num s 4 R-SUM (omega arith) ∙ number-little 4 (f .sum) (h .sum);
+        energy = read-num s 4 R-ENERGY (omega arith) ∙ number-little 4 (f .energy) (h .energy);
       }
     where
       fits : (f .to ≡ absent) ⊎ (f .to ≤ n) → f .to < 2 ^ 16
@@ -207,7 +211,7 @@ unfolding bucketAt
 bucket-same buckets r r′ i e = ap (λ (v : ℕ). v % buckets) e
 
 module _ {n buckets m : ℕ} {w r : List ℕ} {f : Fields} (l : Links n buckets w r m f) {h x : ℕ} (e : h ≡ f .sum % buckets) (b : h < buckets)
-    (g : Holds 4 w (bucketPlace n h) x) {w₁ r₁ : List ℕ} (s : Stored 24 r (recordPlace m) (rowBytes f x) r₁)
+    (g : Holds 4 w (bucketPlace n h) x) {w₁ r₁ : List ℕ} (s : Stored 28 r (recordPlace m) (rowBytes f x) r₁)
     (t : Stored 4 w (bucketPlace n h) (little 4 (m + 1)) w₁) where
   says : Says r₁ m f
   says = row-says m f x s (l .says) (l .few)
@@ -299,6 +303,7 @@ module _ {n buckets m : ℕ} {w r : List ℕ} {f : Fields} (l : Links n buckets 
           ends = j .rows m .ends ∙ says .ends;
           kept = j .rows m .kept ∙ says .kept;
           sum = j .rows m .sum ∙ says .sum;
+          energy = j .rows m .energy ∙ says .energy;
         };
         rows = λ i k. same-then (row-same m f x s i k) (j .rows i);
         tail = drop-more r₂ r₁ (recordPlace m) (j .tail) (recordPlace m + R-FREE) (omega arith) ∙ kept-drop s (recordPlace m + R-FREE) (omega arith);

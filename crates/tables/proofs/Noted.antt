@@ -94,7 +94,7 @@ module _ {p w r q s : List ℕ} {np n buckets : ℕ} {k : Rooms} {c : Counts} {e
 
   -- ---- what document 01 does
 
-  module _ {t : Turn} {st : St} (h : Holding k M c (e .start) t st) where
+  module _ {t : Turn} {st : St} (h : Holding k M c (e .start) (e .energy) t st) where
     count-addresses : addresses st ≡ c .addresses
     count-addresses = ap (total (λ (x : Rec). length (x .path))) (h .recs) ∙ recs-addresses r q s (k .s) (y .tables .rows) ∙ y .tables .ends
 
@@ -126,7 +126,7 @@ module _ {p w r q s : List ℕ} {np n buckets : ℕ} {k : Rooms} {c : Counts} {e
         go (enters-nowhere z o) =
             record {
               more = record { room = Q; units = c .addresses + np } ∷ record { room = R; units = c .records + 1 } ∷ [];
-              is = rw (new-nowhere s e z) (if-false _ _ _ (rw (new-nowhere s e z) at (known-by b)) ∙ rw (count-addresses, addrs-length p 0 np, count-recs, h .turn));
+              is = rw (new-nowhere s e z) (if-false _ _ _ (rw (new-nowhere s e z) at (known-by b)) ∙ rw (count-addresses, addrs-length p 0 np, count-recs, h .turn, h .counted));
               short = sym (short-rest k c np (e .cells) (omega (arith, y .tables .within)));
             }
         go (enters z o) =
@@ -134,7 +134,7 @@ module _ {p w r q s : List ℕ} {np n buckets : ℕ} {k : Rooms} {c : Counts} {e
             omega (arith, h .cells, lies-count (state-lies s (9 * e .from) (e .cells) o)) in
             record {
               more = entryNeeds c np (e .cells);
-              is = rw (new-at s e (y .tables .few) z) (if-false _ _ _ (rw (new-at s e (y .tables .few) z) at (known-by b)) ∙ rw (count, count-addresses, addrs-length p 0 np, count-recs, h .turn));
+              is = rw (new-at s e (y .tables .few) z) (if-false _ _ _ (rw (new-at s e (y .tables .few) z) at (known-by b)) ∙ rw (count, count-addresses, addrs-length p 0 np, count-recs, h .turn, h .counted));
               short = refl;
             }
 
@@ -142,7 +142,7 @@ module _ {p w r q s : List ℕ} {np n buckets : ℕ} {k : Rooms} {c : Counts} {e
     known-so : {v : Bool} → b ≡ v → recorded? (newFound s e) path (recs k M c) ≡ v
     known-so z = sym known ∙ sym found-it ∙ z
 
-    pub recorded-known : b ≡ true → Recorded p np n buckets k M c (e .start) (newFound s e) M (record { code = 0; counts = c })
+    pub recorded-known : b ≡ true → Recorded p np n buckets k M c (e .start) (e .energy) (newFound s e) M (record { code = 0; counts = c })
     recorded-known z =
         let is = sym found-it ∙ z in
         record {
@@ -159,7 +159,7 @@ module _ {p w r q s : List ℕ} {np n buckets : ℕ} {k : Rooms} {c : Counts} {e
         }
 
     module _ {x : ℕ} (short : x ≡ shortOf k (entryNeeds c np (e .cells))) (z : b ≡ false) where
-      noted-code : (t : Turn) (st : St) → Holding k M c (e .start) t st → (l : Lent) → Lends l k → shortage l (noted t (newFound s e) path st .needs) ≡ or-else (shortage l (st .needs)) x
+      noted-code : (t : Turn) (st : St) → Holding k M c (e .start) (e .energy) t st → (l : Lent) → Lends l k → shortage l (noted t (newFound s e) path st .needs) ≡ or-else (shortage l (st .needs)) x
       noted-code t st h l o =
           let d = doc-made h (sym found-it ∙ z) in
           ap (λ (x : St). shortage l (x .needs)) (d .is) ∙ short-after o (d .more) (st .needs) ∙ ap (or-else (shortage l (st .needs))) (d .short ∙ sym short)
@@ -167,7 +167,7 @@ module _ {p w r q s : List ℕ} {np n buckets : ℕ} {k : Rooms} {c : Counts} {e
       noted-tells : x ≡ if (recorded? (newFound s e) path (recs k M c)) 0 (shortOf k (entryNeeds c np (kept (newFound s e))))
       noted-tells = short ∙ ap (λ (i : ℕ). shortOf k (entryNeeds c np i)) (sym new-kept) ∙ sym (if-false _ _ _ (known-so z))
 
-      pub recorded-short : (x ≡ 0 → ⊥) → Recorded p np n buckets k M c (e .start) (newFound s e) M (record { code = x; counts = c })
+      pub recorded-short : (x ≡ 0 → ⊥) → Recorded p np n buckets k M c (e .start) (e .energy) (newFound s e) M (record { code = x; counts = c })
       recorded-short o =
           record {
             code = noted-code;
@@ -183,7 +183,7 @@ module _ {p w r q s : List ℕ} {np n buckets : ℕ} {k : Rooms} {c : Counts} {e
           }
 
       pub recorded-made : {m′ : Mem} {d : Counts} → x ≡ 0 → Added p np n buckets k M c e m′ d
-          → Recorded p np n buckets k M c (e .start) (newFound s e) m′ (record { code = 0; counts = d })
+          → Recorded p np n buckets k M c (e .start) (e .energy) (newFound s e) m′ (record { code = 0; counts = d })
       recorded-made o a =
           record {
             code = λ t st h l i. noted-code t st h l i ∙ ap (or-else (shortage l (st .needs))) o;
@@ -204,12 +204,12 @@ abbrev pub Once : Rooms → Mem → Counts → ℕ → Rec → Mem → Counts �
 Once k m c np x m′ d =
     ((recs k m′ d ≡ recs k m c) × (d ≡ c)) ⊎ ((recs k m′ d ≡ recs k m c ++ x ∷ []) × (d ≡ counted c np (kept (x .to))))
 
-pub recorded-more : {p : List ℕ} {np n buckets start : ℕ} {k : Rooms} {m m′ : Mem} {c : Counts} {x : Found} {a : Answer} → Recorded p np n buckets k m c start x m′ a
-    → Once k m c np (record { start = start; to = x; path = addrs p 0 np }) m′ (a .counts)
-recorded-more {p} {np} {start = start} {k = k} {m} {m′} {c} {x} {a} h = go (keyed (a .code) 0) (recorded? x (addrs p 0 np) (recs k m c)) refl
+pub recorded-more : {p : List ℕ} {np n buckets start energy : ℕ} {k : Rooms} {m m′ : Mem} {c : Counts} {x : Found} {a : Answer} → Recorded p np n buckets k m c start energy x m′ a
+    → Once k m c np (record { start = start; to = x; path = addrs p 0 np; energy = energy }) m′ (a .counts)
+recorded-more {p} {np} {start = start} {energy = energy} {k = k} {m} {m′} {c} {x} {a} h = go (keyed (a .code) 0) (recorded? x (addrs p 0 np) (recs k m c)) refl
   where
     go : (a .code ≡ 0) ⊎ (a .code ≡ 0 → ⊥) → (b : Bool) → recorded? x (addrs p 0 np) (recs k m c) ≡ b
-        → Once k m c np (record { start = start; to = x; path = addrs p 0 np }) m′ (a .counts)
+        → Once k m c np (record { start = start; to = x; path = addrs p 0 np; energy = energy }) m′ (a .counts)
     go (inl z) true e = inl (h .holds z ∙ if-true _ _ _ e, h .counts z ∙ if-true _ _ _ e)
     go (inl z) false e = inr (h .holds z ∙ if-false _ _ _ e, h .counts z ∙ if-false _ _ _ e)
     go (inr d) b e = inl (rw (h .refused d .0, h .refused d .1), h .refused d .1)

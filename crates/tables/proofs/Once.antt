@@ -122,9 +122,9 @@ one-memorized {u} {v} {a} {e} b d p q = go (keyed (a .code) 0)
 
 -- ---- recording
 
-pub one-recorded : {p : List ℕ} {np n buckets start : ℕ} {k : Rooms} {m m′ m″ : Mem} {c : Counts} {x : Found} {a e : Answer} → AllBytes m′ → AllBytes m″
-    → Recorded p np n buckets k m c start x m′ a → Recorded p np n buckets k m c start x m″ e → (a ≡ e) × (m′ ≡ m″)
-one-recorded {p} {np} {n} {buckets} {start} {k} {m} {m′} {m″} {c} {x} {a} {e} b d f g = go (keyed (a .code) 0) (recorded? x (addrs p 0 np) (recs k m c)) refl
+pub one-recorded : {p : List ℕ} {np n buckets start energy : ℕ} {k : Rooms} {m m′ m″ : Mem} {c : Counts} {x : Found} {a e : Answer} → AllBytes m′ → AllBytes m″
+    → Recorded p np n buckets k m c start energy x m′ a → Recorded p np n buckets k m c start energy x m″ e → (a ≡ e) × (m′ ≡ m″)
+one-recorded {p} {np} {n} {buckets} {start} {energy} {k} {m} {m′} {m″} {c} {x} {a} {e} b d f g = go (keyed (a .code) 0) (recorded? x (addrs p 0 np) (recs k m c)) refl
   where
     code : a .code ≡ e .code
     code = f .tells ∙ sym (g .tells)

@@ -8,20 +8,20 @@ use Rattle.spec.specs.Lists.{little}
 use Rattle.spec.specs.Entries.{absent}
 use Rattle.layout.specs.Fields.{COUNT, firstFoundAt, lastFoundAt}
 use Rattle.layout.specs.Parts.{listPlace, SameRows, SameStart, SameFields, SameList, PastFields, PastBuckets}
-use Rattle.layout.specs.Records.{RECORD, recordPlace, R-FREE, startAt, toAt, nextAt, linkAt, sumAt, freeAt, endOf, keptOf}
+use Rattle.layout.specs.Records.{RECORD, recordPlace, R-FREE, startAt, toAt, nextAt, linkAt, sumAt, energyAt, freeAt, endOf, keptOf}
 use Rattle.tables.specs.Chains.{Ordered}
 use Rattle.tables.specs.Records.{Chains}
 use Rattle.tables.specs.declared.link.Fields.{Fields}
 
--- the first 24 bytes of a row, of a record with no next parent; the other 8 are free
+-- the first 28 bytes of a row, of a record with no next parent; the other 4 are free
 unfoldable pub saysBytes : Fields → List ℕ
 saysBytes f = ((little 2 (f .start) ++ little 2 (f .to)) ++ little 4 (f .ends)) ++ little 4 (f .kept)
 
-unfoldable pub linkBytes : ℕ → ℕ → List ℕ
-linkBytes link sum = (little 4 0 ++ little 4 link) ++ little 4 sum
+unfoldable pub linkBytes : ℕ → ℕ → ℕ → List ℕ
+linkBytes link sum energy = ((little 4 0 ++ little 4 link) ++ little 4 sum) ++ little 4 energy
 
 unfoldable pub rowBytes : Fields → ℕ → List ℕ
-rowBytes f link = saysBytes f ++ linkBytes link (f .sum)
+rowBytes f link = saysBytes f ++ linkBytes link (f .sum) (f .energy)
 
 -- every field of record i is as it was, but for the link to the next found parent
 pub record SameRow (r r′ : List ℕ) (i : ℕ) : Type 0 where
@@ -31,6 +31,7 @@ pub record SameRow (r r′ : List ℕ) (i : ℕ) : Type 0 where
   pub kept : keptOf r′ (suc i) ≡ keptOf r (suc i)
   pub link : linkAt r′ i ≡ linkAt r i
   pub sum : sumAt r′ i ≡ sumAt r i
+  pub energy : energyAt r′ i ≡ energyAt r i
   pub free : freeAt r′ i ≡ freeAt r i
 
 -- record m says f
@@ -40,6 +41,7 @@ pub record Says (r : List ℕ) (m : ℕ) (f : Fields) : Type 0 where
   pub ends : endOf r (suc m) ≡ f .ends
   pub kept : keptOf r (suc m) ≡ f .kept
   pub sum : sumAt r m ≡ f .sum
+  pub energy : energyAt r m ≡ f .energy
 
 -- the found parents of each address up to n, in the order of recording
 abbrev pub Parents : ℕ → List ℕ → List ℕ → ℕ → Type 0
@@ -84,6 +86,7 @@ pub record Sayable (n : ℕ) (f : Fields) : Type 0 where
   pub ends : f .ends < 2 ^ 32
   pub kept : f .kept < 2 ^ 32
   pub sum : f .sum < 2 ^ 32
+  pub energy : f .energy < 2 ^ 32
 
 pub record Links (n buckets : ℕ) (w r : List ℕ) (m : ℕ) (f : Fields) : Type 0 where
   pub chains : Chains n buckets w r m

@@ -53,11 +53,12 @@ abbrev pub noted : Turn → Found → List ℕ → St → St
 noted t nowhere path = record-nowhere t path
 noted t (found u s) path = record-found t u s path
 
--- the buffers hold the state's records, and its cells are those in use
-pub record Holding (k : Rooms) (m : Mem) (c : Counts) (start : ℕ) (t : Turn) (st : St) : Type 0 where
+-- the buffers hold the state's records, its cells are those in use, and its energy is the given one
+pub record Holding (k : Rooms) (m : Mem) (c : Counts) (start energy : ℕ) (t : Turn) (st : St) : Type 0 where
   pub recs : st .recs ≡ recs k m c
   pub cells : in-use t st ≡ c .kept + c .used
   pub turn : t .start ≡ start
+  pub counted : st .energy ≡ energy
 
 -- the state with other records, and no needs noted
 abbrev pub with-recs : Rooms → Mem → Counts → St → St
@@ -71,13 +72,13 @@ recorded? nowhere path = some? (λ (r : Rec). is-nowhere (r .to) && same path (r
 recorded? (found u s) path = some? (λ (r : Rec). is-at u (r .to) && same path (r .path))
 
 -- The code is the first shortage of what document 01 notes; where it is 0 the buffers hold what document 01 makes, and else they are untouched.
-pub record Recorded (p : List ℕ) (np n buckets : ℕ) (k : Rooms) (m : Mem) (c : Counts) (start : ℕ) (x : Found) (m′ : Mem) (a : Answer) : Type 0 where
-  pub code : (t : Turn) (st : St) → Holding k m c start t st → (l : Lent) → Lends l k
+pub record Recorded (p : List ℕ) (np n buckets : ℕ) (k : Rooms) (m : Mem) (c : Counts) (start energy : ℕ) (x : Found) (m′ : Mem) (a : Answer) : Type 0 where
+  pub code : (t : Turn) (st : St) → Holding k m c start energy t st → (l : Lent) → Lends l k
       → shortage l (noted t x (addrs p 0 np) st .needs) ≡ or-else (shortage l (st .needs)) (a .code)
-  pub made : (t : Turn) (st : St) → Holding k m c start t st → a .code ≡ 0 → clear (noted t x (addrs p 0 np) st) ≡ with-recs k m′ (a .counts) st
+  pub made : (t : Turn) (st : St) → Holding k m c start energy t st → a .code ≡ 0 → clear (noted t x (addrs p 0 np) st) ≡ with-recs k m′ (a .counts) st
   pub tells : a .code ≡ if (recorded? x (addrs p 0 np) (recs k m c)) 0 (shortOf k (entryNeeds c np (kept x)))
   pub holds : a .code ≡ 0 → recs k m′ (a .counts)
-      ≡ if (recorded? x (addrs p 0 np) (recs k m c)) (recs k m c) (recs k m c ++ record { start = start; to = x; path = addrs p 0 np } ∷ [])
+      ≡ if (recorded? x (addrs p 0 np) (recs k m c)) (recs k m c) (recs k m c ++ record { start = start; to = x; path = addrs p 0 np; energy = energy } ∷ [])
   pub counts : a .code ≡ 0 → a .counts ≡ if (recorded? x (addrs p 0 np) (recs k m c)) c (counted c np (kept x))
   pub known : recorded? x (addrs p 0 np) (recs k m c) ≡ true → m′ ≡ m
   pub refused : (a .code ≡ 0 → ⊥) → (m′ ≡ m) × (a .counts ≡ c)

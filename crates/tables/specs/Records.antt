@@ -10,7 +10,7 @@ use Rattle.spec.specs.Search.{Found, nowhere, found, Rec}
 use Rattle.spec.specs.Entries.{absent}
 use Rattle.layout.specs.Fields.{newestAt}
 use Rattle.layout.specs.Parts.{bucketPlace}
-use Rattle.layout.specs.Records.{RECORD, recordPlace, startAt, toAt, linkAt, sumAt, endOf, keptOf}
+use Rattle.layout.specs.Records.{RECORD, recordPlace, startAt, toAt, linkAt, sumAt, energyAt, endOf, keptOf}
 use Rattle.state.specs.Cells.{stackAt}
 use Rattle.tables.specs.Addrs.{addrs, pathSum, Path, Summed}
 use Rattle.tables.specs.Chains.{any, Chained}
@@ -28,7 +28,7 @@ foundAt r s room i =
     if (eqb (toAt r i) absent) nowhere (found (toAt r i) (stackAt s (9 * (room - keptOf r (suc i))) (keptOf r (suc i) - keptOf r i)))
 
 unfoldable pub recAt : List ℕ → List ℕ → List ℕ → ℕ → ℕ → Rec
-recAt r q s room i = record { start = startAt r i; to = foundAt r s room i; path = pathAt r q i }
+recAt r q s room i = record { start = startAt r i; to = foundAt r s room i; path = pathAt r q i; energy = energyAt r i }
 
 -- the first m
 unfoldable pub recsOf : List ℕ → List ℕ → List ℕ → ℕ → ℕ → List Rec

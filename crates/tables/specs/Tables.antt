@@ -88,7 +88,7 @@ abbrev pub newFound : List ℕ → Entry → Found
 newFound s e = if (eqb (e .to) absent) nowhere (found (e .to) (stackAt s (9 * e .from) (e .cells)))
 
 abbrev pub newRec : List ℕ → Entry → List ℕ → Rec
-newRec s e path = record { start = e .start; to = newFound s e; path = path }
+newRec s e path = record { start = e .start; to = newFound s e; path = path; energy = e .energy }
 
 -- there is no destination and nothing to keep, or a state stands in S
 pub data Enters (n : ℕ) (s : List ℕ) (e : Entry) : Type 0 where
@@ -101,12 +101,13 @@ pub record Ready (p : List ℕ) (np n buckets : ℕ) (k : Rooms) (m : Mem) (c : 
   pub path : Path p 0 np
   pub most : np ≤ 2 ^ 30
   pub start : e .start < 2 ^ 16
+  pub energy : e .energy < 2 ^ 32
   pub entry : Enters n (m .s) e
   pub inside : e .from + e .cells ≤ c .used
 
 -- the entry of a path that leads nowhere
-abbrev pub noEntry : ℕ → Entry
-noEntry start = record { start = start; to = absent; from = 0; cells = 0 }
+abbrev pub noEntry : ℕ → ℕ → Entry
+noEntry start energy = record { start = start; to = absent; from = 0; cells = 0; energy = energy }
 
 -- and there is room for it
 pub record Adds (p : List ℕ) (np n buckets : ℕ) (k : Rooms) (m : Mem) (c : Counts) (e : Entry) (sum : ℕ) : Type 0 where
@@ -118,7 +119,7 @@ pub record Adds (p : List ℕ) (np n buckets : ℕ) (k : Rooms) (m : Mem) (c : C
 
 -- what the new row is to say, and the counts after it
 abbrev pub fields : Counts → ℕ → Entry → ℕ → Fields
-fields c np e sum = record { start = e .start; to = e .to; ends = c .addresses + np; kept = c .kept + e .cells; sum = sum }
+fields c np e sum = record { start = e .start; to = e .to; ends = c .addresses + np; kept = c .kept + e .cells; sum = sum; energy = e .energy }
 
 abbrev pub counted : Counts → ℕ → ℕ → Counts
 counted c np cells = record { records = c .records + 1; addresses = c .addresses + np; kept = c .kept + cells; used = c .used; rows = c .rows }

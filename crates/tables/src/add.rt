@@ -25,6 +25,7 @@ fn fields_of(c: Counts, np: usize, e: Entry, sum: usize) -> Fields
         ends: c.addresses + np,
         kept: c.kept + e.cells,
         sum,
+        energy: e.energy,
     }
 }
 

@@ -30,12 +30,13 @@ pub struct Counts {
     pub rows: usize,
 }
 
-// What is to be recorded: the turn's start, the destination or `MISSING`, and the place and the length in S, in cells, of the state to keep.
+// What is to be recorded: the turn's start, the destination or `MISSING`, the place and the length in S, in cells, of the state to keep, and the energy so far.
 pub struct Entry {
     pub start: usize,
     pub to: usize,
     pub from: usize,
     pub cells: usize,
+    pub energy: usize,
 }
 
 // 0 or the number of a refusal, and the counts.

@@ -1,5 +1,5 @@
 // A new record's row in R, and the links that lead to it: from its bucket, and from the found parents of its destination.
-// "rows in order of insertion, searched"
+// "rows in order of insertion, searched"; and of the record's number: "It is kept in the R row from the moment of recording".
 use crate::record::bucket_of;
 use layout::MISSING;
 use layout::field::FIRST_FOUND;
@@ -7,6 +7,7 @@ use layout::field::LAST_FOUND;
 use layout::part::BUCKET;
 use layout::part::BUCKETS;
 use layout::record::ENDS;
+use layout::record::ENERGY;
 use layout::record::KEPT;
 use layout::record::LINK;
 use layout::record::NEXT;
@@ -23,13 +24,15 @@ ghost use Rattle.lent.specs.Bytes.{Stored};
 ghost use Rattle.layout.specs.Records.{RECORD, recordPlace, R-NEXT};
 ghost use Rattle.tables.specs.Links.{saysBytes, linkBytes, rowBytes, Joins, Joined, Links, Linked};
 
-// What a record's row says: its turn's start, its destination or `MISSING`, the ends of its path in Q and of its kept cells in S, and its path's sum.
+// What a record's row says: its turn's start, its destination or `MISSING`, the ends of its path in Q and of its kept cells in S, its path's sum, and
+// its number.
 pub struct Fields {
     pub start: usize,
     pub to: usize,
     pub ends: usize,
     pub kept: usize,
     pub sum: usize,
+    pub energy: usize,
 }
 
 // Stores what a record's row says of its path and its state.
@@ -43,23 +46,24 @@ fn put_says(r: &mut [u8], at: usize, f: Fields)
     put32(r, at + KEPT, f.kept);
 }
 
-// Stores the links and the sum of the record whose row begins at `at`; it has no next parent yet.
-fn put_links(r: &mut [u8], at: usize, link: usize, sum: usize)
+// Stores the links, the sum and the number of the record whose row begins at `at`; it has no next parent yet.
+fn put_links(r: &mut [u8], at: usize, link: usize, sum: usize, energy: usize)
     requires { ⌜ at + RECORD ≤ length (now r) ⌝ }
-    ensures { λ _. ⌜ Stored 12 (now (r .entry)) (at + R-NEXT) (linkBytes link sum) (now (r .exit)) ⌝ }
+    ensures { λ _. ⌜ Stored 16 (now (r .entry)) (at + R-NEXT) (linkBytes link sum energy) (now (r .exit)) ⌝ }
 {
     put32(r, at + NEXT, 0);
     put32(r, at + LINK, link);
     put32(r, at + SUM, sum);
+    put32(r, at + ENERGY, energy);
 }
 
 // Stores the row of record m, with the given link.
 fn put_row(r: &mut [u8], m: usize, f: Fields, link: usize)
     requires { ⌜ recordPlace m + RECORD ≤ length (now r) ⌝ }
-    ensures { λ _. ⌜ Stored 24 (now (r .entry)) (recordPlace m) (rowBytes f link) (now (r .exit)) ⌝ }
+    ensures { λ _. ⌜ Stored 28 (now (r .entry)) (recordPlace m) (rowBytes f link) (now (r .exit)) ⌝ }
 {
     put_says(r, RECORD * m, f);
-    put_links(r, RECORD * m, link, f.sum);
+    put_links(r, RECORD * m, link, f.sum, f.energy);
 }
 
 // Puts record m behind the found parents of its destination a.

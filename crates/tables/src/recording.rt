@@ -43,7 +43,7 @@ pub fn record_entry(
     e: Entry,
 ) -> Answer
     requires { ⌜ Ready (now p) np n buckets k (mem (now w) (now r) (now q) (now s)) c e ⌝ }
-    ensures { λ a. ⌜ Recorded (now (p .entry)) np n buckets k (mem (now (w .entry)) (now (r .entry)) (now (q .entry)) (now (s .entry))) c (e .start) (newFound (now (s .entry)) e)
+    ensures { λ a. ⌜ Recorded (now (p .entry)) np n buckets k (mem (now (w .entry)) (now (r .entry)) (now (q .entry)) (now (s .entry))) c (e .start) (e .energy) (newFound (now (s .entry)) e)
         (mem (now (w .exit)) (now (r .exit)) (now (q .exit)) (now (s .exit))) a ⌝ }
 {
     let sum = path_sum(p, np);

@@ -88,23 +88,23 @@ module _ (r q : Rules) (code : List ℕ) where
 
 -- ---- the answer
 
--- Rules that say the same of the code's instructions, and whose modes are both taken or both refused, give one answer: at any limit, in any rooms.
+-- Rules that say the same of the code's instructions, and whose modes are both taken or both refused, give one answer: at any limit, with any choice, in any rooms.
 pub same-answer : (r q : Rules) (code : List ℕ) → Alike r q (instructions code) → ltb 1 (r .mode) ≡ ltb 1 (q .mode)
-    → (l : Lent) (limit : ℕ) → answer r l limit code ≡ answer q l limit code
+    → (l : Lent) (limit choice : ℕ) → answer r l limit choice code ≡ answer q l limit choice code
 unfolding answer searched mapped
-same-answer r q code h e l limit = rw (prepared-alike r q code h, e)
+same-answer r q code h e l limit choice = rw (prepared-alike r q code h, e)
 
 -- ---- No. 6: where no PUSH0 stands as an instruction, both modes give one answer
 
 pub zero-moves-nothing : (code : List ℕ) → ((i : Ins) → In i (instructions code) → ¬ (i .op ≡ 0x5F))
-    → (l : Lent) (limit : ℕ) → answer (in-mode 1) l limit code ≡ answer (in-mode 0) l limit code
+    → (l : Lent) (limit choice : ℕ) → answer (in-mode 1) l limit choice code ≡ answer (in-mode 0) l limit choice code
 zero-moves-nothing code h = same-answer (in-mode 1) (in-mode 0) code (record { row = λ _ _. refl; step = λ i n. same-elsewhere 1 (i .op) (h i n) }) refl
 
 -- nor do the answers of the call with a text differ
 pub zero-moves-no-text : (code : List ℕ) → ((i : Ins) → In i (instructions code) → ¬ (i .op ≡ 0x5F))
-    → (l : Lent) (room limit : ℕ) → json-answer (in-mode 1) l room limit code ≡ json-answer (in-mode 0) l room limit code
+    → (l : Lent) (room limit choice : ℕ) → json-answer (in-mode 1) l room limit choice code ≡ json-answer (in-mode 0) l room limit choice code
 unfolding json-answer
-zero-moves-no-text code h l room limit = ap (within-text room) (zero-moves-nothing code h l limit)
+zero-moves-no-text code h l room limit choice = ap (within-text room) (zero-moves-nothing code h l limit choice)
 
 -- ---- No. 3: byte 1E was unknown
 
@@ -128,16 +128,16 @@ old-lawful = record {
 abbrev pub before-clz : ℕ → Rules
 before-clz m = record { row = old-row; mode = m }
 
--- Where no 1E stands as an instruction, the whole answer is what it was: at any limit, in any rooms, in any mode.
+-- Where no 1E stands as an instruction, the whole answer is what it was: at any limit, with any choice, in any rooms, in any mode.
 pub clz-moves-nothing : (code : List ℕ) → ((i : Ins) → In i (instructions code) → ¬ (i .op ≡ 0x1E))
-    → (m : ℕ) (l : Lent) (limit : ℕ) → answer (before-clz m) l limit code ≡ answer (in-mode m) l limit code
+    → (m : ℕ) (l : Lent) (limit choice : ℕ) → answer (before-clz m) l limit choice code ≡ answer (in-mode m) l limit choice code
 clz-moves-nothing code h m = same-answer (before-clz m) (in-mode m) code (record { row = λ i n. not-clz (i .op) (h i n); step = λ _ _. refl }) refl
 
 -- nor does the answer of the call with a text
 pub clz-moves-no-text : (code : List ℕ) → ((i : Ins) → In i (instructions code) → ¬ (i .op ≡ 0x1E))
-    → (m : ℕ) (l : Lent) (room limit : ℕ) → json-answer (before-clz m) l room limit code ≡ json-answer (in-mode m) l room limit code
+    → (m : ℕ) (l : Lent) (room limit choice : ℕ) → json-answer (before-clz m) l room limit choice code ≡ json-answer (in-mode m) l room limit choice code
 unfolding json-answer
-clz-moves-no-text code h m l room limit = ap (within-text room) (clz-moves-nothing code h m l limit)
+clz-moves-no-text code h m l room limit choice = ap (within-text room) (clz-moves-nothing code h m l limit choice)
 
 -- ---- demand 2's domain: no row differs from the Rust's
 

@@ -1,24 +1,24 @@
 -- What holds of every answer that is given: its blocks, its record and its energy. Assumes nothing.
-use Prim.Native.Nat.{ℕ, _+_, _≤_}
+use Prim.Native.Nat.{ℕ, _+_, _*_, _≤_}
 use native.Mathlib.Omega.{arith}
 use mathlib.Core.Path.{_≡_, refl, sym, ap, ap₂, subst, _∙_}
-use mathlib.Core.Bool.{Bool, false, not}
-use mathlib.Core.List.{List, [], _∷_, map}
+use mathlib.Core.Bool.{Bool, true, false, not}
+use mathlib.Core.List.{List, [], _∷_, _++_, map}
 use lib.ListN.{length, length-append}
-use borrow.Author.Tests.{not-true}
+use borrow.Author.Tests.{not-true, ne-eqb}
 use Rattle.spec.specs.Lists.{keep}
 use Rattle.spec.specs.Opcodes.{Rules}
 use Rattle.spec.specs.Walk.{Ins, instructions}
 use Rattle.spec.specs.Blocks.{Kind, terminate, jump, jumpi, dynamic-jump, dynamic-jumpi, Block, with-kind, starts, blocks}
 use Rattle.spec.specs.Stacks.{Ran, run}
-use Rattle.spec.specs.Search.{Node, node, nodes, Rec, is-nowhere, dests}
+use Rattle.spec.specs.Search.{Node, node, nodes, Rec, St, is-nowhere, dests}
 use Rattle.spec.specs.Ending.{Final, all-are, merged, ended, entries-of, finals}
 use Rattle.spec.specs.Rooms.{Lent}
-use Rattle.spec.specs.Entries.{Map, entries, bytes}
+use Rattle.spec.specs.Entries.{Map, head, block-entries, record-entry, entries, joined, bytes}
 use Rattle.spec.specs.Answer.{answered, prepared, searched, mapped, answer}
 use Rattle.laws.proofs.Branch.{both}
 use Rattle.laws.proofs.Lists.{Rising, one-more, rising-from}
-use Rattle.laws.proofs.Members.{In, in-keep, in-map}
+use Rattle.laws.proofs.Members.{In, in-keep, in-map, gather-append}
 use Rattle.theorems.proofs.Counts.{Lawful}
 use Rattle.theorems.proofs.Cutting.{Made, made, starts-rise}
 use Rattle.theorems.proofs.Energy.{counted-in, energy-is-counted, search-energy}
@@ -130,9 +130,9 @@ module _ (r : Rules) (code : List ℕ) (recs : List Rec) where
 
 -- ---- every answer
 
-module _ (r : Rules) (l : Lent) (limit : ℕ) (code : List ℕ) (a : Map) (e : answer r l limit code ≡ answered a) where
-  the-map : a ≡ mapped r code (searched r limit code)
-  the-map = gave r l limit code a e .is
+module _ (r : Rules) (l : Lent) (limit choice : ℕ) (code : List ℕ) (a : Map) (e : answer r l limit choice code ≡ answered a) where
+  the-map : a ≡ mapped r choice code (searched r limit code)
+  the-map = gave r l limit choice code a e .is
 
   -- "Energy used is the number of units counted in step 1"
   pub answered-counted : a .energy ≡ counted-in (search-rounds limit (prepared r code))
@@ -169,7 +169,26 @@ module _ (r : Rules) (l : Lent) (limit : ℕ) (code : List ℕ) (a : Map) (e : a
       let recs = searched r limit code .recs in
       subst (λ (m : Map). Rising 0 (finals-at (m .blocks))) (sym the-map) (rising-keep _ (finals (prepared r code) recs) (final-order r code recs ok))
 
+-- ---- the bytes of an answer
+
+bytes-long : (m : Map) → length (bytes m) ≡ 18 + (length (joined (block-entries m)) + length (joined (map (record-entry (m .numbered)) (m .recs))))
+unfolding bytes entries
+bytes-long m = ap (λ (bs : List ℕ). length (head m ++ bs)) (gather-append (λ (e : List ℕ). e) (block-entries m) (map (record-entry (m .numbered)) (m .recs))) ∙ simp length-append (omega arith)
+
 -- the head alone has 18 bytes, so that what the exported entry counts is no refusal's number
 pub answered-long : (m : Map) → 18 ≤ length (bytes m)
-unfolding bytes entries
-answered-long m = simp length-append (omega arith)
+answered-long m = omega (arith, bytes-long m)
+
+records-long : (rs : List Rec) → length (joined (map (record-entry true) rs)) ≡ length (joined (map (record-entry false) rs)) + 4 * length rs
+records-long [] = refl
+records-long (x ∷ rs) = let h = records-long rs in simp length-append (omega arith)
+
+-- Document 02, No. 5: "where kind 9 is written the output need grows by 4 bytes a record".
+pub numbers-written : (r : Rules) (choice : ℕ) → ¬ (choice ≡ 0) → (code : List ℕ) (s : St)
+    → length (bytes (mapped r 0 code s)) ≡ length (bytes (mapped r choice code s)) + 4 * length (s .recs)
+unfolding mapped
+numbers-written r choice ne code s =
+    let m = mapped r 0 code s in
+    let plain : length (bytes (mapped r choice code s)) ≡ 18 + (length (joined (block-entries m)) + length (joined (map (record-entry false) (s .recs)))) =
+    bytes-long (mapped r choice code s) ∙ rw (ne-eqb choice 0 ne) in
+    bytes-long m ∙ rw (records-long (s .recs)) (omega arith)

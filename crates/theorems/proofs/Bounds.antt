@@ -2,7 +2,7 @@
 use Prim.Native.Nat.{ℕ, _+_, _^_, _≤_, _<_}
 use native.Mathlib.Omega.{arith}
 use mathlib.Core.Path.{_≡_, refl, sym, ap, subst, _∙_}
-use mathlib.Core.Bool.{true, not}
+use mathlib.Core.Bool.{Bool, true, false, not}
 use mathlib.Core.List.{List, [], _∷_, map}
 use lib.Dec.{eqb}
 use lib.ListN.{length, length-append, length-map}
@@ -22,17 +22,19 @@ use Rattle.laws.proofs.Members.{In, here, there, in-right, in-keep, length-keep
 use Rattle.theorems.proofs.Counts.{Lawful}
 use Rattle.theorems.proofs.Sides.{Within}
 use Rattle.theorems.proofs.Passing.{inner, Passes, record-passes}
+use Rattle.theorems.proofs.Numbers.{search-up-to}
 use Rattle.theorems.proofs.Demand3.{gave}
 use Rattle.theorems.proofs.Answered.{finals-at, final-made, final-order, answered-energy, answered-final, answered-order}
 
 -- ---- the statement
 
--- a record starts in the code, goes along it and ends in it
+-- a record starts in the code, goes along it and ends in it, and was made within the highest limit
 pub record RecBounded (n : ℕ) (r : Rec) : Type 0 where
   pub start : r .start < n
   pub path : (a : ℕ) → In a (r .path) → a < n
   pub to : (t : ℕ) → In t (dest (r .to)) → t < n
   pub long : length (r .path) ≤ 2 ^ 30
+  pub number : r .energy ≤ 500000
 
 -- a block that is not dynamic has no entries
 abbrev pub Bare : List Rec → Kind → Type 0
@@ -105,18 +107,23 @@ path-few : (p : List ℕ) → length p ≤ length (gather (little 2) p)
 path-few [] = omega arith
 path-few (a ∷ p) = omega (arith, path-few p)
 
-recs-few : (recs : List Rec) → length recs ≤ length (joined (map record-entry recs))
-recs-few [] = omega arith
-recs-few (r ∷ recs) = simp length-append (omega (arith, recs-few recs))
+recs-few : (b : Bool) (recs : List Rec) → length recs ≤ length (joined (map (record-entry b) recs))
+recs-few b [] = omega arith
+recs-few false (r ∷ recs) = simp length-append (omega (arith, recs-few false recs))
+recs-few true (r ∷ recs) = simp length-append (omega (arith, recs-few true recs))
 
 bytes-few : (m : Map) → length (m .recs) ≤ length (bytes m)
 unfolding bytes entries
 bytes-few m =
-    rw (gather-append (λ (e : List ℕ). e) (block-entries m) (map record-entry (m .recs))) (simp length-append (omega (arith, recs-few (m .recs))))
+    rw (gather-append (λ (e : List ℕ). e) (block-entries m) (map (record-entry (m .numbered)) (m .recs))) (simp length-append (omega (arith, recs-few (m .numbered) (m .recs))))
+
+record-long : (b : Bool) (r : Rec) → length (r .path) ≤ length (record-entry b r)
+record-long false r = omega (arith, path-few (r .path))
+record-long true r = omega (arith, path-few (r .path))
 
 bytes-long : (m : Map) (r : Rec) → In r (m .recs) → length (r .path) ≤ length (bytes m)
 unfolding bytes entries
-bytes-long m r i = omega (arith, path-few (r .path), in-joined {xs = entries m} (there (in-right (block-entries m) (map-in record-entry i))))
+bytes-long m r i = omega (arith, record-long (m .numbered) r, in-joined {xs = entries m} (there (in-right (block-entries m) (map-in (record-entry (m .numbered)) i))))
 
 -- numbers that rise below n are at most n
 rising-few : {low n : ℕ} (ns : List ℕ) → Rising low ns → ((t : ℕ) → In t ns → t < n) → low ≤ n → low + length ns ≤ n
@@ -125,13 +132,13 @@ rising-few (a ∷ ns) (one-more k r) h l = let f = rising-few ns r (λ t i. h t 
 
 -- ---- every answer
 
-module _ (rules : Rules) (ok : Lawful (rules .row)) (l : Lent) (limit : ℕ) (code : List ℕ) (m : Map) (e : answer rules l limit code ≡ answered m) where
+module _ (rules : Rules) (ok : Lawful (rules .row)) (l : Lent) (limit choice : ℕ) (code : List ℕ) (m : Map) (e : answer rules l limit choice code ≡ answered m) where
   abbrev the-recs : List Rec
   the-recs = searched rules limit code .recs
 
   recs-are : m .recs ≡ the-recs
   unfolding mapped
-  recs-are = ap (λ (a : Map). a .recs) (gave rules l limit code m e .is)
+  recs-are = ap (λ (a : Map). a .recs) (gave rules l limit choice code m e .is)
 
   passes : (r : Rec) → In r the-recs → Passes (length code) r
   unfolding searched
@@ -165,15 +172,20 @@ module _ (rules : Rules) (ok : Lawful (rules .row)) (l : Lent) (limit : ℕ) (co
 
   -- "of any room at most 2^30 units count as lent"
   output-short : length (bytes m) ≤ 2 ^ 30
-  output-short = let o = gave rules l limit code m e .output in omega arith
+  output-short = let o = gave rules l limit choice code m e .output in omega arith
 
   recs-short : length the-recs ≤ 2 ^ 30
   recs-short = omega (arith, bytes-few m, ap length recs-are, output-short)
 
+  -- no record's number is past the limit
+  numbers : (r : Rec) → In r the-recs → r .energy ≤ 500000
+  unfolding searched
+  numbers r i = omega (arith, search-up-to limit (prepared rules code) r i, gave rules l limit choice code m e .taken .limit-fits)
+
   rec-bounded : (r : Rec) → In r the-recs → RecBounded (length code) r
   rec-bounded r i =
       let p = passes r i in
-      record { start = p .start; path = p .along .within; to = p .lands; long = omega (arith, bytes-long m r (subst (In r) (sym recs-are) i), output-short) }
+      record { start = p .start; path = p .along .within; to = p .lands; long = omega (arith, bytes-long m r (subst (In r) (sym recs-are) i), output-short); number = numbers r i }
 
   block-bounded : (f : Final) → In f (finals (prepared rules code) the-recs) → BlockBounded (length code) f
   block-bounded f i =
@@ -202,8 +214,8 @@ module _ (rules : Rules) (ok : Lawful (rules .row)) (l : Lent) (limit : ℕ) (co
       → ((f : Final) → In f (a .blocks) → In f (finals (prepared rules code) the-recs)) → Bounded (length code) a
   run-bounded a size energy recs order among = record {
     size = size;
-    size-fits = gave rules l limit code m e .taken .code-fits;
-    energy = omega (arith, energy, answered-energy rules l limit code m e, gave rules l limit code m e .taken .limit-fits);
+    size-fits = gave rules l limit choice code m e .taken .code-fits;
+    energy = omega (arith, energy, answered-energy rules l limit choice code m e, gave rules l limit choice code m e .taken .limit-fits);
     block-count = blocks-few (a .blocks) order (λ f i. block-bounded f (among f i));
     record-count = omega (arith, recs-short, ap length recs);
     rising = order;
@@ -215,12 +227,12 @@ module _ (rules : Rules) (ok : Lawful (rules .row)) (l : Lent) (limit : ℕ) (co
   pub answered-bounded : Bounded (length code) m
   unfolding mapped
   answered-bounded =
-      let is = gave rules l limit code m e .is in
-      run-bounded m (ap (λ (a : Map). a .size) is) refl recs-are (answered-order rules l limit code m e ok) (answered-final rules l limit code m e)
+      let is = gave rules l limit choice code m e .is in
+      run-bounded m (ap (λ (a : Map). a .size) is) refl recs-are (answered-order rules l limit choice code m e ok) (answered-final rules l limit choice code m e)
 
   -- and every number of its run's map before pruning.
-  pub unpruned-bounded : Bounded (length code) (unpruned rules code (searched rules limit code))
+  pub unpruned-bounded : Bounded (length code) (unpruned rules choice code (searched rules limit code))
   unfolding unpruned mapped
   unpruned-bounded =
-      run-bounded (unpruned rules code (searched rules limit code)) refl (sym (ap (λ (a : Map). a .energy) (gave rules l limit code m e .is))) refl
+      run-bounded (unpruned rules choice code (searched rules limit code)) refl (sym (ap (λ (a : Map). a .energy) (gave rules l limit choice code m e .is))) refl
       (final-order rules code the-recs ok) (λ f i. i)

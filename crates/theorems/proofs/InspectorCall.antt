@@ -46,8 +46,8 @@ abbrev listed : ℕ → List Item → List Rec
 listed b [] = []
 listed b (a-head s n m e ∷ is) = listed b is
 listed b (a-block c n ∷ is) = listed (c .start) is
-listed b (a-way t p ∷ is) = record { start = b; to = t; path = p } ∷ listed b is
-listed b (a-record r ∷ is) = r ∷ listed b is
+listed b (a-way t p ∷ is) = record { start = b; to = t; path = p; energy = 0 } ∷ listed b is
+listed b (a-record n r ∷ is) = r ∷ listed b is
 listed b (no-item ∷ is) = listed b is
 
 abbrev recs-of : List PathEntry → List Rec
@@ -57,8 +57,8 @@ shows-listed : (b at : ℕ) (on : ℕ → List PathEntry) (is : List Item) → (
     → recs-of (shows b at on it) ≡ listed b (it ∷ is)
 shows-listed b at on is h (a-head s n m e) = h b
 shows-listed b at on is h (a-block c n) = h (c .start)
-shows-listed b at on is h (a-way t p) = ap {B = List Rec} (λ (l : List Rec). record { start = b; to = t; path = p } ∷ l) (h b)
-shows-listed b at on is h (a-record r) = ap {B = List Rec} (λ (l : List Rec). r ∷ l) (h b)
+shows-listed b at on is h (a-way t p) = ap {B = List Rec} (λ (l : List Rec). record { start = b; to = t; path = p; energy = 0 } ∷ l) (h b)
+shows-listed b at on is h (a-record n r) = ap {B = List Rec} (λ (l : List Rec). r ∷ l) (h b)
 shows-listed b at on is h no-item = h b
 
 entries-listed : {at : ℕ} {rest : List ℕ} {ps : List Piece} → Split at rest ps → (b : ℕ) → recs-of (path-entries b ps) ≡ listed b (items ps)
@@ -70,40 +70,40 @@ entries-listed (more {at} {rest} {ps} w s) b =
 
 -- a 7 as an entry of the block at b
 abbrev owned : ℕ → Rec → Rec
-owned b r = record { start = b; to = r .to; path = r .path }
+owned b r = record { start = b; to = r .to; path = r .path; energy = 0 }
 
 listed-ways : (b : ℕ) (es : List Rec) (is : List Item) → listed b (map way-of es ++ is) ≡ map (owned b) es ++ listed b is
 listed-ways b [] is = refl
 listed-ways b (r ∷ es) is = ap {B = List Rec} (λ (l : List Rec). owned b r ∷ l) (listed-ways b es is)
 
-listed-records : (b : ℕ) (rs : List Rec) → listed b (map a-record rs) ≡ rs
-listed-records b [] = refl
-listed-records b (r ∷ rs) = ap {B = List Rec} (λ (l : List Rec). r ∷ l) (listed-records b rs)
+listed-records : (b : ℕ) (n : Bool) (rs : List Rec) → listed b (map (a-record n) rs) ≡ rs
+listed-records b n [] = refl
+listed-records b n (r ∷ rs) = ap {B = List Rec} (λ (l : List Rec). r ∷ l) (listed-records b n rs)
 
-owned-same : (b : ℕ) (es : List Rec) → ((r : Rec) → In r es → r .start ≡ b) → map (owned b) es ≡ es
+owned-same : (b : ℕ) (es : List Rec) → ((r : Rec) → In r es → (r .start ≡ b) × (r .energy ≡ 0)) → map (owned b) es ≡ es
 owned-same b [] h = refl
-owned-same b (r ∷ es) h = ap₂ {C = List Rec} (λ (q : Rec) (l : List Rec). q ∷ l) (ap {B = Rec} (λ (a : ℕ). record { start = a; to = r .to; path = r .path }) (sym (h r here))) (owned-same b es (λ q i. h q (there i)))
+owned-same b (r ∷ es) h = ap₂ {C = List Rec} (λ (q : Rec) (l : List Rec). q ∷ l) (ap₂ {C = Rec} (λ (a v : ℕ). record { start = a; to = r .to; path = r .path; energy = v }) (sym (h r here .0)) (sym (h r here .1))) (owned-same b es (λ q i. h q (there i)))
 
--- each 7 is of its block
+-- each 7 is of its block, and has no number
 abbrev Owning : List Final → Type 0
-Owning fs = (f : Final) → In f fs → (r : Rec) → In r (f .entries) → r .start ≡ f .block .start
+Owning fs = (f : Final) → In f fs → (r : Rec) → In r (f .entries) → (r .start ≡ f .block .start) × (r .energy ≡ 0)
 
-listed-blocks : (b : ℕ) (fs : List Final) (rs : List Rec) → Owning fs → listed b (gather block-items fs ++ map a-record rs) ≡ gather (λ (f : Final). f .entries) fs ++ rs
-listed-blocks b [] rs h = listed-records b rs
-listed-blocks b (f ∷ fs) rs h =
-    ap (listed (f .block .start)) (append-assoc (map way-of (f .entries)) (gather block-items fs) (map a-record rs))
-    ∙ listed-ways (f .block .start) (f .entries) (gather block-items fs ++ map a-record rs)
-    ∙ ap₂ (λ (x y : List Rec). x ++ y) (owned-same (f .block .start) (f .entries) (h f here)) (listed-blocks (f .block .start) fs rs (λ g i. h g (there i)))
+listed-blocks : (b : ℕ) (fs : List Final) (n : Bool) (rs : List Rec) → Owning fs → listed b (gather block-items fs ++ map (a-record n) rs) ≡ gather (λ (f : Final). f .entries) fs ++ rs
+listed-blocks b [] n rs h = listed-records b n rs
+listed-blocks b (f ∷ fs) n rs h =
+    ap (listed (f .block .start)) (append-assoc (map way-of (f .entries)) (gather block-items fs) (map (a-record n) rs))
+    ∙ listed-ways (f .block .start) (f .entries) (gather block-items fs ++ map (a-record n) rs)
+    ∙ ap₂ (λ (x y : List Rec). x ++ y) (owned-same (f .block .start) (f .entries) (h f here)) (listed-blocks (f .block .start) fs n rs (λ g i. h g (there i)))
     ∙ sym (append-assoc (f .entries) (gather (λ (f : Final). f .entries) fs) rs)
 
-ways-owned : (b : ℕ) (is : List Item) (r : Rec) → In r (ways b is) → r .start ≡ b
+ways-owned : (b : ℕ) (is : List Item) (r : Rec) → In r (ways b is) → (r .start ≡ b) × (r .energy ≡ 0)
 unfolding ways
 ways-owned b [] r i = elim i [ ]
-ways-owned b (a-way t p ∷ is) r here = refl
+ways-owned b (a-way t p ∷ is) r here = (refl, refl)
 ways-owned b (a-way t p ∷ is) r (there i) = ways-owned b is r i
 ways-owned b (a-head s n m e ∷ is) r i = elim i [ ]
 ways-owned b (a-block c n ∷ is) r i = elim i [ ]
-ways-owned b (a-record q ∷ is) r i = elim i [ ]
+ways-owned b (a-record n q ∷ is) r i = elim i [ ]
 ways-owned b (no-item ∷ is) r i = elim i [ ]
 
 finals-owning : (is : List Item) → Owning (finals-in is)
@@ -113,7 +113,7 @@ finals-owning (a-block b n ∷ is) f here r j = ways-owned (b .start) is r j
 finals-owning (a-block b n ∷ is) f (there i) r j = finals-owning is f i r j
 finals-owning (a-way t p ∷ is) f i r j = finals-owning is f i r j
 finals-owning (a-head s n m e ∷ is) f i r j = finals-owning is f i r j
-finals-owning (a-record q ∷ is) f i r j = finals-owning is f i r j
+finals-owning (a-record n q ∷ is) f i r j = finals-owning is f i r j
 finals-owning (no-item ∷ is) f i r j = finals-owning is f i r j
 
 module _ (bs : List ℕ) (m : Map) (e : read bs ≡ holds m) where
@@ -122,14 +122,14 @@ module _ (bs : List ℕ) (m : Map) (e : read bs ≡ holds m) where
 
   -- The path entries of accepted bytes, as they stand in them, are the map's.
   pub entries-are : recs-of (path-entries 0 (pieces bs 0 0)) ≡ paths-of m
-  entries-are = entries-listed (split bs) 0 ∙ ap (listed 0) (read-items bs m e .same) ∙ listed-blocks 0 (m .blocks) (m .recs) map-owning
+  entries-are = entries-listed (split bs) 0 ∙ ap (listed 0) (read-items bs m e .same) ∙ listed-blocks 0 (m .blocks) (m .numbered) (m .recs) map-owning
 
 -- ---- where they stand
 
 -- the bytes have the path entry at its offset: a 7, or a record
 pub data StandsAt (bs : List ℕ) (e : PathEntry) : Type 0 where
   as-way : item-of (sort (entry (drop (e .offset) bs) .kind)) (entry (drop (e .offset) bs) .body) ≡ a-way (e .entry .to) (e .entry .path) → StandsAt bs e
-  as-record : item-of (sort (entry (drop (e .offset) bs) .kind)) (entry (drop (e .offset) bs) .body) ≡ a-record (e .entry) → StandsAt bs e
+  as-record : {numbered : Bool} → item-of (sort (entry (drop (e .offset) bs) .kind)) (entry (drop (e .offset) bs) .body) ≡ a-record numbered (e .entry) → StandsAt bs e
 
 module _ (bs : List ℕ) where
   shows-stands : (b at : ℕ) (on : ℕ → List PathEntry) → ((a : ℕ) (e : PathEntry) → In e (on a) → StandsAt bs e) → (it : Item)
@@ -138,8 +138,8 @@ module _ (bs : List ℕ) where
   shows-stands b at on h (a-block c n) q e i = h (c .start) e i
   shows-stands b at on h (a-way t p) q e here = as-way q
   shows-stands b at on h (a-way t p) q e (there i) = h b e i
-  shows-stands b at on h (a-record r) q e here = as-record q
-  shows-stands b at on h (a-record r) q e (there i) = h b e i
+  shows-stands b at on h (a-record n r) q e here = as-record q
+  shows-stands b at on h (a-record n r) q e (there i) = h b e i
   shows-stands b at on h no-item q e i = h b e i
 
   split-stands : {at : ℕ} {rest : List ℕ} {ps : List Piece} → Split at rest ps → drop at bs ≡ rest → (b : ℕ) (e : PathEntry) → In e (path-entries b ps) → StandsAt bs e
@@ -162,7 +162,7 @@ shows-rise : (b at : ℕ) (on : ℕ → List PathEntry) → ((a : ℕ) → Risin
 shows-rise b at on h (a-head s n m k) = rising-from (omega arith) (h b)
 shows-rise b at on h (a-block c n) = rising-from (omega arith) (h (c .start))
 shows-rise b at on h (a-way t p) = one-more (le-refl at) (h b)
-shows-rise b at on h (a-record r) = one-more (le-refl at) (h b)
+shows-rise b at on h (a-record n r) = one-more (le-refl at) (h b)
 shows-rise b at on h no-item = rising-from (omega arith) (h b)
 
 split-rise : {at : ℕ} {rest : List ℕ} {ps : List Piece} → Split at rest ps → (b : ℕ) → Rising at (offsets (path-entries b ps))

@@ -11,11 +11,11 @@ use Rattle.spec.specs.Blocks.{cuts, blocks}
 use Rattle.spec.specs.Stacks.{read as read-stack, does, act, trim, run as run-block, through, compose}
 use Rattle.spec.specs.Meaning.{closing}
 use Rattle.spec.specs.Reach.{sweep, spread, closure}
-use Rattle.spec.specs.Search.{parents, record-nowhere, record-found, arrive, follow, tries, level, turn, round, rounds, search}
-use Rattle.spec.specs.Entries.{entries, bytes}
+use Rattle.spec.specs.Search.{parents, record-nowhere, record-found, arrive, follow, tries, level, turn, round, rounds, search, St}
+use Rattle.spec.specs.Entries.{Map, entries, bytes}
 use Rattle.spec.specs.Answer.{prepared, searched, mapped}
 use Rattle.spec.specs.Forms.{sort}
-use Rattle.spec.specs.Reader.{pieces, sevens, first-bad, addresses, items, ways, finals-in, recs-in, read}
+use Rattle.spec.specs.Reader.{pieces, sevens, first-bad, addresses, items, ways, finals-in, recs-in, numbered-in, read}
 use Rattle.spec.specs.Inspector.{first-failing, looked, fault, path-entries, Inspection, refused, bad-entry, not-right, accepted, first-wrong, inspect, exported, place-after, work-after, unpruned}
 use Rattle.theorems.proofs.MapSample.{hex}
 
@@ -119,7 +119,7 @@ abbrev inspect-in : ℕ → List ℕ → List ℕ → ℕ → Inspection
 inspect-in m = inspect (in-mode m)
 
 pub cases-hold : map (λ (c : Case). inspect-in (c .mode) (c .code) (c .bytes-in) (c .work)) cases ≡ map (λ (c : Case). c .says) cases
-unfolding if row walk read-stack does act trim through closing number sort pieces sevens first-bad addresses items ways finals-in recs-in read first-failing looked fault path-entries first-wrong inspect
+unfolding if row walk read-stack does act trim through closing number sort pieces sevens first-bad addresses items ways finals-in recs-in numbered-in read first-failing looked fault path-entries first-wrong inspect
 cases-hold = refl
 
 -- what is handed over, and left, of one that is not right: 17 and the offset; the place in 8 bytes, and not where they are not there; W wiped
@@ -136,8 +136,11 @@ handed-over = (refl, refl, refl, refl, refl, refl)
 abbrev branching : List ℕ
 branching = hex 17 0x600160075B57005B600F600D565B565B00
 
--- shown before pruning, and as answered
-pub pruning-matters : map (λ (b : List ℕ). inspect (in-mode 0) branching b 1344) (bytes (unpruned (in-mode 0) branching (searched (in-mode 0) 500000 branching)) ∷ bytes (mapped (in-mode 0) branching (searched (in-mode 0) 500000 branching)) ∷ [])
-    ≡ accepted ∷ not-right 91 1 ∷ []
-unfolding if row walk instructions cuts blocks read-stack does act trim run-block through compose sweep spread closure parents record-nowhere record-found arrive follow tries level turn round rounds search entries bytes prepared searched mapped unpruned closing number sort pieces sevens first-bad addresses items ways finals-in recs-in read first-failing looked fault path-entries first-wrong inspect
+-- shown before pruning, with kind 8 and with kind 9, and as answered
+abbrev run : St
+run = searched (in-mode 0) 500000 branching
+
+pub pruning-matters : map (λ (m : Map). inspect (in-mode 0) branching (bytes m) 1344) (unpruned (in-mode 0) 1 branching run ∷ unpruned (in-mode 0) 0 branching run ∷ mapped (in-mode 0) 1 branching run ∷ mapped (in-mode 0) 0 branching run ∷ [])
+    ≡ accepted ∷ accepted ∷ not-right 91 1 ∷ not-right 95 1 ∷ []
+unfolding if row walk instructions cuts blocks read-stack does act trim run-block through compose sweep spread closure parents record-nowhere record-found arrive follow tries level turn round rounds search entries bytes prepared searched mapped unpruned closing number sort pieces sevens first-bad addresses items ways finals-in recs-in numbered-in read first-failing looked fault path-entries first-wrong inspect
 pruning-matters = refl

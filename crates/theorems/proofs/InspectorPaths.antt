@@ -169,13 +169,13 @@ module _ (rules : Rules) (ok : Lawful (rules .row)) where
 
   -- ---- a run of ours: the edges
 
-  module _ (limit : ℕ) (code : List ℕ) where
+  module _ (limit choice : ℕ) (code : List ℕ) where
     abbrev recs : List Rec
     recs = searched rules limit code .recs
 
     -- the run, shown with its edges before pruning
     abbrev pub shown : Map
-    shown = unpruned rules code (searched rules limit code)
+    shown = unpruned rules choice code (searched rules limit code)
 
     -- an edge of a block's final form
     final-edge : {n : Node} → In n (prepared rules code) → {x : ℕ} → In x (targets (ended (n .block) (entries-of (n .block .start) recs) (n .block .kind))) → Edge rules ok shown x (n .block .start)
@@ -250,14 +250,14 @@ module _ (rules : Rules) (ok : Lawful (rules .row)) where
         true-right (g .0) (λ q j. subst (In q) (sym (g .2)) (in-left j _)) p e
 
   -- "Every entry with a destination in the record of an answered run of ours, shown with that run's edges before pruning, is accepted."
-  pub answered-accepted : (l : Lent) (limit : ℕ) (code : List ℕ) (a : Map) → answer rules l limit code ≡ answered a → {r : Rec} → In r (a .recs)
-      → fault-of rules code (shown limit code) r ≡ none
+  pub answered-accepted : (l : Lent) (limit choice : ℕ) (code : List ℕ) (a : Map) → answer rules l limit choice code ≡ answered a → {r : Rec} → In r (a .recs)
+      → fault-of rules code (shown limit choice code) r ≡ none
   unfolding mapped
-  answered-accepted l limit code a e {r} i = by-found (r .to) refl
+  answered-accepted l limit choice code a e {r} i = by-found (r .to) refl
     where
       member : In r (searched rules limit code .recs)
-      member = subst (λ (m : Map). In r (m .recs)) (gave rules l limit code a e .is) i
+      member = subst (λ (m : Map). In r (m .recs)) (gave rules l limit choice code a e .is) i
 
-      by-found : (f : Found) → r .to ≡ f → fault-to rules code (shown limit code) (r .start) (r .path) f ≡ none
+      by-found : (f : Found) → r .to ≡ f → fault-to rules code (shown limit choice code) (r .start) (r .path) f ≡ none
       by-found nowhere q = refl
-      by-found (found t s) q = right-exactly rules ok code (shown limit code) (r .start) (r .path) t .1 (record-right limit code member q)
+      by-found (found t s) q = right-exactly rules ok code (shown limit choice code) (r .start) (r .path) t .1 (record-right limit choice code member q)

@@ -13,7 +13,7 @@ use Rattle.spec.specs.Ending.{Final}
 use Rattle.spec.specs.Rooms.{work-need, Lent}
 use Rattle.spec.specs.Entries.{Map, bytes}
 use Rattle.spec.specs.Answer.{answered, searched, answer}
-use Rattle.spec.specs.Reader.{stateless, plain-rec, plain-final, plain}
+use Rattle.spec.specs.Reader.{stateless, plain-rec, plain-record, plain-final, plain}
 use Rattle.spec.specs.Inspector.{accepted, inspect, unpruned}
 use Rattle.laws.proofs.Members.{In, in-cases, in-gather, in-map}
 use Rattle.theorems.proofs.Demand3.{gave}
@@ -26,28 +26,29 @@ use Rattle.theorems.proofs.InspectorPaths.{right-more, plain-edge, show
 use Rattle.theorems.proofs.InspectorCall.{paths-of, RightEntry, all-right, verdict-only}
 use Rattle.theorems.proofs.Counts.{Lawful}
 
-module _ (rules : Rules) (ok : Lawful (rules .row)) (l : Lent) (limit : ℕ) (code : List ℕ) (a : Map) (e : answer rules l limit code ≡ answered a) where
+module _ (rules : Rules) (ok : Lawful (rules .row)) (l : Lent) (limit choice : ℕ) (code : List ℕ) (a : Map) (e : answer rules l limit choice code ≡ answered a) where
   abbrev the-map : Map
-  the-map = shown rules ok limit code
+  the-map = shown rules ok limit choice code
 
   -- ---- its path entries are records
 
   record Recorded (r : Rec) : Type 0 where
     kept : Rec
     member : In kept (searched rules limit code .recs)
-    is : r ≡ plain-rec kept
+    number : ℕ
+    is : r ≡ record { start = kept .start; to = stateless (kept .to); path = kept .path; energy = number }
 
   paths-recorded : (r : Rec) → In r (paths-of (plain the-map)) → Recorded r
   unfolding unpruned
   paths-recorded r i = by-part (in-cases (gather (λ (f : Final). f .entries) (plain the-map .blocks)) i)
     where
-      by-part : In r (gather (λ (f : Final). f .entries) (plain the-map .blocks)) ⊎ In r (map plain-rec (the-map .recs)) → Recorded r
+      by-part : In r (gather (λ (f : Final). f .entries) (plain the-map .blocks)) ⊎ In r (map (plain-record (the-map .numbered)) (the-map .recs)) → Recorded r
       by-part (inl j) =
           let g = in-gather (λ (f : Final). f .entries) (plain the-map .blocks) j in
           let f = in-map plain-final (the-map .blocks) (g .1) in
           let q = in-map plain-rec (f .0 .entries) (subst (λ (h : Final). In r (h .entries)) (f .2) (g .2)) in
-          record { kept = q .0; member = final-entry rules ok l limit code a e (f .0) (f .1) (q .0) (q .1); is = q .2 }
-      by-part (inr j) = let q = in-map plain-rec (the-map .recs) j in record { kept = q .0; member = q .1; is = q .2 }
+          record { kept = q .0; member = final-entry rules ok l limit choice code a e (f .0) (f .1) (q .0) (q .1); number = 0; is = q .2 }
+      by-part (inr j) = let q = in-map (plain-record (the-map .numbered)) (the-map .recs) j in record { kept = q .0; member = q .1; number = _; is = q .2 }
 
   kept-to : {t : ℕ} {s : Stack} (x : Found) → stateless x ≡ found t s → (z : Stack) × (x ≡ found t z)
   kept-to nowhere q = never (cc)
@@ -62,14 +63,14 @@ module _ (rules : Rules) (ok : Lawful (rules .row)) (l : Lent) (limit : ℕ) (co
       right-to : (t : ℕ) (s : Stack) → r .to ≡ found t s → Right rules ok code (plain the-map) (r .start) (r .path) t
       right-to t s q =
           let f = kept-to (k .kept .to) (sym (ap (λ (x : Rec). x .to) (k .is)) ∙ q) in
-          let right = record-right rules ok limit code (k .member) (f .1) in
+          let right = record-right rules ok limit choice code (k .member) (f .1) in
           subst (λ (x : Rec). Right rules ok code (plain the-map) (x .start) (x .path) t) (sym (k .is))
           (right-more rules ok code the-map (k .kept .start) (k .kept .path) t (plain the-map) (plain-edge rules ok the-map) right)
 
   -- The inspector accepts it, W being long enough.
   pub shown-accepted : (work : ℕ) → work-need (length code) ≤ work → inspect rules code (bytes the-map) work ≡ accepted
   shown-accepted work h =
-      let t = gave rules l limit code a e .taken in
+      let t = gave rules l limit choice code a e .taken in
       verdict-only rules ok code (bytes the-map) work
       (all-right (record { code-fits = t .code-fits; mode-fits = t .mode-fits; work-fits = h })
-      (read-written the-map (bounded-fits _ the-map (unpruned-bounded rules ok l limit code a e))) path-right)
+      (read-written the-map (bounded-fits _ the-map (unpruned-bounded rules ok l limit choice code a e))) path-right)

@@ -29,15 +29,15 @@ returned a = record { number = exported-json a; text = texted a }
 abbrev lent : ℕ → Lent
 lent out = record { w = lends .w; p = lends .p; s = lends .s; t = lends .t; r = lends .r; q = lends .q; out = out }
 
--- the output's and the text buffer's length, a limit and a code; what comes back
+-- the output's and the text buffer's length, a limit, a choice and a code; what comes back
 pub data Session : Type 0 where
-  call : ℕ → ℕ → ℕ → List ℕ → Call → Session
+  call : ℕ → ℕ → ℕ → ℕ → List ℕ → Call → Session
 
 abbrev got : Session → Call
-got (call out room limit code says) = returned (json-answer (in-mode 0) (lent out) room limit code)
+got (call out room limit choice code says) = returned (json-answer (in-mode 0) (lent out) room limit choice code)
 
 abbrev said : Session → Call
-said (call out room limit code says) = says
+said (call out room limit choice code says) = says
 
 -- so many bytes of entries, and this text
 abbrev writes : ℕ → List ℕ → Call
@@ -61,30 +61,35 @@ astray = 0x60 ∷ 0xAA ∷ 0x60 ∷ 0x07 ∷ 0x56 ∷ 0x5B ∷ 0x00 ∷ 0x5B ∷
 abbrev pub sessions : List Session
 sessions =
     -- the empty code: a head, and no block
-    call 1000 2 500000 [] (writes 18 (ascii "[]"))
+    call 1000 2 500000 1 [] (writes 18 (ascii "[]"))
     ∷
-    call 1000 1 500000 [] (refuses 11)
+    call 1000 1 500000 1 [] (refuses 11)
     ∷
     -- Return, in the room that it needs, and in a byte less
-    call 1000 185 500000 return (writes 71 (ascii "[{\"id\":0,\"start\":0,\"end\":4,\"type\":\"Jump\",\"data\":{\"to\":7}},{\"id\":5,\"start\":5,\"end\":6,\"type\":\"Terminate\",\"data\":{\"success\":true}},{\"id\":7,\"start\":7,\"end\":8,\"type\":\"Jump\",\"data\":{\"to\":5}}]"))
+    call 1000 185 500000 1 return (writes 71 (ascii "[{\"id\":0,\"start\":0,\"end\":4,\"type\":\"Jump\",\"data\":{\"to\":7}},{\"id\":5,\"start\":5,\"end\":6,\"type\":\"Terminate\",\"data\":{\"success\":true}},{\"id\":7,\"start\":7,\"end\":8,\"type\":\"Jump\",\"data\":{\"to\":5}}]"))
     ∷
-    call 1000 184 500000 return (refuses 11)
+    call 1000 184 500000 1 return (refuses 11)
+    ∷
+    -- with choice 0: the same text beside four bytes of entries more
+    call 75 185 500000 0 return (writes 75 (ascii "[{\"id\":0,\"start\":0,\"end\":4,\"type\":\"Jump\",\"data\":{\"to\":7}},{\"id\":5,\"start\":5,\"end\":6,\"type\":\"Terminate\",\"data\":{\"success\":true}},{\"id\":7,\"start\":7,\"end\":8,\"type\":\"Jump\",\"data\":{\"to\":5}}]"))
+    ∷
+    call 74 185 500000 0 return (refuses 9)
     ∷
     -- Return, limit 0: a dynamic jump with no path
-    call 1000 123 0 return (writes 44 (ascii "[{\"id\":0,\"start\":0,\"end\":4,\"type\":\"Jump\",\"data\":{\"to\":7}},{\"id\":7,\"start\":7,\"end\":8,\"type\":\"DynamicJump\",\"data\":{\"to\":[]}}]"))
+    call 1000 123 0 1 return (writes 44 (ascii "[{\"id\":0,\"start\":0,\"end\":4,\"type\":\"Jump\",\"data\":{\"to\":7}},{\"id\":7,\"start\":7,\"end\":8,\"type\":\"DynamicJump\",\"data\":{\"to\":[]}}]"))
     ∷
     -- Two callers: two paths
-    call 1000 1000 500000 two-callers (writes 135 (ascii "[{\"id\":0,\"start\":0,\"end\":4,\"type\":\"Jump\",\"data\":{\"to\":13}},{\"id\":5,\"start\":5,\"end\":10,\"type\":\"Jump\",\"data\":{\"to\":13}},{\"id\":11,\"start\":11,\"end\":12,\"type\":\"Terminate\",\"data\":{\"success\":true}},{\"id\":13,\"start\":13,\"end\":14,\"type\":\"DynamicJump\",\"data\":{\"to\":[{\"path\":[13,0],\"to\":5},{\"path\":[13,5],\"to\":11}]}}]"))
+    call 1000 1000 500000 1 two-callers (writes 135 (ascii "[{\"id\":0,\"start\":0,\"end\":4,\"type\":\"Jump\",\"data\":{\"to\":13}},{\"id\":5,\"start\":5,\"end\":10,\"type\":\"Jump\",\"data\":{\"to\":13}},{\"id\":11,\"start\":11,\"end\":12,\"type\":\"Terminate\",\"data\":{\"success\":true}},{\"id\":13,\"start\":13,\"end\":14,\"type\":\"DynamicJump\",\"data\":{\"to\":[{\"path\":[13,0],\"to\":5},{\"path\":[13,5],\"to\":11}]}}]"))
     ∷
     -- a missing destination, and a false side
-    call 1000 1000 500000 astray (writes 91 (ascii "[{\"id\":0,\"start\":0,\"end\":4,\"type\":\"Jump\",\"data\":{\"to\":7}},{\"id\":7,\"start\":7,\"end\":8,\"type\":\"DynamicJumpi\",\"data\":{\"true_to\":[{\"path\":[7,0],\"to\":null}],\"false_to\":9}},{\"id\":9,\"start\":9,\"end\":9,\"type\":\"Terminate\",\"data\":{\"success\":true}}]"))
+    call 1000 1000 500000 1 astray (writes 91 (ascii "[{\"id\":0,\"start\":0,\"end\":4,\"type\":\"Jump\",\"data\":{\"to\":7}},{\"id\":7,\"start\":7,\"end\":8,\"type\":\"DynamicJumpi\",\"data\":{\"true_to\":[{\"path\":[7,0],\"to\":null}],\"false_to\":9}},{\"id\":9,\"start\":9,\"end\":9,\"type\":\"Terminate\",\"data\":{\"success\":true}}]"))
     ∷
     -- the entry's refusals come first, 9 too
-    call 0 0 500001 return (refuses 2)
+    call 0 0 500001 1 return (refuses 2)
     ∷
-    call 70 184 500000 return (refuses 9)
+    call 70 184 500000 1 return (refuses 9)
     ∷
-    call 71 184 500000 return (refuses 11)
+    call 71 184 500000 1 return (refuses 11)
     ∷
     []
 

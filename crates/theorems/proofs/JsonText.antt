@@ -101,21 +101,22 @@ unfolding text
 text-names m = text-reads (listed m)
 
 -- of a run that is answered; where a call is, its run is: `gave-text`
-module _ (rules : Rules) (ok : Lawful (rules .row)) (l : Lent) (limit : ℕ) (code : List ℕ) (a : Map) (e : answer rules l limit code ≡ answered a) where
+module _ (rules : Rules) (ok : Lawful (rules .row)) (l : Lent) (limit choice : ℕ) (code : List ℕ) (a : Map) (e : answer rules l limit choice code ≡ answered a) where
   -- Reading the block entries of an answer gives exactly its blocks.
   pub entries-name : blocks-listed (block-bytes a) ≡ listed a
   unfolding blocks-listed
-  entries-name = ap (map shown-of) (blocks-written a (answered-fits rules ok l limit code a e)) ∙ shown-plain (a .blocks)
+  entries-name = ap (map shown-of) (blocks-written a (answered-fits rules ok l limit choice code a e)) ∙ shown-plain (a .blocks)
 
   -- The text names the same blocks, paths and destinations as the entries, and no other.
   pub same-named : blocks-in (text a) ≡ some (blocks-listed (block-bytes a))
   same-named = text-names a ∙ ap some (sym entries-name)
 
--- Two answers, of any codes, limits, rooms and modes, give the same text exactly when their block entries agree.
-pub same-text : (rules others : Rules) → Lawful (rules .row) → Lawful (others .row) → (l k : Lent) (m n : ℕ) (c d : List ℕ) (a b : Map) → answer rules l m c ≡ answered a → answer others k n d ≡ answered b
+-- Two answers, of any codes, limits, choices, rooms and modes, give the same text exactly when their block entries agree.
+pub same-text : (rules others : Rules) → Lawful (rules .row) → Lawful (others .row) → (l k : Lent) (m n choice other : ℕ) (c d : List ℕ) (a b : Map)
+    → answer rules l m choice c ≡ answered a → answer others k n other d ≡ answered b
     → (text a ≡ text b) ↔ (block-bytes a ≡ block-bytes b)
 unfolding text
-same-text rules others ok fine l k m n c d a b e f = (agree, same)
+same-text rules others ok fine l k m n choice other c d a b e f = (agree, same)
   where
     agree : text a ≡ text b → block-bytes a ≡ block-bytes b
     agree q =
@@ -125,4 +126,4 @@ same-text rules others ok fine l k m n c d a b e f = (agree, same)
 
     same : block-bytes a ≡ block-bytes b → text a ≡ text b
     same q =
-        ap json (sym (entries-name rules ok l m c a e) ∙ ap blocks-listed q ∙ entries-name others fine k n d b f)
+        ap json (sym (entries-name rules ok l m choice c a e) ∙ ap blocks-listed q ∙ entries-name others fine k n other d b f)

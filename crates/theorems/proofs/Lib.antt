@@ -17,6 +17,7 @@ pub mod Reached
 pub mod Pruning
 pub mod Carried
 pub mod Growth
+pub mod Numbers
 pub mod Batches
 pub mod BatchedSearch
 pub mod Limits

@@ -156,11 +156,11 @@ module _ (rules : Rules) (ok : Lawful (rules .row)) where
             p .1 ∙ ap some (n (le-trans (mark-inside code t (sees-lands rules ok code s)) small))
 
   -- Every code that is answered is so short.
-  pub small-code : (l : Lent) (limit : ℕ) (code : List ℕ) (a : Map) → answer rules l limit code ≡ answered a → length code ≤ 2 ^ 32
-  small-code l limit code a e = omega (arith, gave rules l limit code a e .taken .code-fits)
+  pub small-code : (l : Lent) (limit choice : ℕ) (code : List ℕ) (a : Map) → answer rules l limit choice code ≡ answered a → length code ≤ 2 ^ 32
+  small-code l limit choice code a e = omega (arith, gave rules l limit choice code a e .taken .code-fits)
 
   -- Of every answer that is given: a deep enough stack is all that a record's path needs.
-  pub answered-leads-anyhow : (l : Lent) (limit : ℕ) (code : List ℕ) (a : Map) → answer rules l limit code ≡ answered a → {r : Rec} → In r (a .recs)
+  pub answered-leads-anyhow : (l : Lent) (limit choice : ℕ) (code : List ℕ) (a : Map) → answer rules l limit choice code ≡ answered a → {r : Rec} → In r (a .recs)
       → {t : ℕ} {s : Stack} → r .to ≡ found t s → Leads-anyhow (rules .row) code (r .path) t
-  answered-leads-anyhow l limit code a e i {t} {s} f =
-      path-leads-anyhow code (small-code l limit code a e) (each-in (answered-paths rules ok l limit code a e) i .1 .sees-there t s f)
+  answered-leads-anyhow l limit choice code a e i {t} {s} f =
+      path-leads-anyhow code (small-code l limit choice code a e) (each-in (answered-paths rules ok l limit choice code a e) i .1 .sees-there t s f)

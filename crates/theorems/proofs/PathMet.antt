@@ -74,14 +74,14 @@ module _ (rules : Rules) (ok : Lawful (rules .row)) where
   -- "The whole path is true", of every answer that is given: of a record with a destination, on every stack of so many words, whatever they are and whatever is
   -- supplied. No block's run meets an unknown byte, YP goes from each block to the one named before it if each JUMPI takes the side that the path names, the last
   -- jump pops the destination, and the byte there is 5B. A JUMPI that pops it may still not take it.
-  pub whole-path : (l : Lent) (limit : ℕ) (code : List ℕ) (a : Map) → answer rules l limit code ≡ answered a → {r : Rec} → In r (a .recs)
+  pub whole-path : (l : Lent) (limit choice : ℕ) (code : List ℕ) (a : Map) → answer rules l limit choice code ≡ answered a → {r : Rec} → In r (a .recs)
       → {t : ℕ} {s : Stack} → r .to ≡ found t s → (supply : ℕ → ℕ → ℕ → ℕ) (st : List ℕ) → depth (rules .row) code (r .path) ≤ length st
       → ((b : ℕ) → mem b (r .path) ≡ true → all-known (rules .row) b (fetched code b) ≡ true) × (walks (rules .row) code supply (r .path) st ≡ true) × (along (rules .row) code supply (r .path) st .popped ≡ some t) × (getD code t 0 ≡ 0x5B)
-  whole-path l limit code a e {r} i {t} {s} f supply st h =
+  whole-path l limit choice code a e {r} i {t} {s} f supply st h =
       let deep = deep-enough-path code supply (r .path) st h in
-      let w = each-in (answered-walks rules ok l limit code a e) i .1 in
+      let w = each-in (answered-walks rules ok l limit choice code a e) i .1 in
       let leads = w .true-path .leads-there t s f in
-      (leads .has-runs, w .walks-there supply st deep, answered-leads-anyhow rules ok l limit code a e i f .pops supply st deep, leads .lands)
+      (leads .has-runs, w .walks-there supply st deep, answered-leads-anyhow rules ok l limit choice code a e i f .pops supply st deep, leads .lands)
 
   -- ---- where the mask rule is not used
 

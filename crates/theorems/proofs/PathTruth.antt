@@ -183,18 +183,18 @@ module _ (rules : Rules) (ok : Lawful (rules .row)) where
   search-paths limit code = true-paths code (search-history limit (prepared rules code))
 
   -- Of every answer that is given.
-  pub answered-paths : (l : Lent) (limit : ℕ) (code : List ℕ) (a : Map) → answer rules l limit code ≡ answered a → Each (TruePath code) (a .recs)
-  answered-paths l limit code a e = true-paths code (answered-history rules l limit code a e)
+  pub answered-paths : (l : Lent) (limit choice : ℕ) (code : List ℕ) (a : Map) → answer rules l limit choice code ≡ answered a → Each (TruePath code) (a .recs)
+  answered-paths l limit choice code a e = true-paths code (answered-history rules l limit choice code a e)
 
   -- "each block in a path is joined to the next by a static edge or by an earlier record", of every record and those before it.
-  pub answered-joined : (l : Lent) (limit : ℕ) (code : List ℕ) (a : Map) → answer rules l limit code ≡ answered a → (earlier : List Rec) (r : Rec) (later : List Rec)
+  pub answered-joined : (l : Lent) (limit choice : ℕ) (code : List ℕ) (a : Map) → answer rules l limit choice code ≡ answered a → (earlier : List Rec) (r : Rec) (later : List Rec)
       → a .recs ≡ earlier ++ r ∷ later → joined (prepared rules code) earlier (r .path) ≡ true
-  answered-joined l limit code a e earlier r later q = each-at earlier r later (subst (Each (TruePath code)) q (answered-paths l limit code a e)) .joins
+  answered-joined l limit choice code a e earlier r later q = each-at earlier r later (subst (Each (TruePath code)) q (answered-paths l limit choice code a e)) .joins
 
   -- A record with a destination: the run of its path leads there.
-  pub answered-leads : (l : Lent) (limit : ℕ) (code : List ℕ) (a : Map) → answer rules l limit code ≡ answered a → {r : Rec} → In r (a .recs)
+  pub answered-leads : (l : Lent) (limit choice : ℕ) (code : List ℕ) (a : Map) → answer rules l limit choice code ≡ answered a → {r : Rec} → In r (a .recs)
       → {t : ℕ} {s : Stack} → r .to ≡ found t s → Leads rules code (r .path) t
-  answered-leads l limit code a e i {t} {s} f = each-in (answered-paths l limit code a e) i .1 .leads-there t s f
+  answered-leads l limit choice code a e i {t} {s} f = each-in (answered-paths l limit choice code a e) i .1 .leads-there t s f
 
   -- ---- the entries of the answer's blocks are records
 
@@ -210,16 +210,16 @@ module _ (rules : Rules) (ok : Lawful (rules .row)) where
   ended-in b es (dynamic-jumpi f) i = i
 
   -- A path that a block of the answer shows, with a destination: its run leads there.
-  pub entry-leads : (l : Lent) (limit : ℕ) (code : List ℕ) (a : Map) → answer rules l limit code ≡ answered a → {f : Final} → In f (a .blocks)
+  pub entry-leads : (l : Lent) (limit choice : ℕ) (code : List ℕ) (a : Map) → answer rules l limit choice code ≡ answered a → {f : Final} → In f (a .blocks)
       → {r : Rec} → In r (f .entries) → {t : ℕ} {s : Stack} → r .to ≡ found t s → Leads rules code (r .path) t
   unfolding mapped
-  entry-leads l limit code a e {f} i {r} j = answered-leads l limit code a e (subst (λ (m : Map). In r (m .recs)) (sym is-map) member)
+  entry-leads l limit choice code a e {f} i {r} j = answered-leads l limit choice code a e (subst (λ (m : Map). In r (m .recs)) (sym is-map) member)
     where
       recs : List Rec
       recs = searched rules limit code .recs
 
-      is-map : a ≡ mapped rules code (searched rules limit code)
-      is-map = gave rules l limit code a e .is
+      is-map : a ≡ mapped rules choice code (searched rules limit code)
+      is-map = gave rules l limit choice code a e .is
 
       of : (n : Node) × In n (prepared rules code) × (f ≡ ended (n .block) (entries-of (n .block .start) recs) (n .block .kind))
       of = in-map _ (prepared rules code) (in-keep _ (finals (prepared rules code) recs) (subst (λ (m : Map). In f (m .blocks)) is-map i) .1)

@@ -153,5 +153,5 @@ module _ (rules : Rules) (ok : Lawful (rules .row)) where
   pub search-walks : (limit : ℕ) (code : List ℕ) → length code ≤ 2 ^ 32 → Each (WalkedPath code) (searched rules limit code .recs)
   search-walks limit code small = walked-paths code small (search-paths rules ok limit code)
 
-  pub answered-walks : (l : Lent) (limit : ℕ) (code : List ℕ) (a : Map) → answer rules l limit code ≡ answered a → Each (WalkedPath code) (a .recs)
-  answered-walks l limit code a e = walked-paths code (small-code rules ok l limit code a e) (answered-paths rules ok l limit code a e)
+  pub answered-walks : (l : Lent) (limit choice : ℕ) (code : List ℕ) (a : Map) → answer rules l limit choice code ≡ answered a → Each (WalkedPath code) (a .recs)
+  answered-walks l limit choice code a e = walked-paths code (small-code rules ok l limit choice code a e) (answered-paths rules ok l limit choice code a e)

@@ -32,7 +32,7 @@ module _ (n : ℕ) (small : n ≤ longest) where
   found-fits (found t s) h = let l = h t here in (omega arith, λ e. omega arith)
 
   rec-fits : (r : Rec) → RecBounded n r → RecFits r
-  rec-fits r b = record { start = omega (arith, b .start); to = found-fits (r .to) (b .to); path = λ a i. omega (arith, b .path a i); long = b .long }
+  rec-fits r b = record { start = omega (arith, b .start); to = found-fits (r .to) (b .to); path = λ a i. omega (arith, b .path a i); long = b .long; number = omega (arith, b .number) }
 
   final-fits : (f : Final) → BlockBounded n f → FinalFits f
   final-fits f b = record {
@@ -59,20 +59,20 @@ bounded-fits n m b = record {
 
 -- ---- every answer
 
-module _ (rules : Rules) (ok : Lawful (rules .row)) (l : Lent) (limit : ℕ) (code : List ℕ) (m : Map) (e : answer rules l limit code ≡ answered m) where
+module _ (rules : Rules) (ok : Lawful (rules .row)) (l : Lent) (limit choice : ℕ) (code : List ℕ) (m : Map) (e : answer rules l limit choice code ≡ answered m) where
   -- Every number of an answered map fits its bytes, and a destination that was found is never the number of a missing one.
   pub answered-fits : MapFits m
-  answered-fits = bounded-fits _ m (answered-bounded rules ok l limit code m e)
+  answered-fits = bounded-fits _ m (answered-bounded rules ok l limit choice code m e)
 
   -- Reading what was written gives it back.
   pub read-answered : read (bytes m) ≡ holds (plain m)
   read-answered = read-written m answered-fits
 
--- Equal bytes, equal maps, whatever the two runs' modes, but for the states that a search keeps for destinations, which are not written.
-pub answered-once : (r q : Rules) → Lawful (r .row) → Lawful (q .row) → (l k : Lent) (limit bound : ℕ) (code text : List ℕ) (m a : Map)
-    → answer r l limit code ≡ answered m → answer q k bound text ≡ answered a → bytes m ≡ bytes a → plain m ≡ plain a
-answered-once r q ok fine l k limit bound code text m a e f w =
-    let one = read-answered r ok l limit code m e in
-    let other = read-answered q fine k bound text a f in
+-- Equal bytes, equal maps, whatever the two runs' modes and choices, but for the states that a search keeps for destinations, which are not written.
+pub answered-once : (r q : Rules) → Lawful (r .row) → Lawful (q .row) → (l k : Lent) (limit bound choice other : ℕ) (code text : List ℕ) (m a : Map)
+    → answer r l limit choice code ≡ answered m → answer q k bound other text ≡ answered a → bytes m ≡ bytes a → plain m ≡ plain a
+answered-once r q ok fine l k limit bound choice other code text m a e f w =
+    let one = read-answered r ok l limit choice code m e in
+    let two = read-answered q fine k bound other text a f in
     let same : read (bytes m) ≡ read (bytes a) = ap read w in
     cc

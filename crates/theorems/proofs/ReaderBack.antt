@@ -12,7 +12,7 @@ use Rattle.spec.specs.Blocks.{Block}
 use Rattle.spec.specs.Ending.{Final}
 use Rattle.spec.specs.Entries.{Map, bytes}
 use Rattle.spec.specs.Forms.{field, announced, Entry, entry, behind, Ends, TERMINATE, JUMP, JUMPI, DYNAMIC-JUMP, DYNAMIC-JUMPI, Sort, HEAD, WAY, RECORD, UNKNOWN, BLOCK, sort, long, dynamic, owes, start-in}
-use Rattle.spec.specs.Reader.{Reading, holds, bad, Piece, whole, pieces, fair, formed, Place, first, blocks, records, next, goes-on, sevens, met, first-bad, Item, a-block, a-record, item-of, items, ways, finals-in, recs-in, held, verdict, read}
+use Rattle.spec.specs.Reader.{Reading, holds, bad, Piece, whole, pieces, fair, formed, Place, first, blocks, records, next, goes-on, sevens, met, first-bad, Item, a-block, a-record, item-of, items, ways, finals-in, recs-in, numbered-in, held, verdict, read}
 use Rattle.laws.proofs.Branch.{both}
 use Rattle.laws.proofs.Members.{In, here, there, and-both}
 use Rattle.theorems.proofs.Bounds.{Bare}
@@ -67,25 +67,27 @@ items-back (more {at} {rest} {ps} w s) h es p d e =
 abbrev due : Place → Bool
 due first = false
 due (blocks low d) = d
-due records = false
+due (records by) = false
 
 -- items behind a place, of which so many 7s come first: the 7s of the block before, the blocks with theirs, the records
 record Shape (p : Place) (n : ℕ) (is : List Item) : Type 0 where
-  parts : (a : ℕ) → map way-of (ways a is) ++ gather block-items (finals-in is) ++ map a-record (recs-in is) ≡ is
+  parts : (a : ℕ) → map way-of (ways a is) ++ gather block-items (finals-in is) ++ map (a-record (numbered-in is)) (recs-in is) ≡ is
   run : (a : ℕ) → n ≡ length (ways a is)
   none-due : due p ≡ false → (a : ℕ) → ways a is ≡ []
-  no-blocks : p ≡ records → finals-in is ≡ []
+  no-blocks : (by : ℕ) → p ≡ records by → finals-in is ≡ []
+  one-kind : (by : ℕ) → p ≡ records by → map (a-record (numbered-in is)) (recs-in is) ≡ map (a-record (eqb by 8)) (recs-in is)
   bare : (f : Final) → In f (finals-in is) → Bare (f .entries) (f .block .kind)
 
 module _ (body : List ℕ) (n : ℕ) (is : List Item) where
-  shape-block : {p q : Place} → (p ≡ records → ⊥) → Shape q n is → (b : Block) (c : ℕ) → c ≡ length (ways (b .start) is) → Bare (ways (b .start) is) (b .kind)
+  shape-block : {p q : Place} → ((by : ℕ) → p ≡ records by → ⊥) → Shape q n is → (b : Block) (c : ℕ) → c ≡ length (ways (b .start) is) → Bare (ways (b .start) is) (b .kind)
       → Shape p 0 (a-block b c ∷ is)
-  unfolding ways finals-in recs-in
+  unfolding ways finals-in recs-in numbered-in
   shape-block r h b c e k = record {
     parts = λ a. ap₂ {C = List Item} (λ (m : ℕ) (l : List Item). a-block b m ∷ l) (sym e) (h .parts (b .start));
     run = λ a. refl;
     none-due = λ _ a. refl;
-    no-blocks = λ q. absurd (r q);
+    no-blocks = λ by q. absurd (r by q);
+    one-kind = λ by q. absurd (r by q);
     bare = λ f i. first-one f i;
   }
     where
@@ -93,7 +95,7 @@ module _ (body : List ℕ) (n : ℕ) (is : List Item) where
       first-one f here = k
       first-one f (there i) = h .bare f i
 
-  shape-blocks : {p : Place} {low : ℕ} → (p ≡ records → ⊥) → (x : Ends) → Shape (blocks low (dynamic x)) n is → (ps : List Piece) → n ≡ sevens ps
+  shape-blocks : {p : Place} {low : ℕ} → ((by : ℕ) → p ≡ records by → ⊥) → (x : Ends) → Shape (blocks low (dynamic x)) n is → (ps : List Piece) → n ≡ sevens ps
       → met (owes (BLOCK x) body) ps ≡ true → Shape p 0 (item-of (BLOCK x) body ∷ is)
   shape-blocks r TERMINATE h ps e m = let w = h .none-due refl _ in shape-block r h _ 0 (sym (ap length w)) w
   shape-blocks r JUMP h ps e m = let w = h .none-due refl _ in shape-block r h _ 0 (sym (ap length w)) w
@@ -102,22 +104,25 @@ module _ (body : List ℕ) (n : ℕ) (is : List Item) where
   shape-blocks r DYNAMIC-JUMPI h ps e m = shape-block r h _ _ (eqb-true _ _ m ∙ sym e ∙ h .run _) tt
 
   shape-way : {low : ℕ} (missing : ℕ) → Shape (blocks low true) n is → Shape (blocks low true) (suc n) (item-of (WAY missing) body ∷ is)
-  unfolding ways finals-in recs-in
+  unfolding ways finals-in recs-in numbered-in
   shape-way missing h = record {
     parts = λ a. ap {B = List Item} (λ (l : List Item). item-of (WAY missing) body ∷ l) (h .parts a);
     run = λ a. ap suc (h .run a);
     none-due = λ e a. never (cc);
-    no-blocks = λ e. never (cc);
+    no-blocks = λ by e. never (cc);
+    one-kind = λ by e. never (cc);
     bare = h .bare;
   }
 
-  shape-record : {p : Place} (at missing : ℕ) → Shape records n is → Shape p 0 (item-of (RECORD at missing) body ∷ is)
-  unfolding ways finals-in recs-in
-  shape-record at missing h = record {
-    parts = λ a. let k = rw (h .none-due refl a, h .no-blocks refl) at (h .parts a) in rw (h .no-blocks refl) (ap {B = List Item} (λ (l : List Item). item-of (RECORD at missing) body ∷ l) k);
+  shape-record : {p : Place} (at missing : ℕ) → ((by : ℕ) → p ≡ records by → at ≡ by) → Shape (records at) n is → Shape p 0 (item-of (RECORD at missing) body ∷ is)
+  unfolding ways finals-in recs-in numbered-in
+  shape-record at missing same h = record {
+    parts = λ a. let k = rw (h .none-due refl a, h .no-blocks at refl) at (h .parts a) in
+        rw (h .no-blocks at refl) (ap {B = List Item} (λ (l : List Item). item-of (RECORD at missing) body ∷ l) (sym (h .one-kind at refl) ∙ k));
     run = λ a. refl;
     none-due = λ _ a. refl;
-    no-blocks = λ _. h .no-blocks refl;
+    no-blocks = λ _ _. h .no-blocks at refl;
+    one-kind = λ by q. ap (λ (n : ℕ). map (a-record (eqb n 8)) (recs-in (item-of (RECORD at missing) body ∷ is))) (same by q);
     bare = h .bare;
   }
 
@@ -125,27 +130,31 @@ module _ (body : List ℕ) (n : ℕ) (is : List Item) where
       → met (owes s body) ps ≡ true → Shape p (goes-on s (suc n)) (item-of s body ∷ is)
   shape-next HEAD first q f e h ps k m = absurd (f refl)
   shape-next HEAD (blocks low d) q f e h ps k m = never (cc)
-  shape-next HEAD records q f e h ps k m = never (cc)
+  shape-next HEAD (records by) q f e h ps k m = never (cc)
   shape-next (BLOCK x) first q f e h ps k m = absurd (f refl)
   shape-next (BLOCK x) (blocks low d) q f e h ps k m =
       both (λ (o : Option Place). o ≡ some q → Shape (blocks low d) 0 (item-of (BLOCK x) body ∷ is)) (leb low (start-in body))
       (λ _ g. let same : q ≡ blocks (suc (start-in body)) (dynamic x) = cc in
-      shape-blocks (λ (r : blocks low d ≡ records). never (cc)) x (subst (λ (r : Place). Shape r n is) same h) ps k m)
+      shape-blocks (λ by (r : blocks low d ≡ records by). never (cc)) x (subst (λ (r : Place). Shape r n is) same h) ps k m)
       (λ _ (g : none ≡ some q). never (cc)) e
-  shape-next (BLOCK x) records q f e h ps k m = never (cc)
+  shape-next (BLOCK x) (records by) q f e h ps k m = never (cc)
   shape-next (WAY missing) first q f e h ps k m = absurd (f refl)
   shape-next (WAY missing) (blocks low true) q f e h ps k m = shape-way missing (subst (λ (r : Place). Shape r n is) (cc) h)
   shape-next (WAY missing) (blocks low false) q f e h ps k m = never (cc)
-  shape-next (WAY missing) records q f e h ps k m = never (cc)
+  shape-next (WAY missing) (records by) q f e h ps k m = never (cc)
   shape-next (RECORD at missing) first q f e h ps k m = absurd (f refl)
-  shape-next (RECORD at missing) (blocks low d) q f e h ps k m = shape-record at missing (subst (λ (r : Place). Shape r n is) (cc) h)
-  shape-next (RECORD at missing) records q f e h ps k m = shape-record at missing (subst (λ (r : Place). Shape r n is) (cc) h)
+  shape-next (RECORD at missing) (blocks low d) q f e h ps k m = shape-record at missing (λ by (r : blocks low d ≡ records by). never (cc)) (subst (λ (r : Place). Shape r n is) (cc) h)
+  shape-next (RECORD at missing) (records to) q f e h ps k m =
+      both (λ (o : Option Place). o ≡ some q → Shape (records to) 0 (item-of (RECORD at missing) body ∷ is)) (eqb at to)
+      (λ on g. let same : q ≡ records to = cc in let is-to = eqb-true at to on in
+      shape-record at missing (λ by (r : records to ≡ records by). let to-by : to ≡ by = cc in is-to ∙ to-by) (subst (λ (r : Place). Shape r n is) (same ∙ ap records (sym is-to)) h))
+      (λ _ (g : none ≡ some q). never (cc)) e
   shape-next UNKNOWN p q f e h ps k m = never (cc)
 
 shape : {at : ℕ} {rest : List ℕ} {ps : List Piece} → Split at rest ps → (e : Entry) (es : List Entry) (p : Place) → Passed (e ∷ es) p → first-bad ps p ≡ none
     → Shape p (sevens ps) (items ps)
 unfolding items first-bad sevens ways finals-in recs-in
-shape done e es p h f = record { parts = λ a. refl; run = λ a. refl; none-due = λ _ a. refl; no-blocks = λ _. refl; bare = λ g i. elim i [ ] }
+shape done e es p h f = record { parts = λ a. refl; run = λ a. refl; none-due = λ _ a. refl; no-blocks = λ _ _. refl; one-kind = λ _ _. refl; bare = λ g i. elim i [ ] }
 shape (cut-off n c) e es p h f = never (cc)
 shape (more {at} {rest} {ps} w s) e es p h f =
     let k = passing at (entry rest) (e ∷ es) p s h f in
@@ -164,7 +173,7 @@ module _ (b : List ℕ) (ps : List Piece) where
   the-head = item-of HEAD (entry b .body)
 
   abbrev the-map : Map
-  the-map = record { size = field 0 2 (entry b .body); energy = field 8 4 (entry b .body); blocks = finals-in (items ps); recs = recs-in (items ps) }
+  the-map = record { size = field 0 2 (entry b .body); energy = field 8 4 (entry b .body); blocks = finals-in (items ps); recs = recs-in (items ps); numbered = numbered-in (items ps) }
 
   abbrev counts : Bool
   counts = eqb (field 2 2 (entry b .body)) (length (the-map .blocks)) && eqb (field 4 4 (entry b .body)) (length (the-map .recs))

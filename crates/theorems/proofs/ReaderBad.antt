@@ -13,7 +13,7 @@ use lib.ListN.{length, length-drop}
 use borrow.Author.Tests.{eqb-true, eq-eqb, lt-ltb}
 use Rattle.spec.specs.Entries.{Map}
 use Rattle.spec.specs.Forms.{field, announced, Entry, entry, behind, TERMINATE, JUMP, JUMPI, DYNAMIC-JUMP, DYNAMIC-JUMPI, Sort, HEAD, WAY, RECORD, UNKNOWN, BLOCK, sort, owes, start-in}
-use Rattle.spec.specs.Reader.{Reading, holds, bad, Piece, whole, cut, pieces, formed, Place, first, blocks, records, next, met, taken, first-bad, Item, item-of, items, finals-in, recs-in, counted, held, verdict, read, reads-as}
+use Rattle.spec.specs.Reader.{Reading, holds, bad, Piece, whole, cut, pieces, formed, Place, first, blocks, records, next, met, taken, first-bad, Item, item-of, items, finals-in, recs-in, numbered-in, counted, held, verdict, read, reads-as}
 use Rattle.spec.specs.BadEntries.{Whole, Begins, none-yet, one-more, offset, Bad, no-byte, cut-entry, bad-entry, NothingBad, block-in, record-in, how-many, HeadRight, Refused, at-first-bad, by-its-head}
 use Rattle.laws.proofs.Branch.{both, if-true}
 use Rattle.laws.proofs.Members.{and-both, and-true}
@@ -37,7 +37,7 @@ module _ (b : List ℕ) where
   unfolding first-bad
   sound done es a g first h o e = subst (Bad b) (cc) (no-byte (ap length (begins-none g (none-passed h refl))))
   sound done es a g (blocks low d) h o e = never (cc)
-  sound done es a g records h o e = never (cc)
+  sound done es a g (records by) h o e = never (cc)
   sound (cut-off n c) es a g p h o e = subst (Bad b) (cc) (cut-entry g n c)
   sound (more {at} {rest} {ps} w s) es a g p h o e =
       by-step (step (entry rest) es (behind rest) at (λ q. first-bad ps q) s h) e (λ q k r f. sound s (entry rest ∷ es) (cc (body-long rest w)) (one-more g w) q k r f)
@@ -192,7 +192,7 @@ module _ (b : List ℕ) where
   left e =
       let h = headed (split b) e in
       record {
-        held-map = record { size = field 0 2 (entry b .body); energy = field 8 4 (entry b .body); blocks = finals-in (items (h .more)); recs = recs-in (items (h .more)) };
+        held-map = record { size = field 0 2 (entry b .body); energy = field 8 4 (entry b .body); blocks = finals-in (items (h .more)); recs = recs-in (items (h .more)); numbered = numbered-in (items (h .more)) };
         is = ap (verdict all) e ∙ ap (λ (ps : List Piece). held (items ps)) (h .is) ∙ ap (λ (s : Sort). held (item-of s (entry b .body) ∷ items (h .more))) (h .head);
         blocks-are = omega (arith, given (h .more) .blocks, ap (tally block-in) (h .is), ap block-in (h .head));
         recs-are = omega (arith, given (h .more) .recs, ap (tally record-in) (h .is), ap record-in (h .head));

@@ -2,7 +2,7 @@
 -- under one claim. Assumes nothing.
 use Prim.Native.Nat.{ℕ, zero, suc, _/_, _%_, _^_}
 use mathlib.Core.Path.{_≡_, refl}
-use mathlib.Core.Bool.{true}
+use mathlib.Core.Bool.{true, false}
 use mathlib.Core.List.{List, [], _∷_, _++_, map}
 use Rattle.spec.specs.Lists.{if, number}
 use Rattle.spec.specs.Blocks.{terminate, jump, block}
@@ -10,7 +10,7 @@ use Rattle.spec.specs.Stacks.{entry}
 use Rattle.spec.specs.Search.{found}
 use Rattle.spec.specs.Entries.{Map}
 use Rattle.spec.specs.Forms.{sort}
-use Rattle.spec.specs.Reader.{Reading, holds, bad, pieces, sevens, first-bad, addresses, items, ways, finals-in, recs-in, read}
+use Rattle.spec.specs.Reader.{Reading, holds, bad, pieces, sevens, first-bad, addresses, items, ways, finals-in, recs-in, numbered-in, read}
 
 -- n bytes, as the hexadecimal number that they spell
 abbrev hex : ℕ → ℕ → List ℕ
@@ -67,12 +67,31 @@ the-map = record {
       ∷ record { block = block 5 5 6 (terminate true); entries = [] }
       ∷ record { block = block 7 7 8 (jump 5); entries = [] }
       ∷ [];
-  recs = record { start = 7; to = found 5 entry; path = 7 ∷ 0 ∷ [] } ∷ [];
+  recs = record { start = 7; to = found 5 entry; path = 7 ∷ 0 ∷ []; energy = 0 } ∷ [];
+  numbered = false;
+}
+
+-- the record with its number, 2
+abbrev numbered-record : List ℕ
+numbered-record = hex 22 0x10000000090007000500020000000200000007000000
+
+abbrev numbered-map : Map
+numbered-map = record {
+  size = the-map .size;
+  energy = the-map .energy;
+  blocks = the-map .blocks;
+  recs = record { start = 7; to = found 5 entry; path = 7 ∷ 0 ∷ []; energy = 2 } ∷ [];
+  numbered = true;
 }
 
 abbrev pub cases : List Case
 cases =
     record { bytes = with-blocks ++ the-record; says = holds the-map }
+    ∷
+    record { bytes = with-blocks ++ numbered-record; says = holds numbered-map }
+    ∷
+    -- after one of 8 and 9 the other
+    case (with-blocks ++ the-record ++ numbered-record) 71 ∷ case (with-blocks ++ numbered-record ++ the-record) 75
     ∷
     -- a missing head: no byte; another kind
     case [] 0 ∷ case (block-0 ++ block-5 ++ block-7 ++ the-record) 0
@@ -86,8 +105,8 @@ cases =
     -- a block start not above the one before: equal, below
     case (with-blocks ++ block-7 ++ the-record) 53 ∷ case (the-head ++ block-0 ++ block-7 ++ block-5 ++ the-record) 42
     ∷
-    -- unknown kinds: 0, 9, 256
-    case (with-blocks ++ hex 6 0x000000000000) 53 ∷ case (with-blocks ++ hex 6 0x000000000900) 53 ∷ case (with-blocks ++ hex 6 0x000000000001) 53
+    -- unknown kinds: 0, 10, 256
+    case (with-blocks ++ hex 6 0x000000000000) 53 ∷ case (with-blocks ++ hex 6 0x000000000a00) 53 ∷ case (with-blocks ++ hex 6 0x000000000001) 53
     ∷
     -- kind 7 away from a dynamic block: behind a Jump, behind a record
     case (with-blocks ++ seven ++ the-record) 53 ∷ case (before-7 ++ dynamic-7 1 ++ seven ++ the-record ++ seven) 89
@@ -111,5 +130,5 @@ cases =
     ∷ []
 
 pub read-cases : map (λ (c : Case). read (c .bytes)) cases ≡ map (λ (c : Case). c .says) cases
-unfolding read pieces sevens first-bad addresses items ways finals-in recs-in number sort if
+unfolding read pieces sevens first-bad addresses items ways finals-in recs-in numbered-in number sort if
 read-cases = refl

@@ -2,7 +2,7 @@
 use Prim.Native.Nat.{ℕ, zero, suc, _+_, _*_, _%_, _≤_}
 use native.Mathlib.Omega.{arith}
 use mathlib.Core.Path.{_≡_, refl, sym, ap, ap₂, _∙_}
-use mathlib.Core.Bool.{true}
+use mathlib.Core.Bool.{Bool, true}
 use mathlib.Core.List.{List, [], _∷_, _++_, map}
 use lib.Dec.{eqb, leb}
 use lib.ListN.{length, take, drop, length-drop, take-append-drop, drop-of-length-le}
@@ -35,15 +35,15 @@ abbrev pub written : Item → List ℕ
 written (a-head s n m e) = item 1 (little 2 s ++ little 2 n ++ little 4 m ++ little 4 e)
 written (a-block b n) = block-entry n b (b .kind)
 written (a-way t p) = item 7 (little 2 (destination t) ++ path-bytes p)
-written (a-record r) = record-entry r
+written (a-record b r) = record-entry b r
 written no-item = []
 
 -- ---- kind by kind
 
 pub by-kind : (F : ℕ → Sort → Type 0) → F 1 HEAD → F 2 (BLOCK TERMINATE) → F 3 (BLOCK JUMP) → F 4 (BLOCK JUMPI) → F 5 (BLOCK DYNAMIC-JUMP) → F 6 (BLOCK DYNAMIC-JUMPI)
-    → F 7 (WAY absent) → F 8 (RECORD 4 absent) → ((k : ℕ) → F k UNKNOWN) → (k : ℕ) → F k (sort k)
+    → F 7 (WAY absent) → F 8 (RECORD 4 absent) → F 9 (RECORD 8 absent) → ((k : ℕ) → F k UNKNOWN) → (k : ℕ) → F k (sort k)
 unfolding sort
-by-kind F f1 f2 f3 f4 f5 f6 f7 f8 f k =
+by-kind F f1 f2 f3 f4 f5 f6 f7 f8 f9 f k =
     both (F k) (eqb k 1) (λ e. rw (eqb-true k 1 e) f1)
     (λ _. both (F k) (eqb k 2) (λ e. rw (eqb-true k 2 e) f2)
     (λ _. both (F k) (eqb k 3) (λ e. rw (eqb-true k 3 e) f3)
@@ -51,7 +51,8 @@ by-kind F f1 f2 f3 f4 f5 f6 f7 f8 f k =
     (λ _. both (F k) (eqb k 5) (λ e. rw (eqb-true k 5 e) f5)
     (λ _. both (F k) (eqb k 6) (λ e. rw (eqb-true k 6 e) f6)
     (λ _. both (F k) (eqb k 7) (λ e. rw (eqb-true k 7 e) f7)
-    (λ _. both (F k) (eqb k 8) (λ e. rw (eqb-true k 8 e) f8) (λ _. f k))))))))
+    (λ _. both (F k) (eqb k 8) (λ e. rw (eqb-true k 8 e) f8)
+    (λ _. both (F k) (eqb k 9) (λ e. rw (eqb-true k 9 e) f9) (λ _. f k)))))))))
 
 -- ---- what is read of a body is written again
 
@@ -89,6 +90,8 @@ module _ (body : List ℕ) (h : Bytes body) where
       (λ u e f. ap (item 7) (ap (λ (n : ℕ). little 2 n ++ path-bytes (addresses (drop 6 body))) (destined-back (field 0 2 body)) ∙ part 2 0 body h (omega arith) (path-part 2 e)))
       (λ u e f. ap (item 8) (ap (λ (n : ℕ). little 2 (field 0 2 body) ++ (little 2 n ++ path-bytes (addresses (drop 8 body)))) (destined-back (field 2 2 body))
       ∙ part 2 0 body h (omega arith) (part 2 2 body h (omega arith) (path-part 4 e))))
+      (λ u e f. ap (item 9) (ap (λ (n : ℕ). little 2 (field 0 2 body) ++ (little 2 n ++ (little 4 (field 4 4 body) ++ path-bytes (addresses (drop 12 body))))) (destined-back (field 2 2 body))
+      ∙ part 2 0 body h (omega arith) (part 2 2 body h (omega arith) (part 4 4 body h (omega arith) (path-part 8 e)))))
       (λ k u e f. absurd (u refl))
     where
       success : leb (field 4 1 body) 1 ≡ true → flag (eqb (field 4 1 body) 1) ≡ field 4 1 body % 256
@@ -113,7 +116,7 @@ abbrev pub block-items : Final → List Item
 block-items f = a-block (f .block) (length (f .entries)) ∷ map way-of (f .entries)
 
 abbrev pub items-of : Map → List Item
-items-of m = a-head (m .size) (length (m .blocks)) (length (m .recs)) (m .energy) ∷ gather block-items (m .blocks) ++ map a-record (m .recs)
+items-of m = a-head (m .size) (length (m .blocks)) (length (m .recs)) (m .energy) ∷ gather block-items (m .blocks) ++ map (a-record (m .numbered)) (m .recs)
 
 ways-bytes : (es : List Rec) → joined (map path-entry es) ≡ gather written (map way-of es)
 ways-bytes [] = refl
@@ -134,18 +137,18 @@ blocks-bytes (f ∷ fs) h =
     ∙ ap₂ (λ (x y : List ℕ). x ++ y) (shown-bytes (f .block) (f .entries) (f .block .kind) (h f here)) (blocks-bytes fs (λ g i. h g (there i)))
     ∙ sym (gather-append written (block-items f) (gather block-items fs))
 
-records-bytes : (rs : List Rec) → joined (map record-entry rs) ≡ gather written (map a-record rs)
-records-bytes [] = refl
-records-bytes (r ∷ rs) = ap (λ (l : List ℕ). record-entry r ++ l) (records-bytes rs)
+records-bytes : (b : Bool) (rs : List Rec) → joined (map (record-entry b) rs) ≡ gather written (map (a-record b) rs)
+records-bytes b [] = refl
+records-bytes b (r ∷ rs) = ap (λ (l : List ℕ). record-entry b r ++ l) (records-bytes b rs)
 
 pub map-bytes : (m : Map) → ((f : Final) → In f (m .blocks) → Bare (f .entries) (f .block .kind)) → bytes m ≡ gather written (items-of m)
 unfolding bytes entries
 map-bytes m h =
     let shows : Final → List (List ℕ) = λ f. shown (extent (f .block)) (f .entries) (f .block .kind) in
     ap (λ (l : List ℕ). written (a-head (m .size) (length (m .blocks)) (length (m .recs)) (m .energy)) ++ l)
-    (gather-append (λ (e : List ℕ). e) (gather shows (m .blocks)) (map record-entry (m .recs))
-    ∙ ap₂ (λ (x y : List ℕ). x ++ y) (blocks-bytes (m .blocks) h) (records-bytes (m .recs))
-    ∙ sym (gather-append written (gather block-items (m .blocks)) (map a-record (m .recs))))
+    (gather-append (λ (e : List ℕ). e) (gather shows (m .blocks)) (map (record-entry (m .numbered)) (m .recs))
+    ∙ ap₂ (λ (x y : List ℕ). x ++ y) (blocks-bytes (m .blocks) h) (records-bytes (m .numbered) (m .recs))
+    ∙ sym (gather-append written (gather block-items (m .blocks)) (map (a-record (m .numbered)) (m .recs))))
 
 pub blocks-as-items : (m : Map) → ((f : Final) → In f (m .blocks) → Bare (f .entries) (f .block .kind)) → block-bytes m ≡ gather written (gather block-items (m .blocks))
 unfolding block-bytes

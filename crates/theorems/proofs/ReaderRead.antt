@@ -15,7 +15,7 @@ use Rattle.spec.specs.Search.{Found, nowhere, found, Rec}
 use Rattle.spec.specs.Ending.{Final}
 use Rattle.spec.specs.Entries.{Map, item, absent, destination, flag, path-bytes, bytes, block-bytes}
 use Rattle.spec.specs.Forms.{announced, Entry, behind, Ends, TERMINATE, JUMP, JUMPI, DYNAMIC-JUMP, DYNAMIC-JUMPI, Sort, HEAD, WAY, RECORD, BLOCK, sort, long, dynamic, owes, start-in}
-use Rattle.spec.specs.Reader.{holds, Piece, whole, pieces, formed, Place, first, blocks, records, next, goes-on, sevens, met, taken, first-bad, Item, a-head, a-block, a-way, a-record, no-item, destined, item-of, items, ways, finals-in, recs-in, counted, held, verdict, read, stateless, plain-rec, plain-final, plain}
+use Rattle.spec.specs.Reader.{holds, Piece, whole, pieces, formed, Place, first, blocks, records, next, goes-on, sevens, met, taken, first-bad, Item, a-head, a-block, a-way, a-record, no-item, destined, item-of, items, ways, finals-in, recs-in, numbered-in, counted, held, verdict, read, stateless, plain-rec, plain-record, told-by, plain-final, plain}
 use Rattle.laws.proofs.Branch.{if-true, if-false}
 use Rattle.laws.proofs.Lists.{Rising, one-more}
 use Rattle.laws.proofs.Members.{In, here, there, and-true}
@@ -44,6 +44,7 @@ pub record RecFits (r : Rec) : Type 0 where
   pub to : FoundFits (r .to)
   pub path : (a : ℕ) → In a (r .path) → a < 65536
   pub long : length (r .path) ≤ 2 ^ 30
+  pub number : r .energy < 2 ^ 32
 
 pub record FinalFits (f : Final) : Type 0 where
   pub id : f .block .id ≡ f .block .start
@@ -93,7 +94,7 @@ abbrev pub plain-item : Item → Item
 plain-item (a-head s n m e) = a-head s n m e
 plain-item (a-block b n) = a-block b n
 plain-item (a-way t p) = a-way (stateless t) p
-plain-item (a-record r) = a-record (plain-rec r)
+plain-item (a-record b r) = a-record b (plain-record b r)
 plain-item no-item = no-item
 
 -- the 7s that come first
@@ -102,7 +103,7 @@ leading [] = 0
 leading (a-head s n m e ∷ is) = 0
 leading (a-block b n ∷ is) = 0
 leading (a-way t p ∷ is) = suc (leading is)
-leading (a-record r ∷ is) = 0
+leading (a-record b r ∷ is) = 0
 leading (no-item ∷ is) = 0
 
 -- the bytes of items, from a place on: they are read, each as it was, and nothing is bad
@@ -185,7 +186,7 @@ reads-way t p ht hp hl =
       same = ap₂ {C = Item} a-way (ap (destined absent) d ∙ destined-is t ht) (addressed p hp);
     }
 
-reads-record : (r : Rec) → RecFits r → Reads (a-record r) 8 (RECORD 4 absent) (little 2 (r .start) ++ little 2 (destination (r .to)) ++ path-bytes (r .path))
+reads-record : (r : Rec) → RecFits r → Reads (a-record false r) 8 (RECORD 4 absent) (little 2 (r .start) ++ little 2 (destination (r .to)) ++ path-bytes (r .path))
 unfolding sort if
 reads-record r h =
     let a = number-little 2 (r .start) (h .start) in
@@ -200,7 +201,27 @@ reads-record r h =
       sorted = refl;
       fits = omega (arith, addresses-long (r .path), h .long);
       form = and-true _ _ (eq-eqb _ _ sized) refl;
-      same = λ i. a-record (record { start = a i; to = d i; path = p i });
+      same = λ i. a-record false (record { start = a i; to = d i; path = p i; energy = 0 });
+    }
+
+reads-numbered : (r : Rec) → RecFits r
+    → Reads (a-record true r) 9 (RECORD 8 absent) (little 2 (r .start) ++ little 2 (destination (r .to)) ++ little 4 (r .energy) ++ path-bytes (r .path))
+unfolding sort if
+reads-numbered r h =
+    let a = number-little 2 (r .start) (h .start) in
+    let d = ap (destined absent) (number-little 2 (destination (r .to)) (destination-fits (r .to) (h .to))) ∙ destined-is (r .to) (h .to) in
+    let v = number-little 4 (r .energy) (h .number) in
+    let n = number-little 4 (length (r .path)) (omega (arith, h .long)) in
+    let p = addressed (r .path) (h .path) in
+    let body = little 2 (r .start) ++ little 2 (destination (r .to)) ++ little 4 (r .energy) ++ path-bytes (r .path) in
+    let sized : length body ≡ long (RECORD 8 absent) body = omega (arith, addresses-long (r .path), n) in
+    record {
+      bytes-are = refl;
+      low = omega arith;
+      sorted = refl;
+      fits = omega (arith, addresses-long (r .path), h .long);
+      form = and-true _ _ (eq-eqb _ _ sized) refl;
+      same = λ i. a-record true (record { start = a i; to = d i; path = p i; energy = v i });
     }
 
 -- ---- a block of each kind; a dynamic one owes its count
@@ -304,27 +325,34 @@ module _ (i a e : ℕ) (same-id : i ≡ a) (ha : a < 65536) (he : e < 65536) whe
 -- ---- the items of a map, from each place on
 
 -- behind the head
-abbrev pub behind-items : List Rec → List Final → List Item
-behind-items rs fs = gather block-items fs ++ map a-record rs
+abbrev pub behind-items : Bool → List Rec → List Final → List Item
+behind-items numbered rs fs = gather block-items fs ++ map (a-record numbered) rs
 
--- places where a record may come
-pub data Late : Place → Type 0 where
-  in-blocks : {low : ℕ} {d : Bool} → Late (blocks low d)
-  in-records : Late records
+-- where the path length of a record stands
+abbrev path-at : Bool → ℕ
+path-at false = 4
+path-at true = 8
 
-got-none : {p : Place} → Late p → (at : ℕ) → Got p [] at
+-- places where such a record may come
+pub data Late (at : ℕ) : Place → Type 0 where
+  in-blocks : {low : ℕ} {d : Bool} → Late at (blocks low d)
+  in-records : Late at (records at)
+
+got-none : {at : ℕ} {p : Place} → Late at p → (to : ℕ) → Got p [] to
 unfolding items first-bad sevens
 got-none in-blocks at = record { ps = []; splits = done; same = refl; good = refl; run = refl }
 got-none in-records at = record { ps = []; splits = done; same = refl; good = refl; run = refl }
 
-record-next : {p : Place} → Late p → (start : ℕ) → next (RECORD 4 absent) start p ≡ some records
-record-next in-blocks start = refl
-record-next in-records start = refl
+record-next : (at : ℕ) {p : Place} → Late at p → (start : ℕ) → next (RECORD at absent) start p ≡ some (records at)
+record-next at in-blocks start = refl
+record-next at in-records start = if-true _ _ _ (eq-eqb at at refl)
 
-got-records : (rs : List Rec) → ((r : Rec) → In r rs → RecFits r) → {p : Place} → Late p → (at : ℕ) → Got p (map a-record rs) at
-got-records [] h p at = got-none p at
-got-records (r ∷ rs) h p at =
-    got-one (a-record r) (map a-record rs) 8 (RECORD 4 absent) _ (reads-record r (h r here)) (record-next p _) (got-records rs (λ q i. h q (there i)) in-records _) refl refl
+got-records : (numbered : Bool) (rs : List Rec) → ((r : Rec) → In r rs → RecFits r) → {p : Place} → Late (path-at numbered) p → (at : ℕ) → Got p (map (a-record numbered) rs) at
+got-records numbered [] h p at = got-none p at
+got-records false (r ∷ rs) h p at =
+    got-one (a-record false r) (map (a-record false) rs) 8 (RECORD 4 absent) _ (reads-record r (h r here)) (record-next 4 p _) (got-records false rs (λ q i. h q (there i)) in-records _) refl refl
+got-records true (r ∷ rs) h p at =
+    got-one (a-record true r) (map (a-record true) rs) 9 (RECORD 8 absent) _ (reads-numbered r (h r here)) (record-next 8 p _) (got-records true rs (λ q i. h q (there i)) in-records _) refl refl
 
 got-ways : (es : List Rec) → ((r : Rec) → In r es → RecFits r) → {low : ℕ} (is : List Item) → ((at : ℕ) → Got (blocks low true) is at) → (at : ℕ)
     → Got (blocks low true) (map way-of es ++ is) at
@@ -336,10 +364,10 @@ leading-ways : (es : List Rec) (is : List Item) → leading is ≡ 0 → leading
 leading-ways [] is e = e
 leading-ways (r ∷ es) is e = ap suc (leading-ways es is e)
 
-leading-none : (fs : List Final) (rs : List Rec) → leading (gather block-items fs ++ map a-record rs) ≡ 0
-leading-none [] [] = refl
-leading-none [] (r ∷ rs) = refl
-leading-none (f ∷ fs) rs = refl
+leading-none : (numbered : Bool) (fs : List Final) (rs : List Rec) → leading (gather block-items fs ++ map (a-record numbered) rs) ≡ 0
+leading-none numbered [] [] = refl
+leading-none numbered [] (r ∷ rs) = refl
+leading-none numbered (f ∷ fs) rs = refl
 
 count-fits : (es : List Rec) (k : Kind) → Bare es k → length es < 2 ^ 32 → CountFits k (length es)
 count-fits es (terminate success) e h = ap length e
@@ -355,7 +383,7 @@ met-owed (jumpi t f) n ps e = refl
 met-owed dynamic-jump n ps e = eq-eqb n (sevens ps) e
 met-owed (dynamic-jumpi f) n ps e = eq-eqb n (sevens ps) e
 
-module _ (rs : List Rec) (each : (r : Rec) → In r rs → RecFits r) where
+module _ (numbered : Bool) (rs : List Rec) (each : (r : Rec) → In r rs → RecFits r) where
   -- the 7s of a block, then what stands behind
   got-behind : (es : List Rec) → ((r : Rec) → In r es → RecFits r) → {low : ℕ} (is : List Item) → ((d : Bool) (at : ℕ) → Got (blocks low d) is at)
       → (k : Kind) → Bare es k → (at : ℕ) → Got (blocks low (takes-sevens k)) (map way-of es ++ is) at
@@ -366,8 +394,8 @@ module _ (rs : List Rec) (each : (r : Rec) → In r rs → RecFits r) where
   got-behind es h is g (dynamic-jumpi f) e at = got-ways es h is (g true) at
 
   got-blocks : (fs : List Final) → ((f : Final) → In f fs → FinalFits f) → {low : ℕ} → Rising low (finals-at fs) → (d : Bool) (at : ℕ)
-      → Got (blocks low d) (behind-items rs fs) at
-  got-blocks [] h r d at = got-records rs each in-blocks at
+      → Got (blocks low d) (behind-items numbered rs fs) at
+  got-blocks [] h r d at = got-records numbered rs each in-blocks at
   got-blocks (f ∷ fs) h {low} (one-more l r) d at =
       let k = h f here in
       let b = f .block in
@@ -377,11 +405,11 @@ module _ (rs : List Rec) (each : (r : Rec) → In r rs → RecFits r) where
       let low-enough : low ≤ start-in (w .body) = rw (w .starts) l in
       let comes : next (BLOCK (w .ends)) (start-in (w .body)) (blocks low d) ≡ some (blocks (suc (b .start)) (takes-sevens (b .kind))) =
       if-true _ _ _ (le-leb low (start-in (w .body)) low-enough) ∙ ap₂ (λ (a : ℕ) (t : Bool). some (blocks (suc a) t)) (w .starts) (w .dyn) in
-      let g = got-behind es (k .each) (behind-items rs fs) (got-blocks fs (λ q i. h q (there i)) r) (b .kind) (k .bare) (at + (6 + length (w .body))) in
-      let count : n ≡ sevens (g .ps) = sym (g .run ∙ leading-ways es (behind-items rs fs) (leading-none fs rs)) in
+      let g = got-behind es (k .each) (behind-items numbered rs fs) (got-blocks fs (λ q i. h q (there i)) r) (b .kind) (k .bare) (at + (6 + length (w .body))) in
+      let count : n ≡ sevens (g .ps) = sym (g .run ∙ leading-ways es (behind-items numbered rs fs) (leading-none numbered fs rs)) in
       subst (λ (is : List Item). Got (blocks low d) is at)
-      (ap {B = List Item} (λ (is : List Item). a-block b n ∷ is) (sym (append-assoc (map way-of es) (gather block-items fs) (map a-record rs))))
-      (got-one (a-block b n) (map way-of es ++ behind-items rs fs) (w .number-is) (BLOCK (w .ends)) (w .body) (w .reads) comes g
+      (ap {B = List Item} (λ (is : List Item). a-block b n ∷ is) (sym (append-assoc (map way-of es) (gather block-items fs) (map (a-record numbered) rs))))
+      (got-one (a-block b n) (map way-of es ++ behind-items numbered rs fs) (w .number-is) (BLOCK (w .ends)) (w .body) (w .reads) comes g
       (ap (λ (o : Option ℕ). met o (g .ps)) (w .owing) ∙ met-owed (b .kind) n (g .ps) count) refl)
 
 -- ---- the map of those items
@@ -391,7 +419,7 @@ module _ (is : List Item) where
   unfolding ways
   ways-plain a [] h e = e
   ways-plain a (r ∷ es) h e =
-      ap₂ {C = List Rec} (λ (n : ℕ) (l : List Rec). record { start = n; to = stateless (r .to); path = r .path } ∷ l) (sym (h r here)) (ways-plain a es (λ q i. h q (there i)) e)
+      ap₂ {C = List Rec} (λ (n : ℕ) (l : List Rec). record { start = n; to = stateless (r .to); path = r .path; energy = 0 } ∷ l) (sym (h r here)) (ways-plain a es (λ q i. h q (there i)) e)
 
   finals-past : (es : List Rec) → finals-in (map plain-item (map way-of es ++ is)) ≡ finals-in (map plain-item is)
   unfolding finals-in
@@ -403,41 +431,58 @@ module _ (is : List Item) where
   recs-past [] = refl
   recs-past (r ∷ es) = recs-past es
 
-module _ (rs : List Rec) where
-  no-ways : (a : ℕ) (fs : List Final) → ways a (map plain-item (behind-items rs fs)) ≡ []
+module _ (is : List Item) where
+  numbered-past : (es : List Rec) → numbered-in (map plain-item (map way-of es ++ is)) ≡ numbered-in (map plain-item is)
+  unfolding numbered-in
+  numbered-past [] = refl
+  numbered-past (r ∷ es) = numbered-past es
+
+module _ (numbered : Bool) (rs : List Rec) where
+  no-ways : (a : ℕ) (fs : List Final) → ways a (map plain-item (behind-items numbered rs fs)) ≡ []
   unfolding ways
   no-ways a [] = none-in rs
     where
-      none-in : (rs : List Rec) → ways a (map plain-item (map a-record rs)) ≡ []
+      none-in : (rs : List Rec) → ways a (map plain-item (map (a-record numbered) rs)) ≡ []
       none-in [] = refl
       none-in (r ∷ rs) = refl
   no-ways a (f ∷ fs) = refl
 
-  finals-plain : (fs : List Final) → ((f : Final) → In f fs → FinalFits f) → finals-in (map plain-item (behind-items rs fs)) ≡ map plain-final fs
+  finals-plain : (fs : List Final) → ((f : Final) → In f fs → FinalFits f) → finals-in (map plain-item (behind-items numbered rs fs)) ≡ map plain-final fs
   unfolding finals-in
   finals-plain [] h = none-in rs
     where
-      none-in : (rs : List Rec) → finals-in (map plain-item (map a-record rs)) ≡ []
+      none-in : (rs : List Rec) → finals-in (map plain-item (map (a-record numbered) rs)) ≡ []
       none-in [] = refl
       none-in (r ∷ rs) = none-in rs
   finals-plain (f ∷ fs) h =
       let es = f .entries in
       let b = f .block in
-      ap (λ (is : List Item). finals-in (a-block b (length es) ∷ map plain-item is)) (append-assoc (map way-of es) (gather block-items fs) (map a-record rs))
+      ap (λ (is : List Item). finals-in (a-block b (length es) ∷ map plain-item is)) (append-assoc (map way-of es) (gather block-items fs) (map (a-record numbered) rs))
       ∙ ap₂ {C = List Final} (λ (l : List Rec) (gs : List Final). record { block = b; entries = l } ∷ gs)
-      (ways-plain (behind-items rs fs) (b .start) es (h f here .own) (no-ways (b .start) fs))
-      (finals-past (behind-items rs fs) es ∙ finals-plain fs (λ g i. h g (there i)))
+      (ways-plain (behind-items numbered rs fs) (b .start) es (h f here .own) (no-ways (b .start) fs))
+      (finals-past (behind-items numbered rs fs) es ∙ finals-plain fs (λ g i. h g (there i)))
 
-  recs-plain : (fs : List Final) → recs-in (map plain-item (behind-items rs fs)) ≡ map plain-rec rs
+  recs-plain : (fs : List Final) → recs-in (map plain-item (behind-items numbered rs fs)) ≡ map (plain-record numbered) rs
   unfolding recs-in
   recs-plain [] = all-in rs
     where
-      all-in : (rs : List Rec) → recs-in (map plain-item (map a-record rs)) ≡ map plain-rec rs
+      all-in : (rs : List Rec) → recs-in (map plain-item (map (a-record numbered) rs)) ≡ map (plain-record numbered) rs
       all-in [] = refl
-      all-in (r ∷ rs) = ap {B = List Rec} (λ (l : List Rec). plain-rec r ∷ l) (all-in rs)
+      all-in (r ∷ rs) = ap {B = List Rec} (λ (l : List Rec). plain-record numbered r ∷ l) (all-in rs)
   recs-plain (f ∷ fs) =
-      ap (λ (is : List Item). recs-in (map plain-item is)) (append-assoc (map way-of (f .entries)) (gather block-items fs) (map a-record rs))
-      ∙ recs-past (behind-items rs fs) (f .entries) ∙ recs-plain fs
+      ap (λ (is : List Item). recs-in (map plain-item is)) (append-assoc (map way-of (f .entries)) (gather block-items fs) (map (a-record numbered) rs))
+      ∙ recs-past (behind-items numbered rs fs) (f .entries) ∙ recs-plain fs
+
+  numbered-plain : (fs : List Final) → numbered-in (map plain-item (behind-items numbered rs fs)) ≡ told-by rs numbered
+  unfolding numbered-in
+  numbered-plain [] = by-first rs
+    where
+      by-first : (rs : List Rec) → numbered-in (map plain-item (map (a-record numbered) rs)) ≡ told-by rs numbered
+      by-first [] = refl
+      by-first (r ∷ rs) = refl
+  numbered-plain (f ∷ fs) =
+      ap (λ (is : List Item). numbered-in (map plain-item is)) (append-assoc (map way-of (f .entries)) (gather block-items fs) (map (a-record numbered) rs))
+      ∙ numbered-past (behind-items numbered rs fs) (f .entries) ∙ numbered-plain fs
 
 -- ---- what is not read is not written
 
@@ -449,7 +494,8 @@ written-plain : (it : Item) → written (plain-item it) ≡ written it
 written-plain (a-head s n m e) = refl
 written-plain (a-block b n) = refl
 written-plain (a-way t p) = ap (λ (n : ℕ). item 7 (little 2 n ++ path-bytes p)) (destination-plain t)
-written-plain (a-record r) = ap (λ (n : ℕ). item 8 (little 2 (r .start) ++ little 2 n ++ path-bytes (r .path))) (destination-plain (r .to))
+written-plain (a-record false r) = ap (λ (n : ℕ). item 8 (little 2 (r .start) ++ little 2 n ++ path-bytes (r .path))) (destination-plain (r .to))
+written-plain (a-record true r) = ap (λ (n : ℕ). item 9 (little 2 (r .start) ++ little 2 n ++ little 4 (r .energy) ++ path-bytes (r .path))) (destination-plain (r .to))
 written-plain no-item = refl
 
 gather-plain : (is : List Item) → gather written (map plain-item is) ≡ gather written is
@@ -462,14 +508,16 @@ module _ (m : Map) (h : MapFits m) where
   got : Got first (items-of m) 0
   got =
       let s = reads-head (m .size) (length (m .blocks)) (length (m .recs)) (m .energy) (h .size) (h .block-count) (h .record-count) (h .energy) in
-      got-one _ (behind-items (m .recs) (m .blocks)) 1 HEAD _ s refl (got-blocks (m .recs) (h .recs) (m .blocks) (h .finals) (h .rising) false _) refl refl
+      got-one _ (behind-items (m .numbered) (m .recs) (m .blocks)) 1 HEAD _ s refl (got-blocks (m .numbered) (m .recs) (h .recs) (m .blocks) (h .finals) (h .rising) false _) refl refl
 
   held-plain : held (map plain-item (items-of m)) ≡ holds (plain m)
   held-plain =
-      let blocks-are = finals-plain (m .recs) (m .blocks) (h .finals) in
-      let recs-are = recs-plain (m .recs) (m .blocks) in
-      ap₂ (λ (fs : List Final) (rs : List Rec). counted (length (m .blocks)) (length (m .recs)) (record { size = m .size; energy = m .energy; blocks = fs; recs = rs })) blocks-are recs-are
-      ∙ if-true _ _ _ (and-true _ _ (eq-eqb _ _ (sym (length-map (m .blocks) plain-final))) (eq-eqb _ _ (sym (length-map (m .recs) plain-rec))))
+      let blocks-are = finals-plain (m .numbered) (m .recs) (m .blocks) (h .finals) in
+      let recs-are = recs-plain (m .numbered) (m .recs) (m .blocks) in
+      let numbered-are = numbered-plain (m .numbered) (m .recs) (m .blocks) in
+      ap₂ (λ (fs : List Final) (rs : List Rec). counted (length (m .blocks)) (length (m .recs)) (record { size = m .size; energy = m .energy; blocks = fs; recs = rs; numbered = numbered-in (map plain-item (behind-items (m .numbered) (m .recs) (m .blocks))) })) blocks-are recs-are
+      ∙ ap (λ (b : Bool). counted (length (m .blocks)) (length (m .recs)) (record { size = m .size; energy = m .energy; blocks = map plain-final (m .blocks); recs = map (plain-record (m .numbered)) (m .recs); numbered = b })) numbered-are
+      ∙ if-true _ _ _ (and-true _ _ (eq-eqb _ _ (sym (length-map (m .blocks) plain-final))) (eq-eqb _ _ (sym (length-map (m .recs) (plain-record (m .numbered))))))
 
   same-bytes : bytes m ≡ gather written (items-of m)
   same-bytes = map-bytes m (λ f i. h .finals f i .bare)
@@ -477,7 +525,8 @@ module _ (m : Map) (h : MapFits m) where
   the-pieces : pieces (bytes m) 0 0 ≡ got .ps
   the-pieces = ap (λ (b : List ℕ). pieces b 0 0) same-bytes ∙ split-once (got .splits) (split (gather written (items-of m)))
 
-  -- Reading what was written gives it back: all of the map but the states kept for destinations, which are not written.
+  -- Reading what was written gives it back: all of the map but the states kept for destinations and, without kind 9, the records' numbers, which are
+  -- not written.
   pub read-written : read (bytes m) ≡ holds (plain m)
   unfolding read
   read-written =
@@ -490,14 +539,14 @@ module _ (m : Map) (h : MapFits m) where
       map-bytes (plain m) (back .bare) ∙ ap (gather written) (sym (back .same) ∙ ap items the-pieces ∙ got .same) ∙ gather-plain (items-of m) ∙ sym same-bytes
 
   -- The block entries are read by themselves too.
-  got-shown : Got (blocks 0 false) (behind-items [] (m .blocks)) 0
-  got-shown = got-blocks [] (λ r i. elim i [ ]) (m .blocks) (h .finals) (h .rising) false 0
+  got-shown : Got (blocks 0 false) (behind-items false [] (m .blocks)) 0
+  got-shown = got-blocks false [] (λ r i. elim i [ ]) (m .blocks) (h .finals) (h .rising) false 0
 
   shown-pieces : pieces (block-bytes m) 0 0 ≡ got-shown .ps
   shown-pieces =
       ap (λ (b : List ℕ). pieces b 0 0) (blocks-as-items m (λ f i. h .finals f i .bare) ∙ ap (gather written) (sym (append-nil (gather block-items (m .blocks)))))
-      ∙ split-once (got-shown .splits) (split (gather written (behind-items [] (m .blocks))))
+      ∙ split-once (got-shown .splits) (split (gather written (behind-items false [] (m .blocks))))
 
   -- Reading the block entries gives the blocks back.
   pub blocks-written : finals-in (items (pieces (block-bytes m) 0 0)) ≡ map plain-final (m .blocks)
-  blocks-written = ap (λ (ps : List Piece). finals-in (items ps)) shown-pieces ∙ ap finals-in (got-shown .same) ∙ finals-plain [] (m .blocks) (h .finals)
+  blocks-written = ap (λ (ps : List Piece). finals-in (items ps)) shown-pieces ∙ ap finals-in (got-shown .same) ∙ finals-plain false [] (m .blocks) (h .finals)

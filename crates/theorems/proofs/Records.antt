@@ -50,12 +50,12 @@ module _ (ns : List Node) (reached : List ℕ) (recs : List Rec) where
 
   -- a record that may then be made
   pub data Recorded : Rec → Type 0 where
-    arrives : {start w t : ℕ} {l : Level} {p : Parent} → Opens start w l → w < 256 → Parented l p → read (p .stack) (l .position) ≡ jumpdest t
-        → Recorded (record { start = start; to = found t (compose (l .state) (p .stack)); path = l .path ++ p .path })
-    is-lost : {start w : ℕ} {l : Level} {p : Parent} → Opens start w l → w < 256 → Parented l p → Lost (read (p .stack) (l .position))
-        → Recorded (record { start = start; to = nowhere; path = l .path ++ p .path })
-    too-heavy : {start : ℕ} {l : Level} {p : Parent} → Opens start 256 l → Parented l p
-        → Recorded (record { start = start; to = nowhere; path = l .path ++ p .path })
+    arrives : {start w t energy : ℕ} {l : Level} {p : Parent} → Opens start w l → w < 256 → Parented l p → read (p .stack) (l .position) ≡ jumpdest t
+        → Recorded (record { start = start; to = found t (compose (l .state) (p .stack)); path = l .path ++ p .path; energy = energy })
+    is-lost : {start w energy : ℕ} {l : Level} {p : Parent} → Opens start w l → w < 256 → Parented l p → Lost (read (p .stack) (l .position))
+        → Recorded (record { start = start; to = nowhere; path = l .path ++ p .path; energy = energy })
+    too-heavy : {start energy : ℕ} {l : Level} {p : Parent} → Opens start 256 l → Parented l p
+        → Recorded (record { start = start; to = nowhere; path = l .path ++ p .path; energy = energy })
 
 -- what a round does
 pub data Trace (ns : List Node) (reached : List ℕ) : St → St → Type 0 where
@@ -65,7 +65,8 @@ pub data Trace (ns : List Node) (reached : List ℕ) : St → St → Type 0 wher
   opens : {s : St} {start w : ℕ} {l : Level} → Opens ns reached (s .recs) start w l → Trace ns reached s s
   -- step 1, for a parent of a level
   counts : {s : St} {start w : ℕ} {l : Level} {p : Parent} → Opens ns reached (s .recs) start w l → Parented ns reached (s .recs) l p → Trace ns reached s (spend s)
-  records : {s : St} {r : Rec} → Recorded ns reached (s .recs) r → Trace ns reached s (add r s)
+  -- a record, which carries the energy counted so far
+  records : {s : St} {r : Rec} → Recorded ns reached (s .recs) r → r .energy ≡ s .energy → Trace ns reached s (add r s)
   asks : {s : St} (r : Room) (u : ℕ) → Trace ns reached s (need r u s)
   remembers : {s : St} (m : Met) → Trace ns reached s (remember m s)
   forgets : {s : St} → Trace ns reached s (forget s)
@@ -101,7 +102,7 @@ trace-grows (nothing {s}) = grows-refl s s refl
 trace-grows (then a b) = grows-trans (trace-grows a) (trace-grows b)
 trace-grows (opens {s} o) = grows-refl s s refl
 trace-grows (counts {s} o h) = grows-refl s _ refl
-trace-grows (records {r} h) = record { new = r ∷ []; is = refl }
+trace-grows (records {r} h n) = record { new = r ∷ []; is = refl }
 trace-grows (asks {s} r u) = grows-refl s _ refl
 trace-grows (remembers {s} m) = grows-refl s _ refl
 trace-grows (forgets {s}) = grows-refl s _ refl
@@ -125,17 +126,17 @@ module _ (ns : List Node) (reached : List ℕ) where
   parented-on {l} {p} {s} h d =
       let g = trace-grows d in subst (λ (r : List Rec). Parented ns reached r l p) (sym (g .is)) (parented-more ns reached (s .recs) (g .new) h)
 
-  asked : {s : St} (path : List ℕ) {r : Rec} → Recorded ns reached (s .recs) r → Does s (add r (writes path s))
-  asked path h = then (asks _ _) (then (asks _ _) (records h))
+  asked : {s : St} (path : List ℕ) {r : Rec} → Recorded ns reached (s .recs) r → r .energy ≡ s .energy → Does s (add r (writes path s))
+  asked path h n = then (asks _ _) (then (asks _ _) (records h n))
 
-  does-nowhere : (c : Turn) (path : List ℕ) (s : St) → Recorded ns reached (s .recs) (record { start = c .start; to = nowhere; path = path }) → Does s (record-nowhere c path s)
+  does-nowhere : (c : Turn) (path : List ℕ) (s : St) → Recorded ns reached (s .recs) (record { start = c .start; to = nowhere; path = path; energy = s .energy }) → Does s (record-nowhere c path s)
   unfolding record-nowhere
-  does-nowhere c path s h = both (Does s) _ (λ _. nothing) (λ _. asked path h)
+  does-nowhere c path s h = both (Does s) _ (λ _. nothing) (λ _. asked path h refl)
 
-  does-found : (c : Turn) (t : ℕ) (new : Stack) (path : List ℕ) (s : St) → Recorded ns reached (s .recs) (record { start = c .start; to = found t new; path = path })
+  does-found : (c : Turn) (t : ℕ) (new : Stack) (path : List ℕ) (s : St) → Recorded ns reached (s .recs) (record { start = c .start; to = found t new; path = path; energy = s .energy })
       → Does s (record-found c t new path s)
   unfolding record-found
-  does-found c t new path s h = both (Does s) _ (λ _. nothing) (λ _. then (asks _ _) (then (asks _ _) (then (asks _ _) (records h))))
+  does-found c t new path s h = both (Does s) _ (λ _. nothing) (λ _. then (asks _ _) (then (asks _ _) (then (asks _ _) (records h refl))))
 
   -- what a deeper level does, from any state in which it may open
   abbrev Deeper : Turn → ℕ → (Level → St → St) → Type 0
@@ -245,7 +246,7 @@ module _ (ns : List Node) (older : List Rec) where
       history-trace b (since ++ g .new) (g .is ∙ ap (λ (l : List Rec). l ++ g .new) e ∙ append-assoc older since (g .new)) (history-trace a since e h)
   history-trace (opens o) since e h = h
   history-trace (counts o k) since e h = h
-  history-trace (records k) since e h = each-snoc h (record { older = older; since = since; is = e; made = k })
+  history-trace (records k n) since e h = each-snoc h (record { older = older; since = since; is = e; made = k })
   history-trace (asks r u) since e h = h
   history-trace (remembers m) since e h = h
   history-trace forgets since e h = h

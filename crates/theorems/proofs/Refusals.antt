@@ -23,13 +23,13 @@ room-capped l T = omega arith
 room-capped l R = omega arith
 room-capped l Q = omega arith
 
-module _ (r : Rules) (l : Lent) (limit : ℕ) (code : List ℕ) where
+module _ (r : Rules) (l : Lent) (limit choice : ℕ) (code : List ℕ) where
   -- what the run asks of its rooms, and the map that it makes
   abbrev pub asked : List Need
   asked = searched r limit code .needs
 
   abbrev pub made : Map
-  made = mapped r code (searched r limit code)
+  made = mapped r choice code (searched r limit code)
 
   -- 1, 2, 13 and 3 do not apply
   pub record Taken : Type 0 where
@@ -55,7 +55,7 @@ module _ (r : Rules) (l : Lent) (limit : ℕ) (code : List ℕ) where
   verdict-rooms t (suc k) e = room-short t (first-short l asked k e)
 
   -- The answer is one of the table's,
-  pub verdict : Verdict (answer r l limit code)
+  pub verdict : Verdict (answer r l limit choice code)
   unfolding answer
   verdict =
       both Verdict (ltb longest (length code)) (λ on. code-over (ltb-true _ _ on))
@@ -74,13 +74,13 @@ module _ (r : Rules) (l : Lent) (limit : ℕ) (code : List ℕ) where
   past-mode : r .mode ≤ 1 → (a b : Answer) → if (ltb 1 (r .mode)) a b ≡ b
   past-mode h a b = if-false _ a b (le-ltb 1 (r .mode) h)
 
-  taken-run : Taken → answer r l limit code ≡ within-rooms (within-out l made) (shortage l asked)
+  taken-run : Taken → answer r l limit choice code ≡ within-rooms (within-out l made) (shortage l asked)
   unfolding answer
   taken-run t =
       past-code (t .code-fits) _ _ ∙ past-limit (t .limit-fits) _ _ ∙ past-mode (t .mode-fits) _ _ ∙ if-false _ _ _ (le-ltb (l .w) (work-need (length code)) (t .work-fits))
 
   -- and the table has no other: what it gives is the answer.
-  pub verdict-only : {a : Answer} → Verdict a → answer r l limit code ≡ a
+  pub verdict-only : {a : Answer} → Verdict a → answer r l limit choice code ≡ a
   unfolding answer
   verdict-only (code-over h) = if-true _ _ _ (lt-ltb longest (length code) h)
   verdict-only (limit-over c h) = past-code c _ _ ∙ if-true _ _ _ (lt-ltb 500000 limit h)

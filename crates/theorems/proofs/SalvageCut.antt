@@ -3,6 +3,7 @@
 use Prim.Native.Nat.{ℕ, _+_, _<_}
 use native.Mathlib.Omega.{arith}
 use mathlib.Core.Path.{_≡_, refl, sym, ap, subst, _∙_}
+use mathlib.Core.Bool.{Bool}
 use mathlib.Core.List.{List, [], _∷_, _++_, map, append-assoc, append-nil}
 use lib.ListN.{length, take, drop, length-append, length-drop, take-append-drop}
 use Rattle.spec.specs.Lists.{gather}
@@ -34,11 +35,11 @@ items-append (cut at ∷ ps) qs = items-append ps qs
 items-append (whole at e ∷ ps) qs = ap {B = List Item} (λ (l : List Item). item-of (sort (e .kind)) (e .body) ∷ l) (items-append ps qs)
 
 module _ (ts : List Item) where
-  records-end : (rs ss : List Rec) → length rs ≡ length ss → map a-record rs ≡ map a-record ss ++ ts → ts ≡ []
-  records-end [] [] l e = sym e
-  records-end [] (s ∷ ss) l e = absurd (omega arith)
-  records-end (r ∷ rs) [] l e = absurd (omega arith)
-  records-end (r ∷ rs) (s ∷ ss) l e = records-end rs ss (omega arith) (cc)
+  records-end : (c d : Bool) (rs ss : List Rec) → length rs ≡ length ss → map (a-record c) rs ≡ map (a-record d) ss ++ ts → ts ≡ []
+  records-end c d [] [] l e = sym e
+  records-end c d [] (s ∷ ss) l e = absurd (omega arith)
+  records-end c d (r ∷ rs) [] l e = absurd (omega arith)
+  records-end c d (r ∷ rs) (s ∷ ss) l e = records-end c d rs ss (omega arith) (cc)
 
   ways-end : (es gs : List Rec) (is js : List Item) → length es ≡ length gs → map way-of es ++ is ≡ (map way-of gs ++ js) ++ ts → is ≡ js ++ ts
   ways-end [] [] is js l e = e
@@ -46,22 +47,22 @@ module _ (ts : List Item) where
   ways-end (x ∷ es) [] is js l e = absurd (omega arith)
   ways-end (x ∷ es) (g ∷ gs) is js l e = ways-end es gs is js (omega arith) (cc)
 
-  blocks-end : (fs gs : List Final) (rs ss : List Rec) → length fs ≡ length gs → length rs ≡ length ss
-      → gather block-items fs ++ map a-record rs ≡ (gather block-items gs ++ map a-record ss) ++ ts → ts ≡ []
-  blocks-end [] [] rs ss k l e = records-end rs ss l e
-  blocks-end [] (g ∷ gs) rs ss k l e = absurd (omega arith)
-  blocks-end (f ∷ fs) [] rs ss k l e = absurd (omega arith)
-  blocks-end (f ∷ fs) (g ∷ gs) rs ss k l e =
+  blocks-end : (c d : Bool) (fs gs : List Final) (rs ss : List Rec) → length fs ≡ length gs → length rs ≡ length ss
+      → gather block-items fs ++ map (a-record c) rs ≡ (gather block-items gs ++ map (a-record d) ss) ++ ts → ts ≡ []
+  blocks-end c d [] [] rs ss k l e = records-end c d rs ss l e
+  blocks-end c d [] (g ∷ gs) rs ss k l e = absurd (omega arith)
+  blocks-end c d (f ∷ fs) [] rs ss k l e = absurd (omega arith)
+  blocks-end c d (f ∷ fs) (g ∷ gs) rs ss k l e =
       let es = f .entries in
       let hs = g .entries in
-      let left = (map way-of es ++ gather block-items fs) ++ map a-record rs in
-      let right = ((map way-of hs ++ gather block-items gs) ++ map a-record ss) ++ ts in
+      let left = (map way-of es ++ gather block-items fs) ++ map (a-record c) rs in
+      let right = ((map way-of hs ++ gather block-items gs) ++ map (a-record d) ss) ++ ts in
       let tails : left ≡ right = cc in
       let same : length es ≡ length hs = cc in
-      let p = append-assoc (map way-of es) (gather block-items fs) (map a-record rs) in
-      let q = append-assoc (map way-of hs) (gather block-items gs) (map a-record ss) in
-      blocks-end fs gs rs ss (omega arith) l
-      (ways-end es hs (gather block-items fs ++ map a-record rs) (gather block-items gs ++ map a-record ss) same (sym p ∙ tails ∙ ap (λ (l : List Item). l ++ ts) q))
+      let p = append-assoc (map way-of es) (gather block-items fs) (map (a-record c) rs) in
+      let q = append-assoc (map way-of hs) (gather block-items gs) (map (a-record d) ss) in
+      blocks-end c d fs gs rs ss (omega arith) l
+      (ways-end es hs (gather block-items fs ++ map (a-record c) rs) (gather block-items gs ++ map (a-record d) ss) same (sym p ∙ tails ∙ ap (λ (l : List Item). l ++ ts) q))
 
 no-cut-right : (ps qs : List Piece) → NoCut (ps ++ qs) → NoCut qs
 no-cut-right [] qs n = n
@@ -90,7 +91,7 @@ no-longer b tail v w =
     ends-there n m ts e =
         let blocks-same : length (n .blocks) ≡ length (m .blocks) = cc in
         let recs-same : length (n .recs) ≡ length (m .recs) = cc in
-        blocks-end ts (n .blocks) (m .blocks) (n .recs) (m .recs) blocks-same recs-same (cc)
+        blocks-end ts (n .numbered) (m .numbered) (n .blocks) (m .blocks) (n .recs) (m .recs) blocks-same recs-same (cc)
 
 -- ---- "archives with missing ends"
 
@@ -132,5 +133,5 @@ cut-archive bs h b w k l =
 
 -- ---- what was stored reads whole
 
-pub answered-whole : (rules : Rules) → Lawful (rules .row) → (l : Lent) (limit : ℕ) (code : List ℕ) (m : Map) → answer rules l limit code ≡ answered m → ReadsWhole (bytes m)
-answered-whole rules ok l limit code m e = (plain m, read-answered rules ok l limit code m e)
+pub answered-whole : (rules : Rules) → Lawful (rules .row) → (l : Lent) (limit choice : ℕ) (code : List ℕ) (m : Map) → answer rules l limit choice code ≡ answered m → ReadsWhole (bytes m)
+answered-whole rules ok l limit choice code m e = (plain m, read-answered rules ok l limit choice code m e)

@@ -108,28 +108,28 @@ abbrev its-blocks : Item → ℕ
 its-blocks (a-head z n m y) = 0
 its-blocks (a-block b c) = 1
 its-blocks (a-way t p) = 0
-its-blocks (a-record r) = 0
+its-blocks (a-record c r) = 0
 its-blocks no-item = 0
 
 abbrev its-records : Item → ℕ
 its-records (a-head z n m y) = 0
 its-records (a-block b c) = 0
 its-records (a-way t p) = 0
-its-records (a-record r) = 1
+its-records (a-record c r) = 1
 its-records no-item = 0
 
 abbrev its-run : Item → Bool → Bool
 its-run (a-head z n m y) run = false
 its-run (a-block b c) run = false
 its-run (a-way t p) run = run
-its-run (a-record r) run = false
+its-run (a-record c r) run = false
 its-run no-item run = false
 
 abbrev its-runs : Item → Bool → Bool
 its-runs (a-head z n m y) run = false
 its-runs (a-block b c) run = true
 its-runs (a-way t p) run = run
-its-runs (a-record r) run = false
+its-runs (a-record c r) run = false
 its-runs no-item run = false
 
 -- the next step, by the counts that an entry takes away and the runs that it is of and begins
@@ -165,16 +165,16 @@ to-come n m b h = ap (λ (a : Bool). a && b) (ne-eqb (n + m) 0 (λ e. omega arit
 -- ---- where a map's entries end, if it ends there
 
 module _ (end to : ℕ) (qs : List Piece) (over : (run : Bool) → ends 0 0 run end qs ≡ to) where
-  ends-records : (rs : List Rec) (ps : List Piece) → NoCut ps → items ps ≡ map a-record rs → (run : Bool) → ends 0 (length rs) run end (ps ++ qs) ≡ to
+  ends-records : (c : Bool) (rs : List Rec) (ps : List Piece) → NoCut ps → items ps ≡ map (a-record c) rs → (run : Bool) → ends 0 (length rs) run end (ps ++ qs) ≡ to
   unfolding items
-  ends-records [] [] n e run = over run
-  ends-records [] (cut at ∷ ps) n e run = absurd n
-  ends-records [] (whole at x ∷ ps) n e run = never (cc)
-  ends-records (r ∷ rs) [] n e run = never (cc)
-  ends-records (r ∷ rs) (cut at ∷ ps) n e run = absurd n
-  ends-records (r ∷ rs) (whole at x ∷ ps) n e run =
-      ends-step 0 (suc (length rs)) 0 (length rs) run end at x (ps ++ qs) (a-record r) (cc) (to-come 0 (suc (length rs)) true (omega arith)) refl (omega arith)
-      ∙ ends-records rs ps n (cc) false
+  ends-records c [] [] n e run = over run
+  ends-records c [] (cut at ∷ ps) n e run = absurd n
+  ends-records c [] (whole at x ∷ ps) n e run = never (cc)
+  ends-records c (r ∷ rs) [] n e run = never (cc)
+  ends-records c (r ∷ rs) (cut at ∷ ps) n e run = absurd n
+  ends-records c (r ∷ rs) (whole at x ∷ ps) n e run =
+      ends-step 0 (suc (length rs)) 0 (length rs) run end at x (ps ++ qs) (a-record c r) (cc) (to-come 0 (suc (length rs)) true (omega arith)) refl (omega arith)
+      ∙ ends-records c rs ps n (cc) false
 
   -- past the 7s of a block
   record Past (n m : ℕ) (ps : List Piece) (is : List Item) : Type 0 where
@@ -197,24 +197,24 @@ module _ (end to : ℕ) (qs : List Piece) (over : (run : Bool) → ends 0 0 run 
         on = ends-step n m n m true end at x (ps ++ qs) (way-of r) (cc) (and-false (eqb (n + m) 0) refl) (omega arith) (omega arith) ∙ k .on;
       }
 
-  ends-blocks : (rs : List Rec) (fs : List Final) (ps : List Piece) → NoCut ps → items ps ≡ gather block-items fs ++ map a-record rs → (run : Bool)
+  ends-blocks : (kind : Bool) (rs : List Rec) (fs : List Final) (ps : List Piece) → NoCut ps → items ps ≡ gather block-items fs ++ map (a-record kind) rs → (run : Bool)
       → ends (length fs) (length rs) run end (ps ++ qs) ≡ to
   unfolding items
-  ends-blocks rs [] ps c e run = ends-records rs ps c e run
-  ends-blocks rs (f ∷ fs) [] c e run = never (cc)
-  ends-blocks rs (f ∷ fs) (cut at ∷ ps) c e run = absurd c
-  ends-blocks rs (f ∷ fs) (whole at x ∷ ps) c e run = past (λ left d q. ends-blocks rs fs left d q true)
+  ends-blocks kind rs [] ps c e run = ends-records kind rs ps c e run
+  ends-blocks kind rs (f ∷ fs) [] c e run = never (cc)
+  ends-blocks kind rs (f ∷ fs) (cut at ∷ ps) c e run = absurd c
+  ends-blocks kind rs (f ∷ fs) (whole at x ∷ ps) c e run = past (λ left d q. ends-blocks kind rs fs left d q true)
     where
       es : List Rec
       es = f .entries
 
       is : List Item
-      is = gather block-items fs ++ map a-record rs
+      is = gather block-items fs ++ map (a-record kind) rs
 
       sevens-then : items ps ≡ map way-of es ++ is
       sevens-then =
-          let h : items ps ≡ (map way-of es ++ gather block-items fs) ++ map a-record rs = cc in
-          h ∙ append-assoc (map way-of es) (gather block-items fs) (map a-record rs)
+          let h : items ps ≡ (map way-of es ++ gather block-items fs) ++ map (a-record kind) rs = cc in
+          h ∙ append-assoc (map way-of es) (gather block-items fs) (map (a-record kind) rs)
 
       past : ((left : List Piece) → NoCut left → items left ≡ is → ends (length fs) (length rs) true end (left ++ qs) ≡ to)
           → ends (suc (length fs)) (length rs) run end (whole at x ∷ ps ++ qs) ≡ to
@@ -260,10 +260,10 @@ module _ (b : List ℕ) (m : Map) (e : read b ≡ holds m) where
       let started : item-of HEAD body ∷ items (h .more) ≡ items-of m = rw (h .head) at same in
       let ns : field 2 2 body ≡ length (m .blocks) = cc in
       let ms : field 4 4 body ≡ length (m .recs) = cc in
-      let left : items (h .more) ≡ gather block-items (m .blocks) ++ map a-record (m .recs) = cc in
+      let left : items (h .more) ≡ gather block-items (m .blocks) ++ map (a-record (m .numbered)) (m .recs) = cc in
       ap (λ (ps : List Piece). map-end end (ps ++ qs)) (h .is)
       ∙ ap₂ (λ (i j : ℕ). ends i j false end (h .more ++ qs)) ns ms
-      ∙ ends-blocks end to qs over (m .recs) (m .blocks) (h .more) (subst NoCut (h .is) all-whole) left false
+      ∙ ends-blocks end to qs over (m .numbered) (m .recs) (m .blocks) (h .more) (subst NoCut (h .is) all-whole) left false
 
   -- An accepted map is the first of what it begins, if no 7 stands behind it.
   pub first-map-is : (rest : List ℕ) → NoSeven rest → first-map (b ++ rest) ≡ b

@@ -14,8 +14,9 @@ static uint32_t body_length(const uint8_t *entry) {
 int main(void) {
     /* PUSH1 5, PUSH1 7, JUMP; 5: JUMPDEST, STOP; 7: JUMPDEST, JUMP. */
     static const uint8_t code[] = {0x60, 5, 0x60, 7, 0x56, 0x5b, 0x00, 0x5b, 0x56};
-    uint64_t got = aznifrem_map(AZNIFREM_HIGHEST_LIMIT, AZNIFREM_PLAIN, code, sizeof code, w, sizeof w, p, sizeof p,
-                                s, sizeof s, t, sizeof t, r, sizeof r, q, sizeof q, out, sizeof out);
+    uint64_t got = aznifrem_map(AZNIFREM_HIGHEST_LIMIT, AZNIFREM_WITHOUT_NUMBERS, AZNIFREM_PLAIN,
+                                code, sizeof code, w, sizeof w, p, sizeof p, s, sizeof s,
+                                t, sizeof t, r, sizeof r, q, sizeof q, out, sizeof out);
     if (AZNIFREM_REFUSED(got)) {
         printf("refused %u\n", (unsigned)got);
         return 1;

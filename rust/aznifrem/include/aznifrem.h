@@ -12,6 +12,10 @@ extern "C" {
 #define AZNIFREM_LONGEST_CODE 24576u
 #define AZNIFREM_HIGHEST_LIMIT 500000u
 
+/* The choices: records with their numbers, of kind 9, or without, of kind 8. */
+#define AZNIFREM_NUMBERED 0
+#define AZNIFREM_WITHOUT_NUMBERS 1 /* so is any other number */
+
 /* The modes: what PUSH0 puts is not known, or is known to be 0. */
 #define AZNIFREM_PLAIN 0
 #define AZNIFREM_KNOWN_ZERO 1
@@ -35,7 +39,7 @@ extern "C" {
 /* Whether what aznifrem_map or aznifrem_json gave is a refusal's number: an answer has 18 bytes at the least. */
 #define AZNIFREM_REFUSED(given) ((given) < 18u)
 
-/* Maps a code with an energy limit and in a mode, in memory that the caller lends; no other is used.
+/* Maps a code with an energy limit, by a choice and in a mode, in memory that the caller lends; no other is used.
  *
  *   w    work, AZNIFREM_WORK(code_len) bytes     r    records, 32 bytes each
  *   p    the path in hand, 2 bytes an address    q    recorded paths, 2 bytes an address
@@ -59,9 +63,11 @@ extern "C" {
  *   5 DynamicJump   start, end, count
  *   6 DynamicJumpi  start, end, false, count
  *   7 path of the dynamic block before it: to, path length, path
- *   8 record        start, to, path length, path
+ *   8 record        start, to, path length, path; or, if choice is 0,
+ *   9 record        start, to, energy used when it was made, path length, path
  * Order: head, blocks by start each with its 7s, records as found. */
-uint64_t aznifrem_map(uint64_t limit, uint64_t mode, const uint8_t *code, size_t code_len,
+uint64_t aznifrem_map(uint64_t limit, uint64_t choice, uint64_t mode,
+                      const uint8_t *code, size_t code_len,
                       uint8_t *w, size_t w_len, uint8_t *p, size_t p_len,
                       uint8_t *s, size_t s_len, uint8_t *t, size_t t_len,
                       uint8_t *r, size_t r_len, uint8_t *q, size_t q_len,
@@ -75,7 +81,8 @@ uint64_t aznifrem_map(uint64_t limit, uint64_t mode, const uint8_t *code, size_t
  * Gives the number of a refusal, 1 to 9, 13 or 11, which comes last; or the bytes written to out and,
  * times 2^32, those written to text: AZNIFREM_OUT_BYTES and AZNIFREM_TEXT_BYTES. On a refusal text
  * is untouched; on an answer its bytes after the written ones are. On 11 the others are as on 9. */
-uint64_t aznifrem_json(uint64_t limit, uint64_t mode, const uint8_t *code, size_t code_len,
+uint64_t aznifrem_json(uint64_t limit, uint64_t choice, uint64_t mode,
+                       const uint8_t *code, size_t code_len,
                        uint8_t *w, size_t w_len, uint8_t *p, size_t p_len,
                        uint8_t *s, size_t s_len, uint8_t *t, size_t t_len,
                        uint8_t *r, size_t r_len, uint8_t *q, size_t q_len,

@@ -22,7 +22,7 @@ pub struct Lent<'a> {
     pub out: &'a mut [u8],
 }
 
-/// The library's own call, in mode 0: the refusal's number, 1 to 9, or the bytes written to `out`, never
+/// The library's own call, in mode 0 and with records of kind 8: the refusal's number, 1 to 9, or the bytes written to `out`, never
 /// fewer than 18. Refusals 1 to 3 touch nothing; else the rooms W to Q are zero bytes afterwards,
 /// and `out` is touched by an answer alone, in the bytes written.
 ///
@@ -65,7 +65,30 @@ pub fn call(code: &[u8], limit: u64, lent: &mut Lent) -> u64 {
 ///
 /// As [`call`].
 pub fn call_in(mode: u64, code: &[u8], limit: u64, lent: &mut Lent) -> u64 {
-    match called(mode, code, limit, lent) {
+    call_by(1, mode, code, limit, lent)
+}
+
+/// The same with a choice: 0 asks for records with their numbers, of kind 9, any other number for
+/// records without, of kind 8.
+///
+/// ```
+/// use aznifrem::{Lent, call_by};
+///
+/// let (mut w, mut room, mut out) = ([0; 832], [[0; 64]; 5], [0; 128]);
+/// let [p, s, t, r, q] = &mut room;
+/// let mut lent = Lent { w: &mut w, p, s, t, r, q, out: &mut out };
+/// // A call and its return, which has one record: 4 bytes more with its number, the first unit.
+/// let code = [0x60, 5, 0x60, 7, 0x56, 0x5b, 0x00, 0x5b, 0x56];
+/// assert_eq!(call_by(1, 0, &code, 500_000, &mut lent), 71);
+/// assert_eq!(call_by(0, 0, &code, 500_000, &mut lent), 75);
+/// assert_eq!(lent.out[63..67], [1, 0, 0, 0]);
+/// ```
+///
+/// # Panics
+///
+/// As [`call`].
+pub fn call_by(choice: u64, mode: u64, code: &[u8], limit: u64, lent: &mut Lent) -> u64 {
+    match called(choice, mode, code, limit, lent) {
         Ok(number) => number,
         Err(not_relayed) => panic!("{not_relayed}"),
     }
@@ -73,6 +96,7 @@ pub fn call_in(mode: u64, code: &[u8], limit: u64, lent: &mut Lent) -> u64 {
 
 /// The same; an error only where the machine is not x86-64.
 pub(crate) fn called(
+    choice: u64,
     mode: u64,
     code: &[u8],
     limit: u64,
@@ -87,7 +111,7 @@ pub(crate) fn called(
         q,
         out,
     } = lent;
-    exported::aznifrem_map(limit, mode, code, w, p, s, t, r, q, out)
+    exported::aznifrem_map(limit, choice, mode, code, w, p, s, t, r, q, out)
 }
 
 /// The library's call that also writes the blocks as JSON, to `text`, in mode 0: the refusal's number, 1 to 9 or
@@ -120,7 +144,23 @@ pub fn call_json(code: &[u8], limit: u64, lent: &mut Lent, text: &mut [u8]) -> u
 ///
 /// As [`call`].
 pub fn call_json_in(mode: u64, code: &[u8], limit: u64, lent: &mut Lent, text: &mut [u8]) -> u64 {
-    match called_json(mode, code, limit, lent, text) {
+    call_json_by(1, mode, code, limit, lent, text)
+}
+
+/// The same with a choice, as [`call_by`].
+///
+/// # Panics
+///
+/// As [`call`].
+pub fn call_json_by(
+    choice: u64,
+    mode: u64,
+    code: &[u8],
+    limit: u64,
+    lent: &mut Lent,
+    text: &mut [u8],
+) -> u64 {
+    match called_json(choice, mode, code, limit, lent, text) {
         Ok(number) => number,
         Err(not_relayed) => panic!("{not_relayed}"),
     }
@@ -128,6 +168,7 @@ pub fn call_json_in(mode: u64, code: &[u8], limit: u64, lent: &mut Lent, text: &
 
 /// The same; an error only where the machine is not x86-64.
 pub(crate) fn called_json(
+    choice: u64,
     mode: u64,
     code: &[u8],
     limit: u64,
@@ -143,5 +184,5 @@ pub(crate) fn called_json(
         q,
         out,
     } = lent;
-    exported::aznifrem_json(limit, mode, code, w, p, s, t, r, q, out, text)
+    exported::aznifrem_json(limit, choice, mode, code, w, p, s, t, r, q, out, text)
 }

@@ -4,7 +4,7 @@ use std::error::Error as StdError;
 use std::fmt;
 
 use crate::bounds::{HIGHEST_LIMIT, LONGEST_CODE};
-use crate::kinds::HEAD;
+use crate::kinds::{HEAD, NUMBERED, RECORD};
 use crate::room::Room;
 
 /// Why there is no map.
@@ -176,8 +176,8 @@ pub enum Fault {
     NoHead,
     /// No such kind of entry is known.
     UnknownKind(u16),
-    /// It stands behind what must come after it: a second head, or a block after a record; of this
-    /// kind.
+    /// It stands behind what must come after it, or what may not come before it: a second head, a
+    /// block after a record, a record after one of the other kind; of this kind.
     OutOfOrder(u16),
     /// An entry of kind 7 that follows neither a dynamic block nor another 7 of one.
     Away,
@@ -209,6 +209,10 @@ impl fmt::Display for Unreadable {
             Fault::NoHead => f.write_str("is no head, and a map begins with one"),
             Fault::UnknownKind(kind) => write!(f, "is of kind {kind}, which is not known"),
             Fault::OutOfOrder(HEAD) => f.write_str("is a second head"),
+            Fault::OutOfOrder(kind @ (RECORD | NUMBERED)) => write!(
+                f,
+                "is a record of kind {kind}, and those before it are of the other: a map has one of 8 and 9"
+            ),
             Fault::OutOfOrder(kind) => write!(
                 f,
                 "is of kind {kind}, a block, and stands after a record: blocks come first"

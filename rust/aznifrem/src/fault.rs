@@ -3,7 +3,7 @@
 use crate::entries::{Entry, entries, entry_at};
 use crate::error::Fault;
 use crate::kinds::{
-    DYNAMIC_JUMP, DYNAMIC_JUMPI, FOUND, HEAD, HEADER, JUMP, JUMPI, RECORD, TERMINATE,
+    DYNAMIC_JUMP, DYNAMIC_JUMPI, FOUND, HEAD, HEADER, JUMP, JUMPI, NUMBERED, RECORD, TERMINATE,
 };
 
 /// What is wrong with the first bad entry, which stands at this offset.
@@ -35,6 +35,7 @@ fn length(entry: &Entry) -> Option<usize> {
         DYNAMIC_JUMPI => 10,
         FOUND => 6 + 2 * entry.body.count(2) as usize,
         RECORD => 8 + 2 * entry.body.count(4) as usize,
+        NUMBERED => 12 + 2 * entry.body.count(8) as usize,
         _ => return None,
     })
 }
@@ -47,8 +48,10 @@ fn misplaced(bytes: &[u8], entry: &Entry) -> Fault {
     match entry.kind {
         HEAD if entry.offset == 0 => Fault::Counts,
         FOUND => Fault::Away,
-        HEAD | RECORD => Fault::OutOfOrder(entry.kind),
-        kind if before().any(|other| other.kind == RECORD) => Fault::OutOfOrder(kind),
+        HEAD | RECORD | NUMBERED => Fault::OutOfOrder(entry.kind),
+        kind if before().any(|other| (RECORD..=NUMBERED).contains(&other.kind)) => {
+            Fault::OutOfOrder(kind)
+        }
         _ if before().any(|other| is_block(&other) && start <= other.body.address(0)) => {
             Fault::Start(start)
         }

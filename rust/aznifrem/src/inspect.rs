@@ -10,8 +10,8 @@ use crate::mode::Mode;
 /// "64 × code length + 256".
 const WORK: usize = 64;
 const WORK_MORE: usize = 256;
-/// Kind 8, and where its destination stands behind the entry's offset; what stands there for none.
-const RECORD: [u8; 2] = [8, 0];
+/// The kind of a 7, where kinds stand behind an entry's offset, where a record's destination does, and what stands there for none.
+const FOUND: [u8; 2] = [7, 0];
 const KIND: usize = 4;
 const TO: usize = 8;
 const NOWHERE: [u8; 2] = 0x8000_u16.to_le_bytes();
@@ -122,7 +122,7 @@ impl Inspected {
             let offset = (given >> 8) as usize;
             let place = u64::from_le_bytes(place) as usize;
             wrong.push(WrongPath { offset, place });
-            if left[offset + KIND..offset + KIND + 2] != RECORD {
+            if left[offset + KIND..offset + KIND + 2] == FOUND {
                 return Ok(Inspected {
                     wrong,
                     whole: false,

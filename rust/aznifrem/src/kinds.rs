@@ -13,3 +13,5 @@ pub const DYNAMIC_JUMP: u16 = 5;
 pub const DYNAMIC_JUMPI: u16 = 6;
 pub const FOUND: u16 = 7;
 pub const RECORD: u16 = 8;
+/// A record with its number.
+pub const NUMBERED: u16 = 9;

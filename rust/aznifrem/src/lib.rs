@@ -60,7 +60,7 @@ mod memory;
 mod relay;
 
 pub use bounds::{HIGHEST_LIMIT, LONGEST_CODE, RELAYED};
-pub use call::{Lent, call, call_in, call_json, call_json_in};
+pub use call::{Lent, call, call_by, call_in, call_json, call_json_by, call_json_in};
 pub use error::{Error, Fault, NotRelayed, Unreadable, Unwritable};
 pub use follow::{Counts, Followed, NotFollowed, follow};
 pub use inspect::{Inspected, NotInspected, WrongPath, inspect};

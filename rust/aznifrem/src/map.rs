@@ -77,6 +77,39 @@ pub struct Record {
     pub start: usize,
     /// Where to, and by which path.
     pub jump: DynamicJump,
+    /// The energy that was used, from the start of the run, when it was made; of a map that was made
+    /// or stored without, none.
+    pub energy: Option<u32>,
+}
+
+impl Map {
+    /// The lowest limit at which every jump that was found is found: the highest number of a record
+    /// with a destination, 0 if there is none. None where the records have no numbers.
+    ///
+    /// ```
+    /// use aznifrem::Mapper;
+    ///
+    /// // 0 calls 13 and comes back to 5, which calls it again and comes back to 11.
+    /// let code = [
+    ///     0x60, 5, 0x60, 13, 0x56, 0x5b, 0x60, 11, 0x60, 13, 0x56, 0x5b, 0x00, 0x5b, 0x56,
+    /// ];
+    /// let mut mapper = Mapper::new().numbered();
+    /// let map = mapper.map(&code, 500_000)?;
+    /// assert_eq!((map.energy, map.lowest_limit()), (5, Some(3)));
+    /// assert_eq!(mapper.map(&code, 3)?.records, map.records);
+    /// assert_eq!(mapper.map(&code, 2)?.records.len(), 1);
+    /// assert_eq!(Mapper::new().map(&code, 500_000)?.lowest_limit(), None);
+    /// # Ok::<(), aznifrem::Error>(())
+    /// ```
+    pub fn lowest_limit(&self) -> Option<u32> {
+        let found = self
+            .records
+            .iter()
+            .filter(|record| record.jump.to.is_some());
+        let numbers: Option<Vec<u32>> = self.records.iter().map(|record| record.energy).collect();
+        numbers?;
+        Some(found.filter_map(|record| record.energy).max().unwrap_or(0))
+    }
 }
 
 impl Block {

@@ -11,6 +11,10 @@ use crate::rooms::Rooms;
 /// The fewest bytes that an answer has: those of a head.
 const LEAST_WRITTEN: u64 = 18;
 
+/// The library's choices: records with their numbers, or without.
+const NUMBERED: u64 = 0;
+const WITHOUT_NUMBERS: u64 = 1;
+
 /// The bytes of text are counted in these, the bytes of entries below.
 const TEXT_UNIT: u64 = 1 << 32;
 
@@ -36,6 +40,7 @@ const TEXT_UNIT: u64 = 1 << 32;
 #[derive(Debug)]
 pub struct Mapper {
     rooms: Rooms,
+    choice: u64,
     mode: Mode,
     calls: u64,
 }
@@ -67,6 +72,7 @@ impl Mapper {
     pub fn with_ceiling(bytes: usize) -> Mapper {
         Mapper {
             rooms: Rooms::new(bytes),
+            choice: WITHOUT_NUMBERS,
             mode: Mode::default(),
             calls: 0,
         }
@@ -86,6 +92,22 @@ impl Mapper {
     /// ```
     pub fn in_mode(mut self, mode: Mode) -> Mapper {
         self.mode = mode;
+        self
+    }
+
+    /// The mapper with all its maps' records having their numbers: the energy that was used when each
+    /// was made. Stored, a record is 4 bytes longer.
+    ///
+    /// ```
+    /// use aznifrem::Mapper;
+    ///
+    /// let code = [0x60, 5, 0x60, 7, 0x56, 0x5b, 0x00, 0x5b, 0x56];
+    /// let map = Mapper::new().numbered().map(&code, 500_000)?;
+    /// assert_eq!(map.records[0].energy, Some(1));
+    /// # Ok::<(), aznifrem::Error>(())
+    /// ```
+    pub fn numbered(mut self) -> Mapper {
+        self.choice = NUMBERED;
         self
     }
 
@@ -151,12 +173,12 @@ impl Mapper {
         self.rooms.ready(length, texted)?;
         loop {
             self.calls += 1;
-            let mode = self.mode.number();
+            let (choice, mode) = (self.choice, self.mode.number());
             let (mut lent, text) = self.rooms.lent(length);
             let number = if texted {
-                called_json(mode, code, limit, &mut lent, text)?
+                called_json(choice, mode, code, limit, &mut lent, text)?
             } else {
-                called(mode, code, limit, &mut lent)?
+                called(choice, mode, code, limit, &mut lent)?
             };
             if number >= LEAST_WRITTEN {
                 return Ok(number);

@@ -6,7 +6,9 @@ use crate::entries::{Body, Entry, entries};
 use crate::error::{NotRelayed, Unreadable};
 use crate::exported;
 use crate::fault::fault;
-use crate::kinds::{DYNAMIC_JUMP, DYNAMIC_JUMPI, FOUND, HEAD, JUMP, JUMPI, NOWHERE, RECORD};
+use crate::kinds::{
+    DYNAMIC_JUMP, DYNAMIC_JUMPI, FOUND, HEAD, JUMP, JUMPI, NOWHERE, NUMBERED, RECORD,
+};
 use crate::map::{Block, BlockType, DynamicJump, Map, Record};
 
 /// The library's own reader: 0 if the bytes hold a map, else 12 and 256 times the offset of their
@@ -96,14 +98,20 @@ fn held(bytes: &[u8]) -> Map {
             HEAD => (map.code_length, map.energy) = (body.address(0), body.count(8)),
             FOUND => {
                 let block = map.blocks.last_entry();
-                let jump = way(body, 0);
+                let jump = way(body, 0, 2);
                 if let Some(mut block) = block {
                     enter(&mut block.get_mut().btype, jump);
                 }
             }
             RECORD => map.records.push(Record {
                 start: body.address(0),
-                jump: way(body, 2),
+                jump: way(body, 2, 4),
+                energy: None,
+            }),
+            NUMBERED => map.records.push(Record {
+                start: body.address(0),
+                jump: way(body, 2, 8),
+                energy: Some(body.count(4)),
             }),
             _ => {
                 let block = block(kind, body);
@@ -148,11 +156,11 @@ fn enter(btype: &mut BlockType, jump: DynamicJump) {
     }
 }
 
-/// "To, path length, path", from a place to the body's end.
-fn way(body: Body, at: usize) -> DynamicJump {
+/// The destination at a place, and the path whose length stands at another.
+fn way(body: Body, at: usize, length: usize) -> DynamicJump {
     let to = body.address(at);
     DynamicJump {
-        path: body.path(at + 6),
+        path: body.path(length + 4),
         to: (to != NOWHERE).then_some(to),
     }
 }

@@ -2,14 +2,14 @@
 
 use crate::error::Unwritable;
 use crate::kinds::{
-    DYNAMIC_JUMP, DYNAMIC_JUMPI, FOUND, HEAD, JUMP, JUMPI, NOWHERE, RECORD, TERMINATE,
+    DYNAMIC_JUMP, DYNAMIC_JUMPI, FOUND, HEAD, JUMP, JUMPI, NOWHERE, NUMBERED, RECORD, TERMINATE,
 };
 use crate::map::{Block, BlockType, DynamicJump, Map};
 
 type Written = Result<(), Unwritable>;
 
 impl Map {
-    /// The entries of document 01 for this map.
+    /// The entries of document 01 for this map; the records with their numbers, if each has its own.
     pub fn to_bytes(&self) -> Result<Vec<u8>, Unwritable> {
         map(self)
     }
@@ -27,11 +27,16 @@ fn map(map: &Map) -> Result<Vec<u8>, Unwritable> {
     for (start, found) in &map.blocks {
         block(&mut out, *start, found)?;
     }
+    let numbered = map.records.iter().all(|record| record.energy.is_some());
     for record in &map.records {
         let mut body = Body::default();
         body.address(record.start)?;
-        body.way(&record.jump)?;
-        entry(&mut out, RECORD, &body)?;
+        body.destination(&record.jump)?;
+        let number = record.energy.filter(|_| numbered);
+        body.0.extend(number.into_iter().flat_map(u32::to_le_bytes));
+        body.path(&record.jump)?;
+        let kind = if numbered { NUMBERED } else { RECORD };
+        entry(&mut out, kind, &body)?;
     }
     Ok(out)
 }
@@ -53,10 +58,18 @@ impl Body {
     }
 
     fn way(&mut self, jump: &DynamicJump) -> Written {
+        self.destination(jump)?;
+        self.path(jump)
+    }
+
+    fn destination(&mut self, jump: &DynamicJump) -> Written {
         match jump.to {
-            Some(NOWHERE) => return Err(Unwritable { value: NOWHERE }),
-            to => self.address(to.unwrap_or(NOWHERE))?,
+            Some(NOWHERE) => Err(Unwritable { value: NOWHERE }),
+            to => self.address(to.unwrap_or(NOWHERE)),
         }
+    }
+
+    fn path(&mut self, jump: &DynamicJump) -> Written {
         self.count(jump.path.len())?;
         jump.path.iter().try_for_each(|start| self.address(*start))
     }

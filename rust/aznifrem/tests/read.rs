@@ -92,8 +92,8 @@ fn entries_stand_in_their_order() {
         (29, Fault::Start(3))
     );
     assert_eq!(
-        fault(&[head(0, 0), entry(9, &[])]),
-        (18, Fault::UnknownKind(9))
+        fault(&[head(0, 0), entry(10, &[])]),
+        (18, Fault::UnknownKind(10))
     );
     assert_eq!(
         fault(&[head(0, 0), entry(0, &[])]),
@@ -122,8 +122,41 @@ fn a_dynamic_block_has_as_many_paths_as_it_says() {
 }
 
 #[test]
+fn after_one_of_8_and_9_the_other_is_bad() {
+    let nine = entry(9, &[7, 0, 5, 0, 1, 0, 0, 0, 2, 0, 0, 0, 7, 0, 0, 0]);
+    assert_eq!(
+        fault(&[head(0, 2), record(), nine.clone()]),
+        (36, Fault::OutOfOrder(9))
+    );
+    assert_eq!(
+        fault(&[head(0, 2), nine.clone(), record()]),
+        (40, Fault::OutOfOrder(8))
+    );
+    assert_eq!(
+        fault(&[head(1, 1), nine.clone(), stop(0)]),
+        (40, Fault::OutOfOrder(2))
+    );
+    let stored = [head(0, 1), nine].concat();
+    let map = Map::from_bytes(&stored).expect("it holds a map");
+    assert_eq!(
+        (map.records[0].energy, map.lowest_limit()),
+        (Some(1), Some(1))
+    );
+    assert_eq!(map.to_bytes().as_deref(), Ok(&stored[..]));
+}
+
+#[test]
 fn bodies_are_as_long_as_their_kind_says() {
-    for (kind, length) in [(2, 4), (2, 6), (3, 5), (4, 9), (5, 7), (6, 11), (8, 7)] {
+    for (kind, length) in [
+        (2, 4),
+        (2, 6),
+        (3, 5),
+        (4, 9),
+        (5, 7),
+        (6, 11),
+        (8, 7),
+        (9, 11),
+    ] {
         let body = vec![0; length];
         assert_eq!(
             fault(&[head(0, 0), entry(kind, &body)]),

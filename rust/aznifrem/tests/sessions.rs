@@ -25,6 +25,7 @@ fn record(start: usize, path: &[usize], to: usize) -> Record {
     Record {
         start,
         jump: DynamicJump { path, to },
+        energy: None,
     }
 }
 

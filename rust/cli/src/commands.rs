@@ -2,7 +2,8 @@
 
 use crate::table::{Command, DEFAULT};
 use crate::{
-    archive, completions, diff, follow, help, inspect, man, maps, report, salvage, show, unpack,
+    archive, completions, diff, follow, help, inspect, limit, man, maps, report, salvage, show,
+    unpack,
 };
 
 pub const ALL: &[Command] = &[
@@ -10,6 +11,7 @@ pub const ALL: &[Command] = &[
     show::COMMAND,
     diff::COMMAND,
     report::COMMAND,
+    limit::COMMAND,
     archive::COMMAND,
     salvage::COMMAND,
     unpack::COMMAND,

@@ -105,14 +105,12 @@ fn inspected(
 fn sentence(map: &[u8], wrong: &WrongPath) -> String {
     let WrongPath { offset, place } = *wrong;
     let two = |at: usize| usize::from(u16::from_le_bytes([map[at], map[at + 1]]));
-    let record = two(offset + 4) == 8;
-    let (to, path) = if record {
-        (offset + 8, offset + 14)
-    } else {
-        (offset + 6, offset + 12)
+    let (kind, to, path) = match two(offset + 4) {
+        7 => ("the path", offset + 6, offset + 12),
+        8 => ("the record", offset + 8, offset + 14),
+        _ => ("the record", offset + 8, offset + 18),
     };
     let count = two(path - 4) + (two(path - 2) << 16);
-    let kind = if record { "the record" } else { "the path" };
     let to = two(to);
     if count == 0 {
         return format!("{kind} at offset {offset}, to {to}, is not right: its path is empty");

@@ -15,6 +15,7 @@ mod input;
 mod inspect;
 mod jobs;
 mod json;
+mod limit;
 mod man;
 mod mappers;
 mod maps;

@@ -4,25 +4,44 @@ use std::sync::{Mutex, PoisonError, RwLock};
 
 use aznifrem::{Error, Mapper, Mode};
 
+/// What kind of maps is made.
+#[derive(Clone, Copy, Default)]
+pub struct Kind {
+    pub mode: Mode,
+    /// The records have their numbers.
+    pub numbered: bool,
+}
+
+impl Kind {
+    fn mapper(self, ceiling: usize) -> Mapper {
+        let mapper = Mapper::with_ceiling(ceiling).in_mode(self.mode);
+        if self.numbered {
+            mapper.numbered()
+        } else {
+            mapper
+        }
+    }
+}
+
 /// The threads share the ceiling evenly. A contract that needs more than a share is mapped again with
 /// all of it, while the others wait and hold nothing: so what is refused does not depend on how many
 /// threads there are.
 pub struct Mappers {
     ceiling: usize,
     share: usize,
-    mode: Mode,
+    kind: Kind,
     each: Vec<Mutex<Mapper>>,
     alone: RwLock<()>,
 }
 
 impl Mappers {
-    pub fn new(ceiling: usize, threads: usize, mode: Mode) -> Mappers {
+    pub fn new(ceiling: usize, threads: usize, kind: Kind) -> Mappers {
         let share = ceiling / threads.max(1);
-        let mapper = |_| Mutex::new(Mapper::with_ceiling(share).in_mode(mode));
+        let mapper = |_| Mutex::new(kind.mapper(share));
         Mappers {
             ceiling,
             share,
-            mode,
+            kind,
             each: (0..threads).map(mapper).collect(),
             alone: RwLock::new(()),
         }
@@ -42,9 +61,9 @@ impl Mappers {
         }
         let _alone = self.alone.write().unwrap_or_else(PoisonError::into_inner);
         for mapper in &self.each {
-            *locked(mapper) = Mapper::with_ceiling(self.share).in_mode(self.mode);
+            *locked(mapper) = self.kind.mapper(self.share);
         }
-        work(&mut Mapper::with_ceiling(self.ceiling).in_mode(self.mode))
+        work(&mut self.kind.mapper(self.ceiling))
     }
 
     fn beside_others<R>(&self, thread: usize, work: impl Fn(&mut Mapper) -> R) -> R {
@@ -64,8 +83,8 @@ fn wants_more(error: &Error) -> bool {
 
 #[cfg(test)]
 mod tests {
-    use super::Mappers;
-    use aznifrem::{Error, Mapper, Mode};
+    use super::{Kind, Mappers};
+    use aznifrem::{Error, Mapper};
 
     /// W of this code alone is 64 KiB and more.
     const CODE: [u8; 1024] = [0x5b; 1024];
@@ -79,10 +98,10 @@ mod tests {
     fn a_contract_may_have_the_whole_ceiling() {
         let needed = 256 << 10;
         for threads in [1, 2, 64] {
-            let mappers = Mappers::new(needed, threads, Mode::Plain);
+            let mappers = Mappers::new(needed, threads, Kind::default());
             assert_eq!(mapped(&mappers, threads - 1), Ok(1024));
             let Err(Error::RoomFull { ceiling, .. }) =
-                mapped(&Mappers::new(1000, threads, Mode::Plain), 0)
+                mapped(&Mappers::new(1000, threads, Kind::default()), 0)
             else {
                 panic!("it needs more");
             };

@@ -15,6 +15,7 @@ use crate::contracts::Contracts;
 use crate::given::Given;
 use crate::input::Form;
 use crate::jobs::{Jobs, Next};
+use crate::mappers::Kind;
 use crate::names::shown;
 use crate::outcome::{Outcome, tell};
 use crate::patterns::Patterns;
@@ -88,6 +89,10 @@ pub const COMMAND: Command = Command {
                     "--known-zero",
                     "PUSH0 is known to put 0, so that more jumps are resolved where the compiler writes it; evmole does not know it, and maps of both kinds are not to be compared",
                 ),
+                Opt::flag(
+                    "--numbers",
+                    "each record has the energy that was used when it was made, so that 'aznifrem limit' can say which limit would have been enough; a stored map is 4 bytes longer for each",
+                ),
                 Opt::with(
                     "--ceiling",
                     Value::word("MIB"),
@@ -102,7 +107,7 @@ pub const COMMAND: Command = Command {
     notes: &[
         "A contract is a file of deployed code (at most 24,576 bytes), as hexadecimal digits, with or without 0x and line breaks, or as the bytes themselves. Which of the two it is shows by its content; say --hex or --binary where it does not: other text, and what begins with a byte order mark, is a contract with --binary alone. In folders of contracts, files and folders that begin with a dot, files that end in .map, refused.jsonl, unfinished.txt and links to folders are passed over.",
         "In a PATTERN ? is any letter, * any letters, and ** also goes across the / of folders. One that has a / is held to the whole path beneath the folder, another to the file's own name.",
-        "Progress is a bar on a terminal, elsewhere a line every half minute. A run that is cut short, as by Ctrl-C, leaves no half file; unfinished.txt stays in the folder then, so that diff, report and archive do not take it for a night.",
+        "Progress is a bar on a terminal, elsewhere a line every half minute. A run that is cut short, as by Ctrl-C, leaves no half file; unfinished.txt stays in the folder then, so that diff, report, limit and archive do not take it for a night.",
     ],
     exits: &[
         (0, "every contract is mapped"),
@@ -137,7 +142,7 @@ pub struct Options {
     pub form: Form,
     pub print: Option<Print>,
     pub limit: u64,
-    pub mode: Mode,
+    pub kind: Kind,
     pub ceiling: usize,
 }
 
@@ -164,10 +169,13 @@ impl Options {
             form: Form::asked(given),
             print: Print::asked(given).or_else(|| to.is_none().then(by_default)),
             limit: limit.unwrap_or(HIGHEST_LIMIT),
-            mode: if given.has("--known-zero") {
-                Mode::KnownZero
-            } else {
-                Mode::Plain
+            kind: Kind {
+                mode: if given.has("--known-zero") {
+                    Mode::KnownZero
+                } else {
+                    Mode::Plain
+                },
+                numbered: given.has("--numbers"),
             },
             ceiling: ceiling.map_or(Mapper::DEFAULT_CEILING, |count| (count as usize) << 20),
         })

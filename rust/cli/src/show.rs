@@ -78,7 +78,7 @@ fn run(inputs: &[PathBuf], print: Print, out: &mut impl Write) -> io::Result<Out
 }
 
 /// The files that a word of the command line stands for, and a sentence for each fault.
-fn expanded(input: &Path) -> (Vec<PathBuf>, Vec<String>) {
+pub fn expanded(input: &Path) -> (Vec<PathBuf>, Vec<String>) {
     if !input.is_dir() {
         return (vec![input.to_path_buf()], Vec::new());
     }

@@ -21,6 +21,7 @@ const HEADER: usize = 6;
 pub const HEAD: u16 = 1;
 const SEVEN: u16 = 7;
 const RECORD: u16 = 8;
+const NUMBERED: u16 = 9;
 /// Bytes of a head, with its header.
 const HEAD_BYTES: usize = 18;
 
@@ -167,6 +168,12 @@ fn ill(kind: u16, length: usize, body: &[u8]) -> bool {
             }
             None => length < 8,
         },
+        NUMBERED => match body.first_chunk() {
+            Some([_, _, _, _, _, _, _, _, a, b, c, d]) => {
+                length != 12 + 2 * u32::from_le_bytes([*a, *b, *c, *d]) as usize
+            }
+            None => length < 12,
+        },
         _ => true,
     }
 }
@@ -196,7 +203,7 @@ fn counts_met(window: &[u8], start: usize) -> bool {
         match entry(window, at) {
             Some((kind, end)) if end <= window.len() => {
                 blocks = blocks.saturating_sub(u64::from((2..=6).contains(&kind)));
-                records = records.saturating_sub(u64::from(kind == RECORD));
+                records = records.saturating_sub(u64::from((RECORD..=NUMBERED).contains(&kind)));
                 at = end;
             }
             _ => return false,
@@ -337,7 +344,7 @@ mod tests {
             let archive = [&head(2, 0)[..], &stop(0), &damaged, &many].concat();
             assert_small(&archive);
             let bad = head(2, 0).len() + stop(0).len();
-            assert!(settled(&archive[..bad + HEADER + 8], 0, bad));
+            assert!(settled(&archive[..bad + HEADER + 12], 0, bad));
         }
         // Of a right length, and cut by the window: whole, they may be good.
         for entry in [stop(2), record()] {

@@ -63,7 +63,7 @@ impl Work {
             form: options.form,
             print: options.print,
             limit: options.limit,
-            mappers: Mappers::new(options.ceiling, threads, options.mode),
+            mappers: Mappers::new(options.ceiling, threads, options.kind),
         }
     }
 

@@ -59,6 +59,7 @@ impl Matching {
         let record = |record: &Record| Record {
             start: name(&record.start),
             jump: jump(&record.jump),
+            energy: record.energy,
         };
         Map {
             code_length: old.code_length,
@@ -188,6 +189,11 @@ pub fn sides(btype: &BlockType) -> Vec<usize> {
     }
 }
 
+/// A record but for its number: when it was made is no part of the map.
+fn found(record: &Record) -> (usize, &DynamicJump) {
+    (record.start, &record.jump)
+}
+
 /// Whether the old map, renamed, is the new one: the whole check, whatever was found how.
 fn renames(names: &Matching, old: &Map, new: &Map) -> bool {
     let inverse = |(old, new): (&usize, &usize)| names.old_of(*new) == Some(*old);
@@ -201,5 +207,9 @@ fn renames(names: &Matching, old: &Map, new: &Map) -> bool {
         && names.new_of(0) == Some(0)
         && renamed.blocks.len() == new.blocks.len()
         && renamed.blocks.iter().all(same)
-        && renamed.records == new.records
+        && renamed
+            .records
+            .iter()
+            .map(found)
+            .eq(new.records.iter().map(found))
 }

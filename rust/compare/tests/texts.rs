@@ -17,6 +17,7 @@ fn map(blocks: &[(usize, Block)], records: &[(usize, DynamicJump)]) -> Map {
     let record = |(start, jump): &(usize, DynamicJump)| Record {
         start: *start,
         jump: jump.clone(),
+        energy: None,
     };
     Map {
         code_length: 20,

@@ -49,6 +49,7 @@ fn renamed(map: &Map, name: impl Fn(usize) -> usize, like: &Map) -> Map {
     let record = |record: &Record| Record {
         start: name(record.start),
         jump: jump(&record.jump),
+        energy: record.energy,
     };
     Map {
         code_length: like.code_length,

@@ -13,7 +13,10 @@ use crate::lend::{self, Given};
 use crate::mismatch::{Mismatch, different, mismatch};
 use crate::nearby::{longer, short};
 use crate::panics::caught;
-use crate::port::{JsonModePort, JsonPort, ModePort, Port};
+use crate::port::{ChoicePort, JsonChoicePort, JsonModePort, JsonPort, ModePort, Port};
+
+/// The fewest bytes that an answer has.
+const LEAST_WRITTEN: u64 = 18;
 
 /// What came of one code.
 #[derive(Clone, Copy, Debug, PartialEq, Eq)]
@@ -32,6 +35,8 @@ pub struct Checker {
     pub json: JsonPort,
     pub in_mode: ModePort,
     pub json_in: JsonModePort,
+    pub by: ChoicePort,
+    pub json_by: JsonChoicePort,
 }
 
 impl Checker {
@@ -41,6 +46,8 @@ impl Checker {
         json: aznifrem::call_json,
         in_mode: aznifrem::call_in,
         json_in: aznifrem::call_json_in,
+        by: aznifrem::call_by,
+        json_by: aznifrem::call_json_by,
     };
 
     /// All calls on one code; the seed chooses rooms and limits beyond the plain call.
@@ -76,7 +83,79 @@ impl Checker {
             json::refused(self.json, code, over, (&exact, number), random)?;
         }
         self.modes(code, random)?;
+        self.numbers(code, random)?;
+        self.choices(code, random)?;
         Ok(Verdict::Same)
+    }
+
+    /// Choice 0 against the model, and its records' numbers against the copy of the Rust that tells
+    /// its energy; then a lower limit, which has exactly the records with numbers up to it.
+    fn numbers(&self, code: &[u8], random: &mut Random) -> Result<(), Mismatch> {
+        let Ok(map) = model::map_by(0, 0, &ENOUGH, HIGHEST_LIMIT, code) else {
+            return Ok(());
+        };
+        let exact = map.needs.lent(code.len());
+        let given = self.by((0, 0), code, HIGHEST_LIMIT, &exact, random)?;
+        let all = numbers_of(&given.written)?;
+        let theirs = caught("panic of the Rust's copy", || counted::told(code))?;
+        if all != theirs.records {
+            let sentence = format!(
+                "the Rust's copy tells {:?}, the answer {all:?}",
+                theirs.records
+            );
+            return Err(mismatch("numbers", sentence));
+        }
+        self.by((0, 0), code, HIGHEST_LIMIT, &short(&exact, random), random)?;
+        let lower = random.below(map.energy as usize + 2) as u64;
+        let given = self.by((0, 0), code, lower, &longer(&exact, random), random)?;
+        if given.number >= LEAST_WRITTEN {
+            let up_to: Vec<Numbered> = all
+                .into_iter()
+                .filter(|(_, energy)| *energy <= lower)
+                .collect();
+            let few = numbers_of(&given.written)?;
+            if few != up_to {
+                let sentence = format!("at limit {lower} they are {few:?}, and up to it {up_to:?}");
+                return Err(mismatch("numbers up to a limit", sentence));
+            }
+        }
+        Ok(())
+    }
+
+    /// A choice, small or large, and a mode, without a text and with one.
+    fn choices(&self, code: &[u8], random: &mut Random) -> Result<(), Mismatch> {
+        let choice = random.pick(&[0, 0, 0, 2, 255, 256, 1 << 32, u64::MAX]);
+        let mode = random.below(2) as u64;
+        let Ok(map) = model::map_by(choice, mode, &ENOUGH, HIGHEST_LIMIT, code) else {
+            return Ok(());
+        };
+        let exact = map.needs.lent(code.len());
+        self.by((choice, mode), code, HIGHEST_LIMIT, &exact, random)?;
+        let text = agree::json::of_model(&map.blocks);
+        let port = |code: &[u8], limit, rooms: &mut aznifrem::Lent, text: &mut [u8]| {
+            (self.json_by)(choice, mode, code, limit, rooms, text)
+        };
+        json::exactly(port, code, HIGHEST_LIMIT, (&map, &text), random)
+    }
+
+    fn by(
+        &self,
+        (choice, mode): (u64, u64),
+        code: &[u8],
+        limit: u64,
+        lent: &Lent,
+        random: &mut Random,
+    ) -> Result<Given, Mismatch> {
+        let port = |code: &[u8], limit, rooms: &mut aznifrem::Lent| {
+            (self.by)(choice, mode, code, limit, rooms)
+        };
+        let expected = model::answer_by(choice, mode, lent, limit, code);
+        let circumstances = format!("choice {choice}, mode {mode}, limit {limit}, {lent:?}");
+        held(
+            lend::call(port, code, limit, lent, random),
+            &expected,
+            &circumstances,
+        )
     }
 
     /// Mode 1 against the model, with a text too, and against the copy of the Rust that knows PUSH0 to
@@ -171,6 +250,20 @@ impl Checker {
             &circumstances,
         )
     }
+}
+
+/// A record's path, and the energy when it was made.
+type Numbered = (Vec<usize>, u64);
+
+/// Those of an answer, by the binding.
+fn numbers_of(written: &[u8]) -> Result<Vec<Numbered>, Mismatch> {
+    let map = Map::from_bytes(written).map_err(|bad| mismatch("binding", bad.to_string()))?;
+    let number = |record: aznifrem::Record| {
+        let energy = record.energy.map(u64::from);
+        energy.map(|energy| (record.jump.path, energy))
+    };
+    let numbers: Option<Vec<Numbered>> = map.records.into_iter().map(number).collect();
+    numbers.ok_or_else(|| mismatch("binding", "a record has no number".into()))
 }
 
 /// What a call gave, where it is what the model answers.

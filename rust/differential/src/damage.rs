@@ -34,7 +34,7 @@ impl Parts {
     fn recount(&mut self) {
         let count = |test: fn(u16) -> bool| self.0.iter().filter(|(kind, _)| test(*kind)).count();
         let blocks = (count(|kind| (2..=6).contains(&kind)) as u16).to_le_bytes();
-        let records = (count(|kind| kind == 8) as u32).to_le_bytes();
+        let records = (count(|kind| (8..=9).contains(&kind)) as u32).to_le_bytes();
         if let Some((1, head)) = self.0.first_mut()
             && head.len() >= 8
         {
@@ -47,7 +47,7 @@ impl Parts {
 /// A whole map with no record: what its 7s say no record says again.
 pub fn without_records(map: &[u8]) -> Vec<u8> {
     let mut parts = Parts::of(map);
-    parts.0.retain(|(kind, _)| *kind != 8);
+    parts.0.retain(|(kind, _)| !(8..=9).contains(kind));
     parts.recount();
     parts.bytes()
 }
@@ -102,7 +102,7 @@ fn change_entries(random: &mut Random, parts: &mut Parts, other: &Parts) {
         at = later.unwrap_or(at);
     }
     let to = random.below(count);
-    match random.below(12) {
+    match random.below(13) {
         0 => drop(parts.0.remove(at)),
         1 => parts.0.insert(to, parts.0[at].clone()),
         2 => parts.0.swap(at, to),
@@ -120,8 +120,24 @@ fn change_entries(random: &mut Random, parts: &mut Parts, other: &Parts) {
         8 => parts
             .0
             .insert(to, (random.pick(&KINDS), vec![0; random.below(13)])),
+        9 => other_record(&mut parts.0, at),
         _ => change_number(random, &mut parts.0[at].1),
     }
+}
+
+/// Behind the first record from an entry on the same as one of the other kind: with a number, or without.
+fn other_record(parts: &mut Vec<(u16, Vec<u8>)>, at: usize) {
+    let is_record = |(kind, _): &(u16, Vec<u8>)| matches!(kind, 8 | 9);
+    let Some(at) = (at..parts.len()).find(|at| is_record(&parts[*at])) else {
+        return;
+    };
+    let (kind, mut body) = parts[at].clone();
+    if kind == 8 && body.len() >= 4 {
+        body.splice(4..4, [1, 0, 0, 0]);
+    } else if kind == 9 && body.len() >= 8 {
+        body.drain(4..8);
+    }
+    parts.insert(at + 1, (17 - kind, body));
 }
 
 /// A byte, or a number of two bytes, made one more or less, or anything.

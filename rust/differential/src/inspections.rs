@@ -4,7 +4,7 @@ use codes::contract::{Style, sized};
 use codes::random::jumpy;
 use codes::{Random, from_hex, woven};
 use model::inspect::{PathEntry, path_entries};
-use model::{HIGHEST_LIMIT, Inspected, entries, inspect, unpruned_in};
+use model::{HIGHEST_LIMIT, Inspected, entries, inspect, unpruned_by};
 
 use crate::mismatch::{Mismatch, mismatch};
 
@@ -129,7 +129,7 @@ fn maps(random: &mut Random) -> Vec<(u64, Vec<u8>, Vec<u8>)> {
     all.push(sized(random, bytes, Style::Plain));
     let mapped = all.into_iter().filter_map(|code| {
         let mode = random.below(2) as u64;
-        let map = unpruned_in(mode == 1, HIGHEST_LIMIT, &code).ok()?;
+        let map = unpruned_by(random.below(2) as u64, mode == 1, HIGHEST_LIMIT, &code).ok()?;
         let bytes = entries::write(code.len(), &map);
         Some((mode, code, bytes))
     });
@@ -177,10 +177,10 @@ fn call(random: &mut Random, maps: &[(u64, Vec<u8>, Vec<u8>)]) -> Inspecting {
 /// One number of a path entry: its destination, its start, or a block of its path.
 fn change(random: &mut Random, map: &mut [u8], path: &PathEntry, length: usize) {
     let body = path.offset + 6;
-    let (to, addresses) = if path.kind == 8 {
-        (body + 2, body + 8)
-    } else {
-        (body, body + 6)
+    let (to, addresses) = match path.kind {
+        7 => (body, body + 6),
+        8 => (body + 2, body + 8),
+        _ => (body + 2, body + 12),
     };
     let at = match random.below(4) {
         0 => to,

@@ -47,7 +47,7 @@ pub fn in_mode(
 }
 
 /// In exactly the rooms that it needs: the number, the entries and the text.
-fn exactly(
+pub fn exactly(
     port: impl FnOnce(&[u8], u64, &mut aznifrem::Lent, &mut [u8]) -> u64,
     code: &[u8],
     limit: u64,

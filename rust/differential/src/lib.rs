@@ -29,7 +29,7 @@ pub use inspections::{
 pub use lend::{Given, call as fenced_call, call_json as fenced_call_json};
 pub use logs::{Call, Follower, Index, Logs, check as check_log, ring, run as follow_logs, shared};
 pub use mismatch::Mismatch;
-pub use port::{JsonPort, ModePort, Port};
+pub use port::{ChoicePort, JsonPort, ModePort, Port};
 pub use reports::{ReportPort, Reports, run as run_reports};
 pub use shrink::smaller;
 pub use stored::{Maps, Reader, check as check_map, run as read_maps};

@@ -6,7 +6,7 @@ use aznifrem::{Block, BlockType, DynamicJump, Fault, Map, Record};
 use codes::contract::{Style, sized};
 use codes::random::jumpy;
 use codes::{Random, from_hex, woven};
-use model::{Bad, Held, Kind, Refused, answer};
+use model::{Bad, Held, Kind, Refused, answer_by};
 
 use crate::damage::damaged;
 use crate::mismatch::{Mismatch, mismatch};
@@ -93,7 +93,8 @@ pub fn answers(random: &mut Random) -> Vec<Vec<u8>> {
     let mut answers = Vec::new();
     for code in codes {
         for limit in [model::HIGHEST_LIMIT, random.below(4) as u64] {
-            let answer = answer(&agree::ENOUGH, limit, &code);
+            let choice = random.below(2) as u64;
+            let answer = answer_by(choice, 0, &agree::ENOUGH, limit, &code);
             if answer.number() == 0 && answer.written().len() <= 6_000 {
                 answers.push(answer.written().to_vec());
             }
@@ -157,6 +158,7 @@ fn named(fault: Fault) -> Bad {
         Fault::Entries { .. } => Bad::Sevens,
         Fault::Cut => Bad::Cut,
         Fault::Length(_) => Bad::Length,
+        Fault::OutOfOrder(8 | 9) => Bad::Other,
         _ => Bad::Order,
     }
 }
@@ -191,6 +193,7 @@ fn translated(held: &Held) -> Map {
     let record = |record: &model::Record| Record {
         start: record.start,
         jump: jump(record.to, &record.path),
+        energy: record.energy.map(|energy| energy as u32),
     };
     Map {
         code_length: held.code_length,

@@ -5,7 +5,9 @@ use std::time::Duration;
 
 use aznifrem::{HIGHEST_LIMIT, Lent, call};
 use codes::{Random, exhaustive};
-use differential::{Checker, FAMILIES, JsonPort, ModePort, Port, Tally, Verdict, fenced_call};
+use differential::{
+    Checker, ChoicePort, FAMILIES, JsonPort, ModePort, Port, Tally, Verdict, fenced_call,
+};
 
 const PORT: Checker = Checker::LIBRARY;
 
@@ -98,6 +100,11 @@ fn honest(code: &[u8], limit: u64, rooms: &mut Lent) -> u64 {
     bent(code, limit, rooms, |_| {})
 }
 
+/// The model behind the library's entry with a choice and in a mode.
+fn honest_by(choice: u64, mode: u64, code: &[u8], limit: u64, rooms: &mut Lent) -> u64 {
+    bent_by(choice, mode, code, limit, rooms, |_| {})
+}
+
 /// The model behind the library's entry in a mode.
 fn honest_in(mode: u64, code: &[u8], limit: u64, rooms: &mut Lent) -> u64 {
     bent_in(mode, code, limit, rooms, |_| {})
@@ -109,6 +116,17 @@ fn bent(code: &[u8], limit: u64, rooms: &mut Lent, bend: fn(&mut Vec<u8>)) -> u6
 }
 
 fn bent_in(mode: u64, code: &[u8], limit: u64, rooms: &mut Lent, bend: fn(&mut Vec<u8>)) -> u64 {
+    bent_by(1, mode, code, limit, rooms, bend)
+}
+
+fn bent_by(
+    choice: u64,
+    mode: u64,
+    code: &[u8],
+    limit: u64,
+    rooms: &mut Lent,
+    bend: fn(&mut Vec<u8>),
+) -> u64 {
     let length = |room: &[u8]| room.len() as u64;
     let lent = model::Lent {
         w: length(rooms.w),
@@ -119,7 +137,7 @@ fn bent_in(mode: u64, code: &[u8], limit: u64, rooms: &mut Lent, bend: fn(&mut V
         q: length(rooms.q),
         out: length(rooms.out),
     };
-    let answer = model::answer_in(mode, &lent, limit, code);
+    let answer = model::answer_by(choice, mode, &lent, limit, code);
     let number = u64::from(answer.number());
     if !matches!(number, 1..=3 | 13) {
         for room in [&mut *rooms.w, rooms.p, rooms.s, rooms.t, rooms.r, rooms.q] {
@@ -212,6 +230,7 @@ fn the_model_behind_the_entry_has_no_mismatch() {
         port: honest,
         json: |code, limit, rooms, text| told(code, limit, rooms, text, |said| said),
         in_mode: honest_in,
+        by: honest_by,
         ..Checker::LIBRARY
     };
     assert_eq!(found(checker), "");
@@ -246,6 +265,50 @@ fn a_mode_that_is_refused_behind_a_short_w_is_found() {
     };
     let checker = Checker {
         in_mode,
+        ..Checker::LIBRARY
+    };
+    finds_behind(checker, "number", 40);
+}
+
+/// Where the first entry of kind 9 stands.
+fn first_numbered(bytes: &[u8]) -> Option<usize> {
+    let mut at = 0;
+    while let Some([a, b, c, d, kind, 0, ..]) = bytes.get(at..) {
+        if *kind == 9 {
+            return Some(at);
+        }
+        at += 6 + u32::from_le_bytes([*a, *b, *c, *d]) as usize;
+    }
+    None
+}
+
+#[test]
+fn a_number_that_is_one_off_is_found() {
+    let by: ChoicePort = |choice, mode, code, limit, rooms| {
+        bent_by(choice, mode, code, limit, rooms, |bytes| {
+            if let Some(at) = first_numbered(bytes) {
+                bytes[at + 10] ^= 1;
+            }
+        })
+    };
+    let checker = Checker {
+        by,
+        ..Checker::LIBRARY
+    };
+    finds_behind(checker, "bytes", 40);
+}
+
+#[test]
+fn a_choice_of_which_the_low_byte_alone_counts_is_found() {
+    let checker = Checker {
+        by: |choice, mode, code, limit, rooms| honest_by(choice % 256, mode, code, limit, rooms),
+        ..Checker::LIBRARY
+    };
+    finds_behind(checker, "number", 40);
+    let checker = Checker {
+        json_by: |choice, mode, code, limit, rooms, text| {
+            aznifrem::call_json_by(choice % 256, mode, code, limit, rooms, text)
+        },
         ..Checker::LIBRARY
     };
     finds_behind(checker, "number", 40);

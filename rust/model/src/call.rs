@@ -15,6 +15,17 @@ pub fn map(lent: &Lent, limit: u64, code: &[u8]) -> Result<Map, Refusal> {
 
 /// The same in a mode, by its number.
 pub fn map_in(mode: u64, lent: &Lent, limit: u64, code: &[u8]) -> Result<Map, Refusal> {
+    map_by(1, mode, lent, limit, code)
+}
+
+/// The same with a choice: the records have their numbers if it is 0.
+pub fn map_by(
+    choice: u64,
+    mode: u64,
+    lent: &Lent,
+    limit: u64,
+    code: &[u8],
+) -> Result<Map, Refusal> {
     if code.len() > LONGEST_CODE {
         return Err(Refusal::CodeTooLong);
     }
@@ -30,7 +41,7 @@ pub fn map_in(mode: u64, lent: &Lent, limit: u64, code: &[u8]) -> Result<Map, Re
         return Err(Refusal::WorkShort);
     }
     let mut rooms = Rooms::new(lent);
-    let mut map = merged(code, zero_known, limit, &mut rooms)?;
+    let mut map = merged(choice, code, zero_known, limit, &mut rooms)?;
     let reached = pruned(&map.blocks, code.len() + 1);
     map.blocks.retain(|block| reached[block.start]);
     rooms.ask(Room::Out, entries::length(&map))?;
@@ -39,14 +50,26 @@ pub fn map_in(mode: u64, lent: &Lent, limit: u64, code: &[u8]) -> Result<Map, Re
 }
 
 /// The same "with that run's edges before pruning" (document 02, No. 12).
-pub fn unpruned_in(zero_known: bool, limit: u64, code: &[u8]) -> Result<Map, Refusal> {
-    merged(code, zero_known, limit, &mut Rooms::new(&Lent::ALL))
+pub fn unpruned_by(choice: u64, zero_known: bool, limit: u64, code: &[u8]) -> Result<Map, Refusal> {
+    merged(choice, code, zero_known, limit, &mut Rooms::new(&Lent::ALL))
 }
 
 /// The blocks with what the search found, merged and not yet pruned.
-fn merged(code: &[u8], zero_known: bool, limit: u64, rooms: &mut Rooms) -> Result<Map, Refusal> {
+fn merged(
+    choice: u64,
+    code: &[u8],
+    zero_known: bool,
+    limit: u64,
+    rooms: &mut Rooms,
+) -> Result<Map, Refusal> {
     let mut cut = blocks(code);
-    let Found { records, energy } = search(code, zero_known, &mut cut, limit, rooms)?;
+    let Found {
+        mut records,
+        energy,
+    } = search(code, zero_known, &mut cut, limit, rooms)?;
+    if choice != 0 {
+        records.iter_mut().for_each(|record| record.energy = None);
+    }
     for record in &records {
         enter(&mut cut, record);
     }

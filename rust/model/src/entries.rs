@@ -7,15 +7,22 @@ use crate::search::Record;
 const NOWHERE: u16 = 0x8000;
 const HEADER: usize = 6;
 
-/// The whole output: head, blocks by start each with its entries, records as found.
+/// The whole output: head, blocks by start each with its entries, records as found; one that has its number is of kind 9.
 pub fn write(code_length: usize, map: &Map) -> Vec<u8> {
     let mut out = Vec::new();
     entry(&mut out, 1, &head(code_length, map));
     blocks(&mut out, &map.blocks);
     for record in &map.records {
         let mut body = address(record.start).to_vec();
-        body.extend(way(record.to, &record.path));
-        entry(&mut out, 8, &body);
+        body.extend(destination(record.to));
+        body.extend(
+            record
+                .energy
+                .into_iter()
+                .flat_map(|energy| count(energy as usize)),
+        );
+        body.extend(path(&record.path));
+        entry(&mut out, if record.energy.is_some() { 9 } else { 8 }, &body);
     }
     out
 }
@@ -29,7 +36,8 @@ pub fn length(map: &Map) -> usize {
         Kind::DynamicJump { entries } => HEADER + 8 + of_entries(entries),
         Kind::DynamicJumpi { entries, .. } => HEADER + 10 + of_entries(entries),
     };
-    let of_record = |record: &Record| HEADER + 8 + 2 * record.path.len();
+    let number = |record: &Record| if record.energy.is_some() { 4 } else { 0 };
+    let of_record = |record: &Record| HEADER + 8 + number(record) + 2 * record.path.len();
     let blocks: usize = map.blocks.iter().map(of_block).sum();
     HEADER + 12 + blocks + map.records.iter().map(of_record).sum::<usize>()
 }
@@ -86,10 +94,19 @@ fn described(block: &Block) -> (u16, Vec<u8>, &[Entry]) {
 }
 
 /// "To, path length, path".
-fn way(to: Option<usize>, path: &[usize]) -> Vec<u8> {
-    let mut body = to.map_or(NOWHERE.to_le_bytes(), address).to_vec();
-    body.extend(count(path.len()));
-    body.extend(path.iter().flat_map(|block| address(*block)));
+fn way(to: Option<usize>, blocks: &[usize]) -> Vec<u8> {
+    let mut body = destination(to).to_vec();
+    body.extend(path(blocks));
+    body
+}
+
+fn destination(to: Option<usize>) -> [u8; 2] {
+    to.map_or(NOWHERE.to_le_bytes(), address)
+}
+
+fn path(blocks: &[usize]) -> Vec<u8> {
+    let mut body = count(blocks.len()).to_vec();
+    body.extend(blocks.iter().flat_map(|block| address(*block)));
     body
 }
 

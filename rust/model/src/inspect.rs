@@ -67,6 +67,7 @@ pub fn path_entries(map: &[u8]) -> Vec<PathEntry> {
             }
             7 => Some((owner, two(body), addresses(body + 2))),
             8 => Some((two(body), two(body + 2), addresses(body + 4))),
+            9 => Some((two(body), two(body + 2), addresses(body + 8))),
             _ => None,
         };
         if let Some((start, to, path)) = entry.filter(|(_, to, _)| *to != NOWHERE) {

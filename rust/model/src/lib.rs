@@ -21,7 +21,7 @@ pub mod stack;
 
 pub use blocks::{Block, Entry, Kind};
 pub use bounds::{HIGHEST_LIMIT, LONGEST_CODE};
-pub use call::{map, map_in, unpruned_in};
+pub use call::{map, map_by, map_in, unpruned_by};
 pub use follow::{Followed, NotFollowed, follow_bytes};
 pub use inspect::{Inspected, inspect};
 pub use map::Map;
@@ -62,7 +62,12 @@ pub fn answer(lent: &Lent, limit: u64, code: &[u8]) -> Answer {
 
 /// The same in a mode, by its number.
 pub fn answer_in(mode: u64, lent: &Lent, limit: u64, code: &[u8]) -> Answer {
-    match map_in(mode, lent, limit, code) {
+    answer_by(1, mode, lent, limit, code)
+}
+
+/// The same with a choice: the records have their numbers if it is 0.
+pub fn answer_by(choice: u64, mode: u64, lent: &Lent, limit: u64, code: &[u8]) -> Answer {
+    match map_by(choice, mode, lent, limit, code) {
         Ok(map) => Answer::Answered(entries::write(code.len(), &map)),
         Err(refusal) => Answer::Refused(refusal),
     }

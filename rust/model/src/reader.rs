@@ -32,6 +32,8 @@ pub enum Bad {
     Counts,
     /// "Entries out of order": a second head, a block after a record.
     Order,
+    /// "After one of 8 and 9 the other".
+    Other,
     /// "A block start not above the one before".
     Start,
     /// "Unknown kinds".
@@ -49,10 +51,11 @@ pub enum Bad {
 }
 
 impl Bad {
-    pub const ALL: [Bad; 10] = [
+    pub const ALL: [Bad; 11] = [
         Bad::Head,
         Bad::Counts,
         Bad::Order,
+        Bad::Other,
         Bad::Start,
         Bad::Kind,
         Bad::Away,
@@ -139,11 +142,15 @@ impl Piece<'_> {
         (2..=6).contains(&self.kind)
     }
 
+    pub(crate) fn is_record(&self) -> bool {
+        (8..=9).contains(&self.kind)
+    }
+
     fn is_dynamic(&self) -> bool {
         (5..=6).contains(&self.kind)
     }
 
-    /// The length that its kind says; for 7 and 8 "by the path length that it announces".
+    /// The length that its kind says; for 7, 8 and 9 "by the path length that it announces".
     fn length(&self) -> Option<usize> {
         match self.kind {
             1 => Some(12),
@@ -153,6 +160,7 @@ impl Piece<'_> {
             6 => Some(10),
             7 => Some(6 + 2 * self.number(2, 4)),
             8 => Some(8 + 2 * self.number(4, 4)),
+            9 => Some(12 + 2 * self.number(8, 4)),
             _ => None,
         }
     }
@@ -168,7 +176,11 @@ fn is_bad(bad: Bad, pieces: &[Piece], at: usize) -> bool {
         Bad::Head => at == 0 && piece.kind != 1,
         Bad::Counts | Bad::Cut => false,
         Bad::Order => {
-            (at > 0 && piece.kind == 1) || (piece.is_block() && before.iter().any(|e| e.kind == 8))
+            (at > 0 && piece.kind == 1) || (piece.is_block() && before.iter().any(Piece::is_record))
+        }
+        Bad::Other => {
+            let other = |e: &Piece| e.is_record() && e.kind != piece.kind;
+            piece.is_record() && before.iter().any(other)
         }
         Bad::Start => {
             let last = before.iter().rev().find(|e| e.is_block());
@@ -240,11 +252,12 @@ fn blocks(pieces: &[Piece]) -> Vec<Block> {
 }
 
 fn records(pieces: &[Piece]) -> Vec<Record> {
-    let records = pieces.iter().filter(|piece| piece.kind == 8);
+    let records = pieces.iter().filter(|piece| piece.is_record());
     let record = |piece: &Piece| Record {
         start: piece.number(0, 2),
         to: destination(piece.number(2, 2)),
-        path: path(piece, 8),
+        path: path(piece, if piece.kind == 9 { 12 } else { 8 }),
+        energy: (piece.kind == 9).then(|| piece.number(4, 4) as u64),
     };
     records.map(record).collect()
 }

@@ -44,7 +44,7 @@ fn end(rest: &[u8]) -> usize {
     let (head, entries) = pieces.split_first().expect("there is a byte");
     let (blocks, records) = (head.number(2, 2), head.number(4, 4));
     let block = |piece: &&Piece| piece.whole && piece.is_block();
-    let record = |piece: &&Piece| piece.whole && piece.kind == 8;
+    let record = |piece: &&Piece| piece.whole && piece.is_record();
     let nth = |count: usize, of: &dyn Fn(&&Piece) -> bool| {
         let mut places = (0..entries.len()).filter(|at| of(&&entries[*at]));
         // So many entries end with the last that counts; none, if none is wanted.

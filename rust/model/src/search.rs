@@ -10,12 +10,14 @@ use std::rc::Rc;
 const MOST_ROUNDS: usize = 128;
 const MOST_WEIGHT: usize = 256;
 
-/// What the search found for one path: the block, where it jumps to, the path.
+/// What the search found for one path: the block, where it jumps to, the path; and its number, "the energy spent, from the
+/// start of the run, when it was made", where that is asked for.
 #[derive(Clone, Debug, PartialEq, Eq)]
 pub struct Record {
     pub start: usize,
     pub to: Option<usize>,
     pub path: Vec<usize>,
+    pub energy: Option<u64>,
 }
 
 /// What the search leaves: every record as found, and the energy used.
@@ -267,6 +269,7 @@ impl Search<'_> {
             start: self.path[0],
             to,
             path: self.path.clone(),
+            energy: Some(self.energy),
         });
         Ok(())
     }

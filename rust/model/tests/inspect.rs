@@ -2,7 +2,7 @@
 //! (`InspectorExamples`).
 
 use codes::from_hex;
-use model::{HIGHEST_LIMIT, Inspected, entries, inspect, map_in, unpruned_in};
+use model::{HIGHEST_LIMIT, Inspected, entries, inspect, map_by, unpruned_by};
 
 const RETURN: &str = "60056007565b005b56";
 const BLOCKS: &str = "0c0000000100090003000100000002000000060000000300000004000700050000000200050006000106000000030007000800\
@@ -73,11 +73,13 @@ fn the_refusals_come_in_their_order() {
 fn a_run_is_accepted_before_pruning_and_not_after() {
     let code = from_hex("600160075b57005b600f600d565b565b00").expect("digits");
     let room = 64 * code.len() + 256;
-    let unpruned = unpruned_in(false, HIGHEST_LIMIT, &code).expect("all the room is lent");
-    let bytes = entries::write(code.len(), &unpruned);
-    assert_eq!(inspect(0, &code, &bytes, room), Inspected::Accepted);
-    let answered =
-        map_in(0, &model::Lent::ALL, HIGHEST_LIMIT, &code).expect("all the room is lent");
-    let bytes = entries::write(code.len(), &answered);
-    assert_eq!(inspect(0, &code, &bytes, room), wrong(91, 1));
+    // Records of kind 8, and of kind 9: the one before that which is not right is 4 bytes longer.
+    for (choice, offset) in [(1, 91), (0, 95)] {
+        let unpruned = unpruned_by(choice, false, HIGHEST_LIMIT, &code);
+        let bytes = entries::write(code.len(), &unpruned.expect("all the room is lent"));
+        assert_eq!(inspect(0, &code, &bytes, room), Inspected::Accepted);
+        let answered = map_by(choice, 0, &model::Lent::ALL, HIGHEST_LIMIT, &code);
+        let bytes = entries::write(code.len(), &answered.expect("all the room is lent"));
+        assert_eq!(inspect(0, &code, &bytes, room), wrong(offset, 1));
+    }
 }

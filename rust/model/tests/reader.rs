@@ -50,7 +50,7 @@ fn entries_stand_in_their_order() {
     assert_eq!(bad(&[&blocks, BLOCK_7, RECORD]), (53, vec![Bad::Start]));
     let falling = [HEAD, BLOCK_0, BLOCK_7, BLOCK_5, RECORD];
     assert_eq!(bad(&falling), (42, vec![Bad::Start]));
-    for kind in ["000000000000", "000000000900", "000000000001"] {
+    for kind in ["000000000000", "000000000a00", "000000000001"] {
         assert_eq!(bad(&[&blocks, kind]), (53, vec![Bad::Kind]));
     }
     assert_eq!(bad(&[&blocks, SEVEN, RECORD]), (53, vec![Bad::Away]));

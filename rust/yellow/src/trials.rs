@@ -53,6 +53,7 @@ fn library_in(mode: Mode, code: &[u8]) -> Option<Vec<Record>> {
         start: record.start,
         to: record.jump.to,
         path: record.jump.path,
+        energy: None,
     });
     Some(records.collect())
 }

@@ -16,6 +16,7 @@ fn record(path: &[usize], to: usize) -> Record {
         start: path[0],
         to: Some(to),
         path: path.to_vec(),
+        energy: None,
     }
 }
 

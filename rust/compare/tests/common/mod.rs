@@ -47,6 +47,7 @@ pub fn map_of(code: &[u8], limit: u64) -> Option<Map> {
     let record = |record: &model::Record| Record {
         start: record.start,
         jump: jump(&record.path, record.to),
+        energy: None,
     };
     Some(Map {
         code_length: code.len(),
@@ -125,6 +126,7 @@ fn record(random: &mut Random) -> Record {
     Record {
         start: random.below(ADDRESSES),
         jump: way(random),
+        energy: None,
     }
 }
 

@@ -7,7 +7,7 @@ use Rattle.answer.proofs.both.map_json.Tie as tie
 returns : tie.Need-returns
 returns c =
     let at-if = c .before in
-    both-early _ _ _ _ _ _ (at-if .before .early .ensures) (at-if .if1 .taken) (c .refused-both .ensures)
+    both-early _ _ _ _ _ _ _ (at-if .before .early .ensures) (at-if .if1 .taken) (c .refused-both .ensures)
 
 mode-of-requires : tie.Need-mode-of-requires
 mode-of-requires c κs = search early-mode
@@ -20,8 +20,8 @@ returns-2 c =
     let at-wipe-rooms = c .before .before .before .before .before .before .before .before .before .before .before .before in
     let at-run = at-wipe-rooms .before .before .before .before .before .before .before .before .before .before .before .before .before .before .before .before .before .before .before .before .before .before .before in
     let at-mode = at-run .before .before .before .before .before .before .before .before .before in
-    let kept = at-run .run-both .kept .1 .1 .1 in
-    both-run _ _ _ _ _ _ (search early-lends) (search early-mode) (at-mode .mode-of .ensures) (at-run .run-both .ensures) (at-wipe-rooms .wipe-rooms .ensures)
+    let kept = at-run .run-both .kept .1 .1 .1 .1 in
+    both-run _ _ _ _ _ _ _ (search early-lends) (search early-mode) (at-mode .mode-of .ensures) (at-run .run-both .ensures) (at-wipe-rooms .wipe-rooms .ensures)
     (kept .0) (kept .1 .0) (kept .1 .1 .0) (kept .1 .1 .1 .0) (kept .1 .1 .1 .1 .0) (kept .1 .1 .1 .1 .1 .0)
 
 pub map-json-spec : {M : Type 1} → statement M

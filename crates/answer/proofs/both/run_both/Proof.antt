@@ -5,7 +5,7 @@ use Rattle.answer.proofs.both.run_both.Statement.{statement}
 use Rattle.answer.proofs.both.run_both.Tie as tie
 
 returns : tie.Need-returns
-returns c = both-short (c .before .before .before .before .before .before .before .before .before .before .before .before .before .before .before .find .ensures) _ _ (c .before .if1 .taken) (c .refused-both .ensures)
+returns c = both-short (c .before .before .before .before .before .before .before .before .before .before .before .before .before .before .before .find .ensures) _ _ _ (c .before .if1 .taken) (c .refused-both .ensures)
 
 put-both-requires : tie.Need-put-both-requires
 put-both-requires c κs = run-writes (c .before .before .before .before .before .before .before .before .before .before .before .before .before .before .before .before .before .before .before .find .ensures) (c .before .before .before .before .before .if1 .left)

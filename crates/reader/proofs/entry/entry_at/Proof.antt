@@ -31,6 +31,9 @@ way-requires c κs = search lead-room
 record-requires : tie.Need-record-requires
 record-requires c κs = search lead-room
 
+numbered-requires : tie.Need-numbered-requires
+numbered-requires c κs = search lead-room
+
 returns : tie.Need-returns
 returns c = search entry-sorted
 
@@ -56,10 +59,13 @@ returns-8 : tie.Need-returns-8
 returns-8 c = search entry-sorted
 
 returns-9 : tie.Need-returns-9
-returns-9 c = search entry-none
+returns-9 c = search entry-sorted
 
 returns-10 : tie.Need-returns-10
-returns-10 c = search entry-cut
+returns-10 c = search entry-none
+
+returns-11 : tie.Need-returns-11
+returns-11 c = search entry-cut
 
 pub entry-at-spec : {M : Type 1} → statement M
 entry-at-spec =
@@ -86,6 +92,8 @@ entry-at-spec =
     (λ c. search needs)
     record-requires
     (λ c. search needs)
+    numbered-requires
+    (λ c. search needs)
     (λ c. search needs)
     returns
     returns-2
@@ -96,4 +104,5 @@ entry-at-spec =
     returns-7
     returns-8
     returns-9
-    returns-10)
+    returns-10
+    returns-11)

@@ -251,7 +251,7 @@ level-returns-3 t c = search level-ends
 parent-enter-requires : (t : ℕ) → parent-lts.Need-enter-requires (parent-cs t) (parent-at t) parent.Post
 parent-enter-requires t c κs =
     let at-entry = c .before .before .before .before .before .before .before .before .before .before .before .before .before in
-    at-entry .pre .1 .entering
+    at-entry .pre .1
 
 parent-same-length : (t : ℕ) → parent-lts.Need-same-length (parent-cs t) (parent-at t) parent.Post
 parent-same-length t c = search needs

@@ -13,25 +13,25 @@ abbrev filled : tie.After-report → tie.After-fill-all
 filled c = called c .before .before .before .before .before .before .before .before .before .before .before .before .before .before .before .before .before .before .before .before .before .before
 
 same-length : tie.Need-same-length
-same-length c = called c .aznifrem-map .kept .1 .1 .1 .0 ∙ filled c .fill-all .kept .0
+same-length c = called c .aznifrem-map .kept .1 .1 .1 .1 .0 ∙ filled c .fill-all .kept .0
 
 same-length-2 : tie.Need-same-length-2
-same-length-2 c = called c .aznifrem-map .kept .1 .1 .1 .1 .0 ∙ filled c .fill-all .kept .1 .0
+same-length-2 c = called c .aznifrem-map .kept .1 .1 .1 .1 .1 .0 ∙ filled c .fill-all .kept .1 .0
 
 same-length-3 : tie.Need-same-length-3
-same-length-3 c = called c .aznifrem-map .kept .1 .1 .1 .1 .1 .0 ∙ filled c .fill-all .kept .1 .1 .0
+same-length-3 c = called c .aznifrem-map .kept .1 .1 .1 .1 .1 .1 .0 ∙ filled c .fill-all .kept .1 .1 .0
 
 same-length-4 : tie.Need-same-length-4
-same-length-4 c = called c .aznifrem-map .kept .1 .1 .1 .1 .1 .1 .0 ∙ filled c .fill-all .kept .1 .1 .1 .0
+same-length-4 c = called c .aznifrem-map .kept .1 .1 .1 .1 .1 .1 .1 .0 ∙ filled c .fill-all .kept .1 .1 .1 .0
 
 same-length-5 : tie.Need-same-length-5
-same-length-5 c = called c .aznifrem-map .kept .1 .1 .1 .1 .1 .1 .1 .0 ∙ filled c .fill-all .kept .1 .1 .1 .1 .0
+same-length-5 c = called c .aznifrem-map .kept .1 .1 .1 .1 .1 .1 .1 .1 .0 ∙ filled c .fill-all .kept .1 .1 .1 .1 .0
 
 same-length-6 : tie.Need-same-length-6
-same-length-6 c = called c .aznifrem-map .kept .1 .1 .1 .1 .1 .1 .1 .1 .0 ∙ filled c .fill-all .kept .1 .1 .1 .1 .1 .0
+same-length-6 c = called c .aznifrem-map .kept .1 .1 .1 .1 .1 .1 .1 .1 .1 .0 ∙ filled c .fill-all .kept .1 .1 .1 .1 .1 .0
 
 same-length-7 : tie.Need-same-length-7
-same-length-7 c = called c .aznifrem-map .kept .1 .1 .1 .1 .1 .1 .1 .1 .1 .0 ∙ filled c .fill-all .kept .1 .1 .1 .1 .1 .1 .0
+same-length-7 c = called c .aznifrem-map .kept .1 .1 .1 .1 .1 .1 .1 .1 .1 .1 .0 ∙ filled c .fill-all .kept .1 .1 .1 .1 .1 .1 .0
 
 returns : tie.Need-returns
 returns c = told (filled c .fill-all .ensures) (called c .aznifrem-map .ensures)

@@ -1,4 +1,4 @@
--- `put_links`: three stores, one after the other. Assumes nothing.
+-- `put_links`: four stores, one after the other. Assumes nothing.
 use borrow.Author.Needs.{needs}
 use Rattle.tables.proofs.Links.{links-stored}
 use Rattle.tables.proofs.link.put_links.Statement.{statement}
@@ -11,6 +11,8 @@ pub put-links-spec : {M : Type 1} → statement M
 put-links-spec =
     tie.close
     (tie.spec
+    (λ c. search needs)
+    (λ c κs. search needs)
     (λ c. search needs)
     (λ c κs. search needs)
     (λ c. search needs)
