@@ -1,22 +1,20 @@
 -- Over the blocks of accepted bytes, and over the destinations of a block. Assumes nothing.
-use Prim.Native.Nat.{ℕ, zero, suc, _+_, _*_, _-_, _≤_, _<_}
+use Prim.Native.Nat.{ℕ, zero, suc, _+_, _-_, _≤_, _<_}
 use native.Mathlib.Omega.{arith}
 use native.Mathlib.Decide.{decLe}
 use mathlib.Core.Path.{_≡_, refl, sym, ap, ap₂, subst, _∙_}
 use mathlib.Core.Bool.{Bool, true, false, not}
 use mathlib.Core.List.{List, [], _∷_, _++_}
 use lib.Dec.{eqb, leb}
-use lib.ListN.{length, take, drop}
-use borrow.Author.Tests.{leb-false, eq-eqb, eqb-true, ne-eqb}
+use lib.ListN.{length, drop}
+use borrow.Author.Tests.{leb-false, eq-eqb, eqb-true}
 use Rattle.spec.specs.Lists.{if, keep}
-use Rattle.spec.specs.Search.{Found, nowhere, found, dests}
-use Rattle.spec.specs.Stacks.{entry as no-state}
+use Rattle.spec.specs.Search.{Found, dests}
 use Rattle.spec.specs.Blocks.{block, terminate, jump, jumpi, dynamic-jump, dynamic-jumpi}
 use Rattle.spec.specs.Ending.{Final}
-use Rattle.spec.specs.Entries.{absent}
 use Rattle.spec.specs.Forms.{announced}
 use Rattle.spec.specs.BadEntries.{Whole}
-use Rattle.spec.specs.Reader.{Item, a-head, a-block, a-way, a-record, no-item, ways, finals-in, addresses}
+use Rattle.spec.specs.Reader.{Item, a-head, a-block, a-way, a-record, no-item, ways, finals-in}
 use Rattle.spec.specs.Counting.{distinct}
 use Rattle.spec.specs.Follow.{starts-at, outgoing}
 use Rattle.laws.proofs.Branch.{both, if-true, if-false}
@@ -24,6 +22,8 @@ use Rattle.theorems.proofs.ReaderPlaces.{never}
 use Rattle.reader.specs.Shapes.{behindAt, entryAt, itemOf}
 use Rattle.reader.specs.Classes.{classOf}
 use Rattle.reader.specs.Walks.{walkAt, itemsFrom, Walking, over, here}
+use Rattle.reader.specs.declared.dest.Destination.{Destination}
+use Rattle.reader.specs.declared.dest.Destination.the-variants.{Missing as Nowhere, At}
 use Rattle.reader.specs.declared.entry.Entry.{Entry}
 use Rattle.reader.specs.declared.entry.Entry.the-variants.{Head, Terminate, Jump, Jumpi, DynamicJump, DynamicJumpi, Way, Record, Unknown, Wrong, Cut}
 use Rattle.reader.specs.declared.class.Class.the-variants.{Bad}
@@ -217,12 +217,12 @@ module _ {b : List ℕ} {from at : ℕ} (i : BlockFrom b from at) {r : Walk} (h 
 -- ---- destinations
 
 -- the ways out of out_of
-module _ {e : Entry} {t p n : ℕ} (q : e ≡ Way t p n) where
-  pub out-missing : t ≡ absent → Missing ≡ outOf e
-  out-missing z = rw q (sym (if-true (eqb t absent) Missing (Out-to t) (eq-eqb t absent z)))
+module _ {e : Entry} {d : Destination} {p n : ℕ} (q : e ≡ Way d p n) where
+  pub out-missing : d ≡ Nowhere → Missing ≡ outOf e
+  out-missing z = rw (q, z)
 
-  pub out-to : (t ≡ absent → ⊥) → Out-to t ≡ outOf e
-  out-to z = rw q (sym (if-false (eqb t absent) Missing (Out-to t) (ne-eqb t absent z)))
+  pub out-to : {t : ℕ} → d ≡ At t → Out-to t ≡ outOf e
+  out-to z = rw (q, z)
 
 abbrev OutIs : List Item → Item → Out → Type 0
 OutIs is i (Out-to t) = dests (ways 0 (i ∷ is)) ≡ t ∷ dests (ways 0 is)
@@ -230,12 +230,9 @@ OutIs is i Missing = dests (ways 0 (i ∷ is)) ≡ dests (ways 0 is)
 OutIs is i No = dests (ways 0 (i ∷ is)) ≡ []
 
 out-is : (b : List ℕ) (is : List Item) (e : Entry) → OutIs is (itemOf b e) (outOf e)
-unfolding ways if
-out-is b is (Way t p n) = go (eqb t absent)
-  where
-    go : (c : Bool) → OutIs is (a-way (if c nowhere (found t no-state)) (addresses (take (2 * n) (drop p b)))) (if c Missing (Out-to t))
-    go true = refl
-    go false = refl
+unfolding ways
+out-is b is (Way Nowhere p n) = refl
+out-is b is (Way (At t) p n) = refl
 out-is b is (Terminate s x ok) = refl
 out-is b is (Jump s x t) = refl
 out-is b is (Jumpi s x t f) = refl

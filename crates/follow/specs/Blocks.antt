@@ -2,15 +2,13 @@
 use Prim.Native.Nat.{ℕ, zero, suc, _+_, _*_, _≤_, _<_}
 use mathlib.Core.Path.{_≡_}
 use mathlib.Core.List.{List, [], _∷_, _++_}
-use lib.Dec.{eqb}
-use Rattle.spec.specs.Lists.{if}
 use Rattle.spec.specs.Search.{dests}
 use Rattle.spec.specs.Ending.{Final}
-use Rattle.spec.specs.Entries.{absent}
 use Rattle.spec.specs.Reader.{ways, finals-in}
 use Rattle.spec.specs.Counting.{distinct}
 use Rattle.spec.specs.Follow.{starts-at, outgoing}
 use Rattle.reader.specs.Walks.{itemsFrom, Walking}
+use Rattle.reader.specs.declared.dest.Destination.the-variants.{Missing as Nowhere, At}
 use Rattle.reader.specs.declared.entry.Entry.{Entry}
 use Rattle.reader.specs.declared.entry.Entry.the-variants.{Head, Terminate, Jump, Jumpi, DynamicJump, DynamicJumpi, Way, Record, Unknown, Wrong, Cut}
 use Rattle.follow.specs.declared.block.Named.{Named}
@@ -86,7 +84,8 @@ nextBlock b at Blocks-over = finalsAt b at ≡ []
 -- ---- destinations
 
 abbrev pub outOf : Entry → Out
-outOf (Way to path n) = if (eqb to absent) Missing (Out-to to)
+outOf (Way Nowhere path n) = Missing
+outOf (Way (At t) path n) = Out-to t
 outOf (Terminate s e ok) = No
 outOf (Jump s e to) = No
 outOf (Jumpi s e t f) = No

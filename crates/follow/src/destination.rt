@@ -1,6 +1,6 @@
 // A block's destinations, one after the other: its static sides, then those of its 7s, "missing ones left out, in the answer's order".
 use crate::block::Named;
-use layout::MISSING;
+use reader::Destination;
 use reader::Entry;
 use reader::Walk;
 use reader::next;
@@ -33,12 +33,10 @@ fn out_of(e: Entry) -> Out
     ensures { λ r. ⌜ r ≡ outOf e ⌝ }
 {
     match e {
-        Entry::Way { to, .. } => {
-            if to == MISSING {
-                return Out::Missing;
-            }
-            Out::To(to)
-        }
+        Entry::Way { to, .. } => match to {
+            Destination::Missing => Out::Missing,
+            Destination::At(t) => Out::To(t),
+        },
         Entry::Head { .. } => Out::No,
         Entry::Terminate { .. } => Out::No,
         Entry::Jump { .. } => Out::No,

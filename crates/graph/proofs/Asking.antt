@@ -6,8 +6,8 @@ use native.Mathlib.Nat.{add-zero}
 use native.Mathlib.Omega.{arith}
 use lib.ListN.{length}
 use Rattle.spec.specs.Lists.{lastOf}
-use Rattle.spec.specs.Entries.{destination}
 use Rattle.lent.specs.Bytes.{numAt}
+use Rattle.layout.specs.Marks.{toNumber}
 use Rattle.layout.specs.Records.{recordPlace, R-ENDS, startAt, endOf}
 use Rattle.layout.specs.Rows.{tagAt}
 use Rattle.tables.specs.Records.{pathAt, recAt}
@@ -72,14 +72,14 @@ module _ {mode : ℕ} {code s : List ℕ} {room n m : ℕ} {w r q w₁ r₁ : Li
     room = omega (arith, f .rows i h .inR, e .long);
     place = rw (o .place) (x .start);
     witness = rw (o .witness) (x .path (lastOf (recAt r q s room i .path)) (last-in (recAt r q s room i .path) (x .some)));
-    to = λ ne. let l = leading o ne in rw (l .2) (x .to (destination (recAt r q s room i .to)) (dest-in (recAt r q s room i .to) (l .1)));
+    to = λ ne. let l = leading o ne in rw (l .2) (x .to (toNumber (recAt r q s room i .to)) (dest-in (recAt r q s room i .to) (l .1)));
   }
 
   asks : Prunes n m w₁ r₁
   asks = record {
     lent = record { short = f .lent .short; room = omega (arith, f .lent .room, t .long) };
     within = blocks-within w₁ n (block-sides f t);
-    rows = record { few = f .few; each = edge-row };
+    rows = record { few = f .few; away = omega (arith, f .lent .short); each = edge-row };
   }
 
 pub prunes-asked : {n m : ℕ} {w r q w₁ r₁ : List ℕ} → Graphs n m w r q → Settled n m w r w₁ → Rewrote m w₁ r q r₁ → Prunes n m w₁ r₁

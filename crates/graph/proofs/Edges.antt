@@ -13,11 +13,11 @@ use Rattle.spec.specs.Blocks.{Kind, terminate, jump, jumpi, dynamic-jump, dynam
 use Rattle.spec.specs.Reach.{Edge, edge}
 use Rattle.spec.specs.Search.{Node, Found, nowhere, found, Rec, is-nowhere, dest, dests}
 use Rattle.spec.specs.Ending.{Final, all-are, merged, ended, entries-of, finals, followed}
-use Rattle.spec.specs.Entries.{destination, absent}
 use Rattle.spec.specs.Rooms.{longest}
 use Rattle.laws.proofs.Branch.{both}
 use Rattle.laws.proofs.Members.{In, here, in-only, in-keep, keep-in, in-gather, in-map}
 use Rattle.layout.specs.Edges.{keyAt, toAt}
+use Rattle.layout.specs.Marks.{NOWHERE, toNumber}
 use Rattle.layout.specs.Rows.{tagAt, typeAt}
 use Rattle.layout.specs.declared.row.BlockType.{BlockType}
 use Rattle.initial.specs.Rows.{kindOf, blockAt, blocksAt}
@@ -32,11 +32,11 @@ use Rattle.graph.proofs.Rewriting.{to-dynamic, to-other}
 
 -- ---- destinations
 
-pub dest-in : (f : Found) → (destination f ≡ absent → ⊥) → In (destination f) (dest f)
+pub dest-in : (f : Found) → (toNumber f ≡ NOWHERE → ⊥) → In (toNumber f) (dest f)
 dest-in nowhere h = absurd (h refl)
 dest-in (found t s) h = here
 
-pub dest-is : (f : Found) {t : ℕ} → In t (dest f) → t ≡ destination f
+pub dest-is : (f : Found) {t : ℕ} → In t (dest f) → t ≡ toNumber f
 dest-is nowhere i = elim i [ ]
 dest-is (found u s) i = in-only i
 
@@ -119,20 +119,20 @@ follow-in a k {x} e i j = rw e (gather-in (λ (y : Rec). map (edge a (lastOf (y 
 pub record RowOf (w r : List ℕ) (i : ℕ) (x : Rec) : Type 0 where
   pub place : keyAt r 0 i ≡ x .start
   pub witness : keyAt r 4 i ≡ lastOf (x .path)
-  pub to : toAt r i ≡ edgeTo (tagAt w (x .start)) (destination (x .to))
+  pub to : toAt r i ≡ edgeTo (tagAt w (x .start)) (toNumber (x .to))
 
 -- a row that leads on is of a DynamicJump, and of a record with a destination
-pub leading : {w r : List ℕ} {i : ℕ} {x : Rec} → RowOf w r i x → (toAt r i ≡ absent → ⊥) → (tagAt w (x .start) ≡ 5) × (destination (x .to) ≡ absent → ⊥) × (toAt r i ≡ destination (x .to))
+pub leading : {w r : List ℕ} {i : ℕ} {x : Rec} → RowOf w r i x → (toAt r i ≡ NOWHERE → ⊥) → (tagAt w (x .start) ≡ 5) × (toNumber (x .to) ≡ NOWHERE → ⊥) × (toAt r i ≡ toNumber (x .to))
 leading {w} {r} {i} {x} o ne = split (ℕ-discrete (tagAt w (x .start)) 5)
   where
-    split : Dec (tagAt w (x .start) ≡ 5) → (tagAt w (x .start) ≡ 5) × (destination (x .to) ≡ absent → ⊥) × (toAt r i ≡ destination (x .to))
-    split (yes e) = let s = o .to ∙ to-dynamic (tagAt w (x .start)) (destination (x .to)) e in (e, λ z. ne (s ∙ z), s)
-    split (no e) = absurd (ne (o .to ∙ to-other (tagAt w (x .start)) (destination (x .to)) e))
+    split : Dec (tagAt w (x .start) ≡ 5) → (tagAt w (x .start) ≡ 5) × (toNumber (x .to) ≡ NOWHERE → ⊥) × (toAt r i ≡ toNumber (x .to))
+    split (yes e) = let s = o .to ∙ to-dynamic (tagAt w (x .start)) (toNumber (x .to)) e in (e, λ z. ne (s ∙ z), s)
+    split (no e) = absurd (ne (o .to ∙ to-other (tagAt w (x .start)) (toNumber (x .to)) e))
 
 edge-is : (d : Edge) {p v t : ℕ} → d .place ≡ p → d .witness ≡ v → d .to ≡ t → edge p v t ≡ d
 edge-is d e f g = rw (← e, ← f, ← g)
 
-row-edge : (r : List ℕ) (i : ℕ) (d : Edge) → d .place ≡ keyAt r 0 i → d .witness ≡ keyAt r 4 i → d .to ≡ toAt r i → (toAt r i ≡ absent → ⊥) → In d (edgeAt r i)
+row-edge : (r : List ℕ) (i : ℕ) (d : Edge) → d .place ≡ keyAt r 0 i → d .witness ≡ keyAt r 4 i → d .to ≡ toAt r i → (toAt r i ≡ NOWHERE → ⊥) → In d (edgeAt r i)
 row-edge r i d p v t ne = subst (λ (h : Edge). In h (edgeAt r i)) (edge-is d p v t) (edge-in r i ne)
 
 module _ (w r : List ℕ) (n m : ℕ) (ns : List Node) (recs : List Rec) (short : n ≤ longest)
@@ -150,8 +150,8 @@ module _ (w r : List ℕ) (n m : ℕ) (ns : List Node) (recs : List Rec) (short 
       let k = in-map (λ (f : Final). f .block) (finals ns recs) (subst (λ (bs : List Block). In (blockAt w a) bs) b at) in
       let start : k .0 .block .start ≡ a = sym (ap (λ (c : Block). c .start) (k .2)) in
       let kind : k .0 .block .kind ≡ dynamic-jump = sym (ap (λ (c : Block). c .kind) (k .2)) ∙ kind-dynamic-jump (typeAt w a) (l .0) in
-      let to : In (destination (x .0 .to)) (dest (x .0 .to)) = dest-in (x .0 .to) (l .1) in
-      let is : edge (k .0 .block .start) (lastOf (x .0 .path)) (destination (x .0 .to)) ≡ d =
+      let to : In (toNumber (x .0 .to)) (dest (x .0 .to)) = dest-in (x .0 .to) (l .1) in
+      let is : edge (k .0 .block .start) (lastOf (x .0 .path)) (toNumber (x .0 .to)) ≡ d =
       edge-is d (e .2 .place ∙ x .2 .place ∙ sym start) (e .2 .witness ∙ x .2 .witness) (e .2 .to ∙ l .2) in
       gather-in follows (k .1)
       (subst (λ (c : Edge). In c (followed (k .0 .block .start) (k .0 .block .kind) (k .0 .entries))) is
@@ -169,7 +169,7 @@ module _ (w r : List ℕ) (n m : ℕ) (ns : List Node) (recs : List Rec) (short 
       let i = finds (v .by) (c .1) in
       let t = in-map (edge (f .block .start) (lastOf (v .by .path))) (dest (v .by .to)) (v .leads) in
       let to : toAt r (i .0) ≡ t .0 =
-      i .2 .to ∙ to-dynamic (tagAt w (v .by .start)) (destination (v .by .to)) (rw (← c .0) tag) ∙ sym (dest-is (v .by .to) (t .1)) in
+      i .2 .to ∙ to-dynamic (tagAt w (v .by .start)) (toNumber (v .by .to)) (rw (← c .0) tag) ∙ sym (dest-is (v .by .to) (t .1)) in
       edges-in r m (i .0) (i .1)
       (row-edge r (i .0) d (ap (λ (h : Edge). h .place) (t .2) ∙ c .0 ∙ sym (i .2 .place)) (ap (λ (h : Edge). h .witness) (t .2) ∙ sym (i .2 .witness))
       (ap (λ (h : Edge). h .to) (t .2) ∙ sym to) (λ z. omega (arith, lie (v .by) (c .1) .1 (t .0) (t .1), to, z)))

@@ -10,9 +10,9 @@ use Rattle.spec.specs.Lists.{if, keep}
 use Rattle.spec.specs.Blocks.{Kind, terminate, jump, jumpi, dynamic-jump, dynamic-jumpi, Block, with-kind}
 use Rattle.spec.specs.Search.{Node, Rec, dest, dests}
 use Rattle.spec.specs.Ending.{Final, final, all-are, merged, ended, entries-of, finals}
-use Rattle.spec.specs.Entries.{absent}
 use Rattle.spec.specs.Rooms.{longest}
 use Rattle.laws.proofs.Members.{In, here, gather-append, in-gather, in-keep}
+use Rattle.layout.specs.Marks.{NOWHERE}
 use Rattle.layout.specs.Records.{startAt, toAt}
 use Rattle.tables.specs.Records.{foundAt, recAt, recsOf}
 use Rattle.tables.proofs.Counted.{dest-if}
@@ -65,21 +65,21 @@ keep-append {A} f (x ∷ xs) ys = rw (keep-append f xs ys) (go (f x))
 
 module _ (r q s : List ℕ) (room : ℕ) where
   -- the destinations of one record, as it stands in R
-  pub dest-at : (i : ℕ) → dest (foundAt r s room i) ≡ if (eqb (toAt r i) absent) [] (toAt r i ∷ [])
+  pub dest-at : (i : ℕ) → dest (foundAt r s room i) ≡ if (eqb (toAt r i) NOWHERE) [] (toAt r i ∷ [])
   unfolding foundAt
-  dest-at i = dest-if (eqb (toAt r i) absent) (toAt r i) _
+  dest-at i = dest-if (eqb (toAt r i) NOWHERE) (toAt r i) _
 
-  last-dests : (a i : ℕ) → dests (entries-of a (recAt r q s room i ∷ [])) ≡ if (eqb a (startAt r i)) (if (eqb (toAt r i) absent) [] (toAt r i ∷ [])) []
+  last-dests : (a i : ℕ) → dests (entries-of a (recAt r q s room i ∷ [])) ≡ if (eqb a (startAt r i)) (if (eqb (toAt r i) NOWHERE) [] (toAt r i ∷ [])) []
   unfolding recAt if
   last-dests a i = go (eqb a (startAt r i))
     where
-      go : (b : Bool) → dests (if b (recAt r q s room i ∷ []) []) ≡ if b (if (eqb (toAt r i) absent) [] (toAt r i ∷ [])) []
+      go : (b : Bool) → dests (if b (recAt r q s room i ∷ []) []) ≡ if b (if (eqb (toAt r i) NOWHERE) [] (toAt r i ∷ [])) []
       go true = append-nil (dest (foundAt r s room i)) ∙ dest-at i
       go false = refl
 
-  step-one : (a i : ℕ) (ds : List ℕ) → stepped r i a (oneOf ds) ≡ oneOf (ds ++ if (eqb a (startAt r i)) (if (eqb (toAt r i) absent) [] (toAt r i ∷ [])) [])
+  step-one : (a i : ℕ) (ds : List ℕ) → stepped r i a (oneOf ds) ≡ oneOf (ds ++ if (eqb a (startAt r i)) (if (eqb (toAt r i) NOWHERE) [] (toAt r i ∷ [])) [])
   unfolding stepped if
-  step-one a i ds = go (eqb a (startAt r i)) (eqb (toAt r i) absent)
+  step-one a i ds = go (eqb a (startAt r i)) (eqb (toAt r i) NOWHERE)
     where
       go : (b c : Bool) → if b (if c (oneOf ds) (joined (oneOf ds) (toAt r i))) (oneOf ds) ≡ oneOf (ds ++ if b (if c [] (toAt r i ∷ [])) [])
       go true true = sym (ap oneOf (append-nil ds))

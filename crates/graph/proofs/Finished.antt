@@ -99,6 +99,7 @@ module _ {mode : ℕ} {code s : List ℕ} {room m : ℕ} {w r q w₁ r₁ w₂ r
         places = rw long (chains-kept r₂ w₂ r₂ (p .places) (λ i h. front i h 0 (omega arith)) (λ x h. refl) (λ i h. refl));
         lent = record { short = f .lent .short; room = omega (arith, f .lent .room, t .long, p .long) };
         few = rw long (omega (arith, f .few));
+        away = omega (arith, f .lent .short);
       }
 
 -- ---- the bytes, whatever code it is

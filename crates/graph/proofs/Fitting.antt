@@ -9,9 +9,9 @@ use borrow.Author.Tests.{eq-eqb}
 use Rattle.spec.specs.Opcodes.{in-mode}
 use Rattle.spec.specs.Search.{Node, Rec, dest, search}
 use Rattle.spec.specs.Answer.{prepared}
-use Rattle.spec.specs.Entries.{absent}
 use Rattle.laws.proofs.Branch.{if-true}
 use Rattle.laws.proofs.Members.{In}
+use Rattle.layout.specs.Marks.{NOWHERE}
 use Rattle.layout.specs.Records.{toAt}
 use Rattle.theorems.proofs.Counts.{lawful}
 use Rattle.theorems.proofs.Passing.{record-passes}
@@ -30,7 +30,7 @@ use Rattle.graph.proofs.Edges.{dest-is}
 goes-within : (n room : ℕ) (r q s : List ℕ) (i : ℕ) → Goes n room r s i → (t : ℕ) → In t (dest (recAt r q s room i .to)) → t ≤ n
 unfolding recAt
 goes-within n room r q s i (leads-nowhere e k) t j =
-    elim (subst (In t) (dest-at r q s room i ∙ if-true (eqb (toAt r i) absent) [] (toAt r i ∷ []) (eq-eqb (toAt r i) absent e)) j) [ ]
+    elim (subst (In t) (dest-at r q s room i ∙ if-true (eqb (toAt r i) NOWHERE) [] (toAt r i ∷ []) (eq-eqb (toAt r i) NOWHERE e)) j) [ ]
 goes-within n room r q s i (leads h k) t j = omega (arith, dest-is (recAt r q s room i .to) j, rec-destination r q s room i)
 
 pub search-fits : (mode limit : ℕ) (code : List ℕ) {n buckets : ℕ} {k : Rooms} {c : Counts} {w r q s : List ℕ} → Tables n buckets k (mem w r q s) c → length code ≡ n

@@ -8,11 +8,11 @@ use native.Mathlib.Omega.{arith}
 use lib.Dec.{eqb}
 use borrow.Author.Tests.{eq-eqb, ne-eqb}
 use Rattle.spec.specs.Lists.{if, little}
-use Rattle.spec.specs.Entries.{absent}
 use Rattle.laws.proofs.Branch.{both, if-true, if-false}
 use Rattle.lent.specs.Bytes.{Holds, Stored}
 use Rattle.lent.proofs.Stored.{kept-take, kept-num, read-back, kept-drop}
 use Rattle.layout.specs.Fields.{NOTE, noteAt}
+use Rattle.layout.specs.Marks.{NOWHERE}
 use Rattle.layout.specs.Parts.{rowsEnd, fieldsPlace, listPlace}
 use Rattle.layout.specs.Records.{recordPlace, R-TO, startAt, toAt}
 use Rattle.reachable.specs.Contracts.{Room, Begun}
@@ -42,14 +42,14 @@ module _ (old to : ℕ) where
 
 -- ---- a record is noted
 
-pub note-none : {n i to : ℕ} {w r : List ℕ} → Holds 2 r (recordPlace i + R-TO) to → to ≡ absent → NotedRow n w r i w
+pub note-none : {n i to : ℕ} {w r : List ℕ} → Holds 2 r (recordPlace i + R-TO) to → to ≡ NOWHERE → NotedRow n w r i w
 unfolding stepped
 note-none {n} {i} {w} {r} h e = record {
-  notes = λ a _. sym (both (λ (v : ℕ). v ≡ noteAt w n a) (eqb a (startAt r i)) (λ _. if-true _ _ _ (eq-eqb (toAt r i) absent (sym (h .is) ∙ e))) (λ _. refl));
+  notes = λ a _. sym (both (λ (v : ℕ). v ≡ noteAt w n a) (eqb a (startAt r i)) (λ _. if-true _ _ _ (eq-eqb (toAt r i) NOWHERE (sym (h .is) ∙ e))) (λ _. refl));
   kept = record { rows = refl; beyond = refl; long = refl };
 }
 
-pub note-one : {n i to a old v : ℕ} {w r w′ : List ℕ} → Starts n r i → Holds 2 r (recordPlace i + R-TO) to → (to ≡ absent → ⊥) → Holds 2 r (recordPlace i) a
+pub note-one : {n i to a old v : ℕ} {w r w′ : List ℕ} → Starts n r i → Holds 2 r (recordPlace i + R-TO) to → (to ≡ NOWHERE → ⊥) → Holds 2 r (recordPlace i) a
     → Holds 4 w (fieldsPlace n a + NOTE) old → v ≡ joined old to → Stored 4 w (fieldsPlace n a + NOTE) (little 4 v) w′ → NotedRow n w r i w′
 unfolding stepped
 note-one {n} {i} {to} {a} {old} {v} {w} {r} {w′} s t ne h o e p = record {
@@ -57,14 +57,14 @@ note-one {n} {i} {to} {a} {old} {v} {w} {r} {w′} s t ne h o e p = record {
   kept = record { rows = kept-take p (rowsEnd n) (omega arith); beyond = kept-drop p (listPlace n) (omega (arith, h .is, s .start)); long = p .kept };
 }
   where
-    there : toAt r i ≡ absent → ⊥
+    there : toAt r i ≡ NOWHERE → ⊥
     there z = ne (t .is ∙ z)
 
-    split : (x : ℕ) → Dec (x ≡ a) → noteAt w′ n x ≡ if (eqb x (startAt r i)) (if (eqb (toAt r i) absent) (noteAt w n x) (joined (noteAt w n x) (toAt r i))) (noteAt w n x)
+    split : (x : ℕ) → Dec (x ≡ a) → noteAt w′ n x ≡ if (eqb x (startAt r i)) (if (eqb (toAt r i) NOWHERE) (noteAt w n x) (joined (noteAt w n x) (toAt r i))) (noteAt w n x)
     split x (yes q) =
         rw (
-          if-true (eqb x (startAt r i)) (if (eqb (toAt r i) absent) (noteAt w n x) (joined (noteAt w n x) (toAt r i))) (noteAt w n x) (eq-eqb x (startAt r i) (q ∙ h .is)),
-          if-false (eqb (toAt r i) absent) (noteAt w n x) (joined (noteAt w n x) (toAt r i)) (ne-eqb (toAt r i) absent there),
+          if-true (eqb x (startAt r i)) (if (eqb (toAt r i) NOWHERE) (noteAt w n x) (joined (noteAt w n x) (toAt r i))) (noteAt w n x) (eq-eqb x (startAt r i) (q ∙ h .is)),
+          if-false (eqb (toAt r i) NOWHERE) (noteAt w n x) (joined (noteAt w n x) (toAt r i)) (ne-eqb (toAt r i) NOWHERE there),
           q,
           ← o .is,
           ← t .is,
@@ -72,7 +72,7 @@ note-one {n} {i} {to} {a} {old} {v} {w} {r} {w′} s t ne h o e p = record {
         )
         (read-back p (rw e (joined-small old to (o .small) (t .small))))
     split x (no q) =
-        rw (if-false (eqb x (startAt r i)) (if (eqb (toAt r i) absent) (noteAt w n x) (joined (noteAt w n x) (toAt r i))) (noteAt w n x) (ne-eqb x (startAt r i) (λ z. q (z ∙ sym (h .is)))))
+        rw (if-false (eqb x (startAt r i)) (if (eqb (toAt r i) NOWHERE) (noteAt w n x) (joined (noteAt w n x) (toAt r i))) (noteAt w n x) (ne-eqb x (startAt r i) (λ z. q (z ∙ sym (h .is)))))
         (kept-num p 4 (fieldsPlace n x + NOTE) (λ l. omega arith))
 
 -- ---- all records

@@ -14,9 +14,9 @@ use borrow.Author.Tests.{eqb-true}
 use Rattle.spec.specs.Lists.{if, lastOf}
 use Rattle.spec.specs.Stacks.{Stack}
 use Rattle.spec.specs.Search.{nowhere, found, Rec}
-use Rattle.spec.specs.Entries.{destination, absent}
 use Rattle.laws.proofs.Members.{In, here, there, in-right, in-cases, in-only}
 use Rattle.lent.specs.Bytes.{numAt}
+use Rattle.layout.specs.Marks.{NOWHERE, toNumber}
 use Rattle.layout.specs.Records.{toAt, endOf}
 use Rattle.tables.specs.Addrs.{addrs}
 use Rattle.tables.specs.Records.{pathAt, foundAt, recAt, recsOf}
@@ -60,14 +60,14 @@ module _ (r q s : List ℕ) (room : ℕ) where
 
   -- ---- what the row says
 
-  destination-if : (b : Bool) (t : ℕ) (k : Stack) → (b ≡ true → t ≡ absent) → destination (if b nowhere (found t k)) ≡ t
+  destination-if : (b : Bool) (t : ℕ) (k : Stack) → (b ≡ true → t ≡ NOWHERE) → toNumber (if b nowhere (found t k)) ≡ t
   unfolding if
   destination-if true t k h = sym (h refl)
   destination-if false t k h = refl
 
-  pub rec-destination : (i : ℕ) → destination (recAt r q s room i .to) ≡ toAt r i
+  pub rec-destination : (i : ℕ) → toNumber (recAt r q s room i .to) ≡ toAt r i
   unfolding recAt foundAt
-  rec-destination i = destination-if (eqb (toAt r i) absent) (toAt r i) _ (eqb-true _ _)
+  rec-destination i = destination-if (eqb (toAt r i) NOWHERE) (toAt r i) _ (eqb-true _ _)
 
 -- ---- the last address of a path
 

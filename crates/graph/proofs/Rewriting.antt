@@ -7,13 +7,13 @@ use native.Mathlib.Omega.{arith}
 use lib.ListN.{length, take, drop}
 use borrow.Author.Tests.{eq-eqb, ne-eqb}
 use Rattle.spec.specs.Lists.{little}
-use Rattle.spec.specs.Entries.{absent}
 use Rattle.laws.proofs.Branch.{if-true, if-false}
 use Rattle.lent.specs.Bytes.{numAt, Holds, Stored}
 use Rattle.lent.proofs.Parts.{drop-more, part-prefix, part-suffix}
 use Rattle.lent.proofs.Numbers.{num-prefix, num-suffix}
 use Rattle.lent.proofs.Stored.{kept-take, kept-drop, kept-num, read-back, kept-part}
 use Rattle.layout.specs.Edges.{E-TO, E-WITNESS, E-OWN, E-ENDS}
+use Rattle.layout.specs.Marks.{NOWHERE}
 use Rattle.layout.specs.Parts.{rowPlace}
 use Rattle.layout.specs.Records.{RECORD, recordPlace, R-TO, R-ENDS, startAt}
 use Rattle.layout.specs.Rows.{tagAt}
@@ -27,7 +27,7 @@ module _ (kind to : ℕ) where
   unfolding edgeTo
   to-dynamic e = if-true _ _ _ (eq-eqb kind 5 e)
 
-  pub to-other : (kind ≡ 5 → ⊥) → edgeTo kind to ≡ absent
+  pub to-other : (kind ≡ 5 → ⊥) → edgeTo kind to ≡ NOWHERE
   unfolding edgeTo
   to-other h = if-false _ _ _ (ne-eqb kind 5 h)
 
@@ -35,7 +35,7 @@ module _ {a to kind : ℕ} {w : List ℕ} (k : Holds 1 w (rowPlace a) kind) wher
   pub edge-dynamic : to < 65536 → kind ≡ 5 → EdgeIs w a to to
   edge-dynamic h e = record { is = sym (to-dynamic (tagAt w a) to (sym (k .is) ∙ e)); small = h }
 
-  pub edge-other : (kind ≡ 5 → ⊥) → EdgeIs w a to absent
+  pub edge-other : (kind ≡ 5 → ⊥) → EdgeIs w a to NOWHERE
   edge-other ne = record { is = sym (to-other (tagAt w a) to (λ e. ne (k .is ∙ e))); small = omega arith }
 
 -- ---- one record

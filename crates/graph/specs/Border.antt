@@ -9,10 +9,10 @@ use Rattle.spec.specs.Reach.{closure}
 use Rattle.spec.specs.Stacks.{Stack}
 use Rattle.spec.specs.Search.{Rec, found}
 use Rattle.spec.specs.Ending.{Final, finals, final-edges}
-use Rattle.spec.specs.Entries.{destination}
 use Rattle.spec.specs.Answer.{prepared}
 use Rattle.lent.specs.Bytes.{numAt}
 use Rattle.layout.specs.Edges.{E-WITNESS, E-OWN, endAt}
+use Rattle.layout.specs.Marks.{NOWHERE, toNumber}
 use Rattle.layout.specs.Records.{RECORD, recordPlace, energyAt}
 use Rattle.initial.specs.Rows.{blocksAt}
 use Rattle.tables.specs.Addrs.{addrs}
@@ -23,7 +23,7 @@ use Rattle.reachable.specs.Pruning.{Chains}
 -- R after the rewriting: row i of m, against the record x
 pub record EdgeOf (n : ℕ) (w r q : List ℕ) (i : ℕ) (x : Rec) : Type 0 where
   pub start : numAt 2 r (recordPlace i) ≡ x .start
-  pub to : numAt 2 r (recordPlace i + E-OWN) ≡ destination (x .to)
+  pub to : numAt 2 r (recordPlace i + E-OWN) ≡ toNumber (x .to)
   pub last : numAt 2 r (recordPlace i + E-WITNESS) ≡ lastOf (x .path)
   pub path : addrs q (endAt r i) (endAt r (suc i) - endAt r i) ≡ x .path
   pub energy : energyAt r i ≡ x .energy
@@ -41,3 +41,4 @@ pub record Finished (mode : ℕ) (code : List ℕ) (recs : List Rec) (w r q : Li
   pub places : Chains (length code) (length recs) 0 r w r 0
   pub lent : Room (length code) w
   pub few : length recs ≤ 2 ^ 30
+  pub away : length code < NOWHERE

@@ -7,8 +7,8 @@ use lib.Dec.{eqb, leb}
 use lib.ListN.{take, drop}
 use Rattle.spec.specs.Lists.{if}
 use Rattle.spec.specs.Blocks.{Kind, terminate, jump, jumpi, dynamic-jump, dynamic-jumpi, Block, with-kind}
-use Rattle.spec.specs.Entries.{absent}
 use Rattle.lent.specs.Bytes.{numAt}
+use Rattle.layout.specs.Marks.{NOWHERE}
 use Rattle.layout.specs.Records.{startAt, toAt}
 use Rattle.layout.specs.Parts.{ROW, rowPlace}
 use Rattle.layout.specs.Rows.{END, POSITION, typed, tagAt, headOf}
@@ -22,7 +22,7 @@ joined old to = if (eqb old 0) (to + 1) (if (eqb old (to + 1)) old several)
 
 -- the note of a, with record i more
 unfoldable pub stepped : List ℕ → ℕ → ℕ → ℕ → ℕ
-stepped r i a old = if (eqb a (startAt r i)) (if (eqb (toAt r i) absent) old (joined old (toAt r i))) old
+stepped r i a old = if (eqb a (startAt r i)) (if (eqb (toAt r i) NOWHERE) old (joined old (toAt r i))) old
 
 -- after the first m records
 unfoldable pub noteOf : List ℕ → ℕ → ℕ → ℕ
@@ -55,4 +55,4 @@ mergedRow n note w a =
 
 -- the destination that a row of edges has: the record's, if its block is still a DynamicJump
 unfoldable pub edgeTo : ℕ → ℕ → ℕ
-edgeTo kind to = if (eqb kind 5) to absent
+edgeTo kind to = if (eqb kind 5) to NOWHERE

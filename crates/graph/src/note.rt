@@ -1,6 +1,6 @@
 // The note of each address, among its fields of others in W: the one destination of its records and 1 more, 0 for none, SEVERAL for more.
 // "A DynamicJump whose entries share one target becomes a Jump."
-use layout::MISSING;
+use layout::NOWHERE;
 use layout::field::NOTE;
 use layout::record::RECORD;
 use layout::record::TO;
@@ -37,7 +37,7 @@ fn note(w: &mut [u8], n: usize, r: &[u8], i: usize)
     ensures { λ _. ⌜ NotedRow n (now (w .entry)) (now (r .entry)) i (now (w .exit)) ⌝ }
 {
     let to = get16(r, RECORD * i + TO);
-    if to == MISSING {
+    if to == NOWHERE {
         return;
     }
     let a = get16(r, RECORD * i);

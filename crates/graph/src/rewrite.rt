@@ -1,7 +1,7 @@
 // The records become rows of edges, in place: start, destination of the edge, the path's last block, the record's own destination, room for two links, and
 // the end of the path.
 // "Pruning follows a dynamic entry only if its path's last block is reached too"
-use layout::MISSING;
+use layout::NOWHERE;
 use layout::edge;
 use layout::record;
 use layout::record::RECORD;
@@ -66,5 +66,5 @@ fn edge_to(w: &[u8], a: usize, to: usize) -> usize
     if get8(w, ROW * a) == DYNAMIC_JUMP {
         return to;
     }
-    MISSING
+    NOWHERE
 }

@@ -15,7 +15,7 @@ use Rattle.initial.specs.Turn.{clipped, rest, ahead}
 use Rattle.initial.specs.declared.turn.Mode.{Mode}
 use Rattle.initial.specs.declared.turn.Mode.the-variants.{Opened, Waiting, Ended}
 
--- ---- what the callers of the whole lend: "code over 24,576 bytes" is refused, and W short of "64 × code length + 256 bytes"
+-- ---- what the callers of the whole lend: over 49,152 bytes of code are refused, and W short of "64 × code length + 256 bytes"
 
 pub record Lent (code w : List ℕ) : Type 0 where
   pub short : length code ≤ longest

@@ -12,6 +12,7 @@ use Rattle.spec.specs.Lists.{if, little}
 use Rattle.spec.specs.Opcodes.{Rules, in-mode}
 use Rattle.spec.specs.Rooms.{longest, work-need}
 use Rattle.spec.specs.Entries.{Map}
+use Rattle.spec.specs.Forms.{wide-in}
 use Rattle.spec.specs.Reader.{Reading as Said, holds, bad, read}
 use Rattle.spec.specs.Inspector.{fault-of, PathEntry, path-entries, Inspection, refused, bad-entry, not-right, accepted, or-later, looks-at, first-wrong, inspect, numberOf, valueOf, place-after, work-after}
 use Rattle.laws.proofs.Branch.{both, if-true, if-false}
@@ -178,7 +179,7 @@ module _ (mode : ℕ) (code map w place : List ℕ) where
             found-as = k .is ∙ ap (λ (x : ℕ). findingOf (lookedFrom x map code 0 0)) mode-is
 
             looked-only : Only (lookedFrom mode map code 0 0)
-            looked-only = only (in-mode mode) code (mapIn map) (path-entries 0 (from map 0))
+            looked-only = only (in-mode mode) code (mapIn map) (path-entries (wide-in map) 0 (from map 0))
 
             pub inspect-right : r ≡ Right → InspectedAs mode code map w place w₁ place (record { number = 0; value = 0 })
             inspect-right q = by-only looked-only looked-is found-as

@@ -9,17 +9,20 @@ use lib.ListN.{length}
 use borrow.Author.Tests.{eq-eqb, ne-eqb, eqb-true}
 use Rattle.spec.specs.Lists.{if, mem, some?}
 use Rattle.spec.specs.Blocks.{jumpi}
-use Rattle.spec.specs.Search.{sides, nowhere, found, Found, Rec, dest, dests}
+use Rattle.spec.specs.Search.{sides, Found, Rec, dest, dests}
 use Rattle.spec.specs.Ending.{Final}
-use Rattle.spec.specs.Entries.{Map, absent}
-use Rattle.spec.specs.Reader.{Reading, holds, bad, Item, a-head, a-block, a-way, a-record, no-item, destined, items, ways, finals-in, read}
+use Rattle.spec.specs.Entries.{Map}
+use Rattle.spec.specs.Reader.{Reading, holds, bad, Item, a-head, a-block, a-way, a-record, no-item, items, ways, finals-in, read}
 use Rattle.spec.specs.Inspector.{targets, edge?}
 use Rattle.laws.proofs.Branch.{if-true, if-false}
 use Rattle.laws.proofs.Members.{mem-append, or-right}
 use Rattle.theorems.proofs.ReaderPlaces.{never}
 use Rattle.theorems.proofs.ReaderAccepted.{read-blocks}
+use Rattle.reader.specs.Dests.{foundOf}
 use Rattle.reader.specs.Shapes.{from, itemOf}
 use Rattle.reader.specs.Walks.{walkAt, itemsFrom, Walking}
+use Rattle.reader.specs.declared.dest.Destination.{Destination}
+use Rattle.reader.specs.declared.dest.Destination.the-variants.{Missing, At}
 use Rattle.reader.specs.declared.entry.Entry.{Entry}
 use Rattle.reader.specs.declared.entry.Entry.the-variants.{Head, Terminate, Jump, Jumpi, DynamicJump, DynamicJumpi, Way, Record, Unknown, Wrong, Cut}
 use Rattle.reader.specs.declared.walk.Walk.{Walk}
@@ -74,11 +77,11 @@ first-side to t f e = rw (eq-eqb to t e)
 pub second-side : (to t f : ℕ) → (to ≡ t → ⊥) → eqb to f ≡ mem to (t ∷ f ∷ [])
 second-side to t f n = rw (ne-eqb to t n) (sym (or-false (eqb to f)))
 
-pub seven-missing : (to t : ℕ) → t ≡ absent → false ≡ mem to (dest (destined absent t))
-seven-missing to t e = rw (if-true (eqb t absent) nowhere (found t _) (eq-eqb t absent e))
+pub seven-missing : (to : ℕ) {d : Destination} → d ≡ Missing → false ≡ mem to (dest (foundOf d))
+seven-missing to e = rw e
 
-pub seven-found : (to t : ℕ) → (t ≡ absent → ⊥) → eqb to t ≡ mem to (dest (destined absent t))
-seven-found to t n = rw (if-false (eqb t absent) nowhere (found t _) (ne-eqb t absent n)) (sym (or-false (eqb to t)))
+pub seven-found : (to : ℕ) {d : Destination} {t : ℕ} → d ≡ At t → eqb to t ≡ mem to (dest (foundOf d))
+seven-found to {t = t} e = rw e (sym (or-false (eqb to t)))
 
 -- ---- sight_of
 
@@ -98,7 +101,7 @@ module _ {e : Entry} (mine : Bool) (y x : ℕ) {s d : ℕ} {r : Sight} where
   pub sight-dynamic-jumpi : {f n : ℕ} {l : Bool} → e ≡ DynamicJumpi s d f n → l ≡ mem x (f ∷ []) → r ≡ sightBy (eqb y s) l → r ≡ sightOf e mine y x
   sight-dynamic-jumpi q g k = rw (q, ← g) k
 
-pub sight-way : {e : Entry} (mine : Bool) (y x : ℕ) {t path n : ℕ} {r : Sight} {l : Bool} → e ≡ Way t path n → l ≡ mem x (dest (destined absent t)) → r ≡ sightBy mine l → r ≡ sightOf e mine y x
+pub sight-way : {e : Entry} (mine : Bool) (y x : ℕ) {t : Destination} {path n : ℕ} {r : Sight} {l : Bool} → e ≡ Way t path n → l ≡ mem x (dest (foundOf t)) → r ≡ sightBy mine l → r ≡ sightOf e mine y x
 sight-way mine y x q g k = rw (q, ← g) k
 
 -- ---- one entry
@@ -134,7 +137,7 @@ module _ (x y : ℕ) (is : List Item) where
   edge-step b (Jumpi s d t f) mine = ap (λ (z : Bool). (eqb y s && z) || edgeAmong x y (eqb y s) is) (mem-sides x t f) ∙ by-sight (eqb y s) (mem x (t ∷ f ∷ []))
   edge-step b (DynamicJump s d n) mine = by-sight (eqb y s) false
   edge-step b (DynamicJumpi s d f n) mine = by-sight (eqb y s) (mem x (f ∷ []))
-  edge-step b (Way t path n) mine = by-sight mine (mem x (dest (destined absent t)))
+  edge-step b (Way t path n) mine = by-sight mine (mem x (dest (foundOf t)))
   edge-step b (Head size n m energy) mine = refl
   edge-step b (Record s t form v path n) mine = refl
   edge-step b Unknown mine = refl

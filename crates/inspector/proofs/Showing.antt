@@ -1,29 +1,28 @@
 -- The path entries of the map's bytes, one after the other: what is left to look at ends as the whole does. Assumes nothing.
-use Prim.Native.Nat.{ℕ, _+_, _*_, _-_, _^_, _≤_, _<_}
+use Prim.Native.Nat.{ℕ, _+_, _-_, _^_, _≤_, _<_}
 use native.Mathlib.Omega.{arith}
 use native.Mathlib.Decide.{decLe}
 use mathlib.Core.Path.{_≡_, refl, sym, ap, subst, _∙_}
-use mathlib.Core.Bool.{Bool, true, false}
 use mathlib.Core.Option.{Option, none, some}
 use mathlib.Core.List.{List, [], _∷_}
-use lib.Dec.{eqb, leb}
-use lib.ListN.{length, getD, take, drop}
-use borrow.Author.Tests.{eq-eqb, ne-eqb, leb-true, leb-false}
-use Rattle.spec.specs.Lists.{if}
+use lib.Dec.{leb}
+use lib.ListN.{length, getD, drop}
+use borrow.Author.Tests.{leb-true, leb-false}
 use Rattle.spec.specs.Opcodes.{in-mode}
-use Rattle.spec.specs.Stacks.{entry as no-state}
-use Rattle.spec.specs.Search.{Found, nowhere, found, Rec}
-use Rattle.spec.specs.Entries.{Map, absent}
-use Rattle.spec.specs.Forms.{announced, entry, sort}
-use Rattle.spec.specs.Reader.{Item, a-head, a-block, a-way, a-record, no-item, item-of, items, destined, addresses}
+use Rattle.spec.specs.Search.{Found, Rec}
+use Rattle.spec.specs.Entries.{Map}
+use Rattle.spec.specs.Forms.{wide-in, announced, entry, sort}
+use Rattle.spec.specs.Reader.{Item, a-head, a-block, a-way, a-record, no-item, item-of, items}
 use Rattle.spec.specs.BadEntries.{Whole}
-use Rattle.spec.specs.Inspector.{fault, fault-to, PathEntry, shows, path-entries, Inspection, not-right, accepted, or-later, first-wrong}
-use Rattle.laws.proofs.Branch.{both, if-true, if-false}
+use Rattle.spec.specs.Inspector.{fault, PathEntry, shows, path-entries, Inspection, not-right, accepted, or-later, first-wrong}
+use Rattle.laws.proofs.Branch.{both}
 use Rattle.theorems.proofs.Bytes.{Bytes}
 use Rattle.theorems.proofs.ReaderPlaces.{never}
 use Rattle.reader.specs.Shapes.{from, entryAt, behindAt, itemOf}
 use Rattle.reader.specs.Classes.{classOf}
 use Rattle.reader.specs.Walks.{walkAt, itemsFrom, Walking, over, here}
+use Rattle.reader.specs.declared.dest.Destination.{Destination}
+use Rattle.reader.specs.declared.dest.Destination.the-variants.{Missing, At}
 use Rattle.reader.specs.declared.entry.Entry.{Entry}
 use Rattle.reader.specs.declared.entry.Entry.the-variants.{Head, Terminate, Jump, Jumpi, DynamicJump, DynamicJumpi, Way, Record, Unknown, Wrong, Cut}
 use Rattle.reader.specs.declared.class.Class.the-variants.{Bad}
@@ -48,17 +47,19 @@ use Rattle.inspector.proofs.Tabling.{filled-same, filled-then}
 
 -- ---- shown
 
-pub way-none : {e : Entry} (b : ℕ) {t path n : ℕ} → e ≡ Way t path n → t ≡ absent → Of b ≡ shownOf e b
-way-none b {t} q z = rw q (sym (if-true (eqb t absent) (Of b) _ (eq-eqb t absent z)))
+module _ {e : Entry} {d : Destination} (b : ℕ) {path n : ℕ} where
+  pub way-none : e ≡ Way d path n → d ≡ Missing → Of b ≡ shownOf e b
+  way-none q z = rw (q, z)
 
-pub way-shown : {e : Entry} (b : ℕ) {t path n : ℕ} → e ≡ Way t path n → (t ≡ absent → ⊥) → Shows b (record { at = path; count = n; to = t }) ≡ shownOf e b
-way-shown b {t} q z = rw q (sym (if-false (eqb t absent) (Of b) _ (ne-eqb t absent z)))
+  pub way-shown : e ≡ Way d path n → {t : ℕ} → d ≡ At t → Shows b (record { at = path; count = n; to = t }) ≡ shownOf e b
+  way-shown q z = rw (q, z)
 
-pub record-none : {e : Entry} (b : ℕ) {s t form v path n : ℕ} → e ≡ Record s t form v path n → t ≡ absent → Of b ≡ shownOf e b
-record-none b {t = t} q z = rw q (sym (if-true (eqb t absent) (Of b) _ (eq-eqb t absent z)))
+  module _ {s form v : ℕ} where
+    pub record-none : e ≡ Record s d form v path n → d ≡ Missing → Of b ≡ shownOf e b
+    record-none q z = rw (q, z)
 
-pub record-shown : {e : Entry} (b : ℕ) {s t form v path n : ℕ} → e ≡ Record s t form v path n → (t ≡ absent → ⊥) → Shows s (record { at = path; count = n; to = t }) ≡ shownOf e b
-record-shown b {t = t} q z = rw q (sym (if-false (eqb t absent) (Of b) _ (ne-eqb t absent z)))
+    pub record-shown : e ≡ Record s d form v path n → {t : ℕ} → d ≡ At t → Shows s (record { at = path; count = n; to = t }) ≡ shownOf e b
+    record-shown q z = rw (q, z)
 
 module _ {e : Entry} (b : ℕ) {s d : ℕ} where
   pub shown-terminate : {ok : ℕ} → e ≡ Terminate s d ok → Of s ≡ shownOf e b
@@ -100,23 +101,12 @@ module _ (mode : ℕ) (map code : List ℕ) where
   judgedBy at on b (Shows s p) = or-later at (wrong (on b)) (fault (in-mode mode) code (mapIn map) s (pathIn map p) (p .to))
   judgedBy at on b (Of a) = wrong (on a)
 
-  -- an entry with a destination, or none
-  by-to : (at b s t path n : ℕ) (on : ℕ → List PathEntry)
-      → or-later at (wrong (on b)) (fault-to (in-mode mode) code (mapIn map) s (addresses (take (2 * n) (drop path map))) (destined absent t))
-      ≡ judgedBy at on b (if (eqb t absent) (Of b) (Shows s (record { at = path; count = n; to = t })))
-  unfolding if
-  by-to at b s t path n on = go (eqb t absent)
-    where
-      go : (c : Bool)
-          → or-later at (wrong (on b)) (fault-to (in-mode mode) code (mapIn map) s (addresses (take (2 * n) (drop path map))) (if c nowhere (found t no-state)))
-          ≡ judgedBy at on b (if c (Of b) (Shows s (record { at = path; count = n; to = t })))
-      go true = refl
-      go false = refl
-
   shown-by : (b at : ℕ) (on : ℕ → List PathEntry) (e : Entry) → wrong (shows b at on (itemOf map e)) ≡ judgedBy at on b (shownOf e b)
   unfolding first-wrong
-  shown-by b at on (Way t path n) = by-to at b b t path n on
-  shown-by b at on (Record s t form v path n) = by-to at b s t path n on
+  shown-by b at on (Way Missing path n) = refl
+  shown-by b at on (Way (At t) path n) = refl
+  shown-by b at on (Record s Missing form v path n) = refl
+  shown-by b at on (Record s (At t) form v path n) = refl
   shown-by b at on (Terminate s d ok) = refl
   shown-by b at on (Jump s d t) = refl
   shown-by b at on (Jumpi s d t f) = refl
@@ -130,23 +120,23 @@ module _ (mode : ℕ) (map code : List ℕ) where
 -- ---- the entries that stand in the bytes
 
 -- of a whole entry
-entries-whole : (b : List ℕ) (at a : ℕ) → Whole (drop at b) → items (from b at) ≡ itemOf b (entryAt b at) ∷ items (from b (behindAt b at))
-    → path-entries a (from b at) ≡ shows a at (λ c. path-entries c (from b (behindAt b at))) (itemOf b (entryAt b at))
+entries-whole : (b : List ℕ) (at a : ℕ) → Whole (drop at b) → items (wide-in b) (from b at) ≡ itemOf b (entryAt b at) ∷ items (wide-in b) (from b (behindAt b at))
+    → path-entries (wide-in b) a (from b at) ≡ shows a at (λ c. path-entries (wide-in b) c (from b (behindAt b at))) (itemOf b (entryAt b at))
 unfolding path-entries items
 entries-whole b at a w e =
     let f = from-whole b at w in
-    let g : items (from b at) ≡ item-of (sort (entry (drop at b) .kind)) (entry (drop at b) .body) ∷ items (from b (at + (6 + announced (drop at b)))) = ap items f in
-    let same : item-of (sort (entry (drop at b) .kind)) (entry (drop at b) .body) ≡ itemOf b (entryAt b at) = cc in
+    let g : items (wide-in b) (from b at) ≡ item-of (sort (wide-in b) (entry (drop at b) .kind)) (entry (drop at b) .body) ∷ items (wide-in b) (from b (at + (6 + announced (drop at b)))) = ap (items (wide-in b)) f in
+    let same : item-of (sort (wide-in b) (entry (drop at b) .kind)) (entry (drop at b) .body) ≡ itemOf b (entryAt b at) = cc in
     let to : at + (6 + announced (drop at b)) ≡ behindAt b at = sym (behind-whole b at w) in
-    ap (path-entries a) f
-    ∙ ap (λ (i : Item). shows a at (λ c. path-entries c (from b (at + (6 + announced (drop at b))))) i) same
-    ∙ ap (λ (n : ℕ). shows a at (λ c. path-entries c (from b n)) (itemOf b (entryAt b at))) to
+    ap (path-entries (wide-in b) a) f
+    ∙ ap (λ (i : Item). shows a at (λ c. path-entries (wide-in b) c (from b (at + (6 + announced (drop at b))))) i) same
+    ∙ ap (λ (n : ℕ). shows a at (λ c. path-entries (wide-in b) c (from b n)) (itemOf b (entryAt b at))) to
 
-entries-here : (b : List ℕ) (at a : ℕ) → (classOf (entryAt b at) ≡ Bad → ⊥) → items (from b at) ≡ itemOf b (entryAt b at) ∷ items (from b (behindAt b at))
-    → path-entries a (from b at) ≡ shows a at (λ c. path-entries c (from b (behindAt b at))) (itemOf b (entryAt b at))
+entries-here : (b : List ℕ) (at a : ℕ) → (classOf (entryAt b at) ≡ Bad → ⊥) → items (wide-in b) (from b at) ≡ itemOf b (entryAt b at) ∷ items (wide-in b) (from b (behindAt b at))
+    → path-entries (wide-in b) a (from b at) ≡ shows a at (λ c. path-entries (wide-in b) c (from b (behindAt b at))) (itemOf b (entryAt b at))
 entries-here b at a n e = by-whole (decLe (6 + announced (drop at b)) (length (drop at b)))
   where
-    by-whole : Dec (Whole (drop at b)) → path-entries a (from b at) ≡ shows a at (λ c. path-entries c (from b (behindAt b at))) (itemOf b (entryAt b at))
+    by-whole : Dec (Whole (drop at b)) → path-entries (wide-in b) a (from b at) ≡ shows a at (λ c. path-entries (wide-in b) c (from b (behindAt b at))) (itemOf b (entryAt b at))
     by-whole (yes w) = entries-whole b at a w e
     by-whole (no m) = absurd (n (rw (entry-cut b at m)))
 
@@ -191,7 +181,7 @@ module _ {mode : ℕ} {b code w₀ : List ℕ} {at owner : ℕ} {w : List ℕ} (
   pub looking-over : r ≡ Over → LooksAt mode b code w₀ w finding.Right
   unfolding path-entries first-wrong
   looking-over q = record {
-    is = ap findingOf (sym (ap (λ (l : List PathEntry). first-wrong (in-mode mode) code (mapIn b) l) (ap (path-entries owner) (from-end b at (at-over b at h q)))) ∙ k .rest);
+    is = ap findingOf (sym (ap (λ (l : List PathEntry). first-wrong (in-mode mode) code (mapIn b) l) (ap (path-entries (wide-in b) owner) (from-end b at (at-over b at h q)))) ∙ k .rest);
     filled = k .filled;
   }
 
@@ -206,13 +196,13 @@ module _ {mode : ℕ} {b code w₀ : List ℕ} {at owner : ℕ} {w : List ℕ} (
     is-entry = at-entry b at (k .walking) h q .is
 
     on : ℕ → List PathEntry
-    on c = path-entries c (from b to)
+    on c = path-entries (wide-in b) c (from b to)
 
     there : judgedBy mode b code at on owner s ≡ lookedFrom mode b code 0 0
     unfolding on itemsFrom
     there =
         let a = at-entry b at (k .walking) h q in
-        let first : path-entries owner (from b at) ≡ shows owner at (λ c. path-entries c (from b to)) (itemOf b e) =
+        let first : path-entries (wide-in b) owner (from b at) ≡ shows owner at (λ c. path-entries (wide-in b) c (from b to)) (itemOf b e) =
         rw (a .is, a .behind) (entries-here b at owner (a .good) (rw (← a .is, ← a .behind) (step .item))) in
         ap (judgedBy mode b code at on owner) x ∙ sym (shown-by mode b code owner at on e) ∙ ap (first-wrong (in-mode mode) code (mapIn b)) (sym first) ∙ k .rest
 
@@ -222,21 +212,14 @@ module _ {mode : ℕ} {b code w₀ : List ℕ} {at owner : ℕ} {w : List ℕ} (
 
     -- a path of the bytes
     path-in : (d : Entry) (c : ℕ) → Bytes b → d ≡ entryAt b at → (a : ℕ) (p : Path) → Shows a p ≡ shownOf d c → InPath b p
-    unfolding if
-    path-in (Way t path n) c f i a p z = by-missing (eqb t absent) z
-      where
-        by-missing : (m : Bool) → Shows a p ≡ if m (Of c) (Shows c (record { at = path; count = n; to = t })) → InPath b p
-        by-missing true v = never (cc)
-        by-missing false v =
-            let same : record { at = path; count = n; to = t } ≡ p = cc in
-            subst (InPath b) same (record { fits = way-inside b at i refl; few = way-few b at i f refl })
-    path-in (Record s t form v path n) c f i a p z = by-missing (eqb t absent) z
-      where
-        by-missing : (m : Bool) → Shows a p ≡ if m (Of c) (Shows s (record { at = path; count = n; to = t })) → InPath b p
-        by-missing true v = never (cc)
-        by-missing false v =
-            let same : record { at = path; count = n; to = t } ≡ p = cc in
-            subst (InPath b) same (record { fits = record-inside b at i refl; few = record-few b at i f refl })
+    path-in (Way Missing path n) c f i a p z = never (cc)
+    path-in (Way (At t) path n) c f i a p z =
+        let same : record { at = path; count = n; to = t } ≡ p = cc in
+        subst (InPath b) same (record { fits = way-inside b at i refl; few = way-few b at i f refl })
+    path-in (Record s Missing form v path n) c f i a p z = never (cc)
+    path-in (Record s (At t) form v path n) c f i a p z =
+        let same : record { at = path; count = n; to = t } ≡ p = cc in
+        subst (InPath b) same (record { fits = record-inside b at i refl; few = record-few b at i f refl })
     path-in (Terminate s d ok) c f i a p z = never (cc)
     path-in (Jump s d t) c f i a p z = never (cc)
     path-in (Jumpi s d t g) c f i a p z = never (cc)

@@ -6,8 +6,9 @@ use mathlib.Core.List.{List, [], _∷_}
 use lib.Dec.{eqb}
 use Rattle.spec.specs.Lists.{mem}
 use Rattle.spec.specs.Search.{sides, dest}
-use Rattle.spec.specs.Entries.{Map, absent}
-use Rattle.spec.specs.Reader.{Reading, holds, bad, Item, a-head, a-block, a-way, a-record, no-item, destined, read}
+use Rattle.spec.specs.Entries.{Map}
+use Rattle.spec.specs.Reader.{Reading, holds, bad, Item, a-head, a-block, a-way, a-record, no-item, read}
+use Rattle.reader.specs.Dests.{foundOf}
 use Rattle.reader.specs.Walks.{itemsFrom, Walking}
 use Rattle.reader.specs.declared.entry.Entry.{Entry}
 use Rattle.reader.specs.declared.entry.Entry.the-variants.{Head, Terminate, Jump, Jumpi, DynamicJump, DynamicJumpi, Way, Record, Unknown, Wrong, Cut}
@@ -55,7 +56,7 @@ sightOf (Jump s e t) mine y x = sightBy (eqb y s) (mem x (t ∷ []))
 sightOf (Jumpi s e t f) mine y x = sightBy (eqb y s) (mem x (t ∷ f ∷ []))
 sightOf (DynamicJump s e n) mine y x = sightBy (eqb y s) false
 sightOf (DynamicJumpi s e f n) mine y x = sightBy (eqb y s) (mem x (f ∷ []))
-sightOf (Way t path n) mine y x = sightBy mine (mem x (dest (destined absent t)))
+sightOf (Way t path n) mine y x = sightBy mine (mem x (dest (foundOf t)))
 sightOf (Head size n m energy) mine y x = Other
 sightOf (Record s t form v path n) mine y x = Other
 sightOf Unknown mine y x = Other

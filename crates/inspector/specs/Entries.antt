@@ -2,12 +2,11 @@
 use Prim.Native.Nat.{ℕ}
 use mathlib.Core.Path.{_≡_}
 use mathlib.Core.List.{List}
-use lib.Dec.{eqb}
-use Rattle.spec.specs.Lists.{if}
 use Rattle.spec.specs.Opcodes.{in-mode}
-use Rattle.spec.specs.Entries.{absent}
+use Rattle.spec.specs.Forms.{wide-in}
 use Rattle.spec.specs.Inspector.{path-entries, Inspection, refused, bad-entry, not-right, accepted, first-wrong}
 use Rattle.reader.specs.Shapes.{from}
+use Rattle.reader.specs.declared.dest.Destination.the-variants.{Missing, At}
 use Rattle.reader.specs.declared.entry.Entry.{Entry}
 use Rattle.reader.specs.declared.entry.Entry.the-variants.{Head, Terminate, Jump, Jumpi, DynamicJump, DynamicJumpi, Way, Record, Unknown, Wrong, Cut}
 use Rattle.inspector.specs.Edges.{mapIn}
@@ -18,8 +17,10 @@ use Rattle.inspector.specs.declared.entries.Finding.{Finding}
 use Rattle.inspector.specs.declared.entries.Finding.the-variants as finding
 
 abbrev pub shownOf : Entry → ℕ → Shown
-shownOf (Way t path n) b = if (eqb t absent) (Of b) (Path b (record { at = path; count = n; to = t }))
-shownOf (Record s t form v path n) b = if (eqb t absent) (Of b) (Path s (record { at = path; count = n; to = t }))
+shownOf (Way Missing path n) b = Of b
+shownOf (Way (At t) path n) b = Path b (record { at = path; count = n; to = t })
+shownOf (Record s Missing form v path n) b = Of b
+shownOf (Record s (At t) form v path n) b = Path s (record { at = path; count = n; to = t })
 shownOf (Terminate s e ok) b = Of s
 shownOf (Jump s e t) b = Of s
 shownOf (Jumpi s e t f) b = Of s
@@ -39,7 +40,7 @@ findingOf (refused n) = finding.Right
 
 -- what is found from an offset on, where b is the block before
 abbrev pub lookedFrom : ℕ → List ℕ → List ℕ → ℕ → ℕ → Inspection
-lookedFrom mode map code b at = first-wrong (in-mode mode) code (mapIn map) (path-entries b (from map at))
+lookedFrom mode map code b at = first-wrong (in-mode mode) code (mapIn map) (path-entries (wide-in map) b (from map at))
 
 pub record LooksAt (mode : ℕ) (map code w w′ : List ℕ) (r : Finding) : Type 0 where
   pub is : r ≡ findingOf (lookedFrom mode map code 0 0)

@@ -1,5 +1,5 @@
 -- The symbol of a jump, looked up along a path. Assumes nothing.
-use Prim.Native.Nat.{ℕ, _+_, _^_, _≤_}
+use Prim.Native.Nat.{ℕ, _+_, _*_, _^_, _≤_}
 use mathlib.Core.Path.{_≡_}
 use mathlib.Core.Option.{Option, none, some}
 use mathlib.Core.List.{List}
@@ -19,7 +19,7 @@ pub record Lent (code w : List ℕ) : Type 0 where
 
 -- how deep a block of the longest code reaches
 abbrev pub step : ℕ
-step = 417808
+step = 17 * longest + 16
 
 -- without a jump, one that is no Jumpdest and stays so
 abbrev pub takenOf : Option Sym → Sym

@@ -3,7 +3,7 @@
 use crate::path::Path;
 use crate::path::Place;
 use crate::path::judge;
-use layout::MISSING;
+use reader::Destination;
 use reader::Entry;
 use reader::Walk;
 use reader::next;
@@ -31,38 +31,34 @@ fn shown_in(e: Entry, owner: usize) -> Shown
     ensures { λ r. ⌜ r ≡ shownOf e owner ⌝ }
 {
     match e {
-        Entry::Way { to, path, count } => {
-            if to == MISSING {
-                return Shown::Of(owner);
-            }
-            Shown::Path {
+        Entry::Way { to, path, count } => match to {
+            Destination::Missing => Shown::Of(owner),
+            Destination::At(t) => Shown::Path {
                 owner,
                 path: Path {
                     at: path,
                     count,
-                    to,
+                    to: t,
                 },
-            }
-        }
+            },
+        },
         Entry::Record {
             start,
             to,
             path,
             count,
             ..
-        } => {
-            if to == MISSING {
-                return Shown::Of(owner);
-            }
-            Shown::Path {
+        } => match to {
+            Destination::Missing => Shown::Of(owner),
+            Destination::At(t) => Shown::Path {
                 owner: start,
                 path: Path {
                     at: path,
                     count,
-                    to,
+                    to: t,
                 },
-            }
-        }
+            },
+        },
         Entry::Terminate { start, .. } => Shown::Of(start),
         Entry::Jump { start, .. } => Shown::Of(start),
         Entry::Jumpi { start, .. } => Shown::Of(start),

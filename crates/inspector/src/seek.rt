@@ -1,6 +1,6 @@
 // The edges of a stored map, as they stand in its bytes.
 // "blocks joined by edges of that map"
-use layout::MISSING;
+use reader::Destination;
 use reader::Entry;
 use reader::Walk;
 use reader::next;
@@ -8,8 +8,7 @@ ghost use mathlib.Core.Path.{_≡_};
 ghost use mathlib.Core.List.{[], _∷_};
 ghost use Rattle.spec.specs.Lists.{mem};
 ghost use Rattle.spec.specs.Search.{dest};
-ghost use Rattle.spec.specs.Entries.{absent};
-ghost use Rattle.spec.specs.Reader.{destined};
+ghost use Rattle.reader.specs.Dests.{foundOf};
 ghost use Rattle.reader.specs.Walks.{Walking};
 ghost use Rattle.inspector.specs.Edges.{sightBy, sightOf, Sought};
 
@@ -51,13 +50,13 @@ fn either(to: usize, yes: usize, no: usize) -> bool
 }
 
 // Whether a 7 does.
-fn seven(to: usize, found: usize) -> bool
-    ensures { λ r. ⌜ r ≡ mem to (dest (destined absent found)) ⌝ }
+fn seven(to: usize, found: Destination) -> bool
+    ensures { λ r. ⌜ r ≡ mem to (dest (foundOf found)) ⌝ }
 {
-    if found == MISSING {
-        return false;
+    match found {
+        Destination::Missing => false,
+        Destination::At(t) => to == t,
     }
-    to == found
 }
 
 // What an entry is to the edge between two starts; `mine` says that the block before it is the one that the edge leaves.

@@ -5,7 +5,7 @@ use crate::field::add_decimal;
 use crate::field::add_named;
 use crate::field::add_text;
 use entries::path_of;
-use layout::MISSING;
+use layout::NOWHERE;
 use layout::edge::OWN;
 use layout::record::RECORD;
 use lent::get16;
@@ -47,7 +47,7 @@ fn add_goal(out: &mut [u8], at: usize, to: usize) -> usize
     requires { ⌜ (to < 65536) × (at + 13 ≤ 2 ^ 62) ⌝ }
     ensures { λ end. ⌜ PutsFew 13 (now (out .entry)) at (goalText (goalTo to)) (now (out .exit)) end ⌝ }
 {
-    if to == MISSING {
+    if to == NOWHERE {
         return add_text(out, at, b"],\"to\":null}");
     }
     let end = add_named(out, at, b"],\"to\":", to);

@@ -1,4 +1,4 @@
--- R after the search: the row of a record as an edge. Place (2 bytes), which is the record's start, to (2, `missing` for no edge), witness (2), the record's
+-- R after the search: the row of a record as an edge. Place (2 bytes), which is the record's start, to (2, `NOWHERE` for no edge), witness (2), the record's
 -- own destination (2), two links (4 each), for the next row of the same place and of the same witness, the end of the record's path in Q (4); 4 bytes are
 -- free, the record's number stands where it stood (4), and 4 are free. A link, like the first row of an address, is a row's number and 1 more, and 0 for none. Assumes nothing.
 use mathlib.Core.List.{List}

@@ -1,4 +1,5 @@
 pub mod Buffers
+pub mod Marks
 pub mod Parts
 pub mod Rows
 pub mod Fields

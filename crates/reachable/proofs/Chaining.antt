@@ -94,7 +94,7 @@ module _ {m by : ℕ} {r r′ : List ℕ} (l : LinksOnly m by r r′) where
   same-key i h = field i h 2 by (omega arith)
 
   pub rows-kept : {n : ℕ} → EdgeRows n m r → EdgeRows n m r′
-  rows-kept e = record { few = e .few; each = λ i h. row-kept r r′ (same-row i h) (e .each i h) }
+  rows-kept e = record { few = e .few; away = e .away; each = λ i h. row-kept r r′ (same-row i h) (e .each i h) }
 
 -- ---- the loop, over the rows from i on
 

@@ -9,10 +9,10 @@ use lib.Dec.{eqb}
 use lib.ListN.{length}
 use borrow.Author.Tests.{eqb-true, eqb-false, ne-eqb}
 use Rattle.spec.specs.Reach.{Edge, edge}
-use Rattle.spec.specs.Entries.{absent}
 use Rattle.laws.proofs.Branch.{both, if-false}
 use Rattle.laws.proofs.Members.{In, here, in-left, in-right, in-cases, in-only}
 use Rattle.layout.specs.Edges.{keyAt, toAt}
+use Rattle.layout.specs.Marks.{NOWHERE}
 use Rattle.reachable.specs.Links.{firstFrom, edgeAt, edgesAt}
 use Rattle.reachable.specs.Pruning.{EdgeRow, Key}
 
@@ -35,19 +35,19 @@ module _ {n by i : ℕ} {r : List ℕ} (e : EdgeRow n r i) (k : Key by) where
 
 -- the edge of row i
 pub record RowEdge (r : List ℕ) (i : ℕ) (e : Edge) : Type 0 where
-  pub leads : toAt r i ≡ absent → ⊥
+  pub leads : toAt r i ≡ NOWHERE → ⊥
   pub place : e .place ≡ keyAt r 0 i
   pub witness : e .witness ≡ keyAt r 4 i
   pub to : e .to ≡ toAt r i
 
-pub edge-in : (r : List ℕ) (i : ℕ) → (toAt r i ≡ absent → ⊥) → In (edge (keyAt r 0 i) (keyAt r 4 i) (toAt r i)) (edgeAt r i)
+pub edge-in : (r : List ℕ) (i : ℕ) → (toAt r i ≡ NOWHERE → ⊥) → In (edge (keyAt r 0 i) (keyAt r 4 i) (toAt r i)) (edgeAt r i)
 unfolding edgeAt
-edge-in r i h = rw (if-false (eqb (toAt r i) absent) [] (edge (keyAt r 0 i) (keyAt r 4 i) (toAt r i) ∷ []) (ne-eqb _ _ h)) here
+edge-in r i h = rw (if-false (eqb (toAt r i) NOWHERE) [] (edge (keyAt r 0 i) (keyAt r 4 i) (toAt r i) ∷ []) (ne-eqb _ _ h)) here
 
 in-edge : {e : Edge} (r : List ℕ) (i : ℕ) → In e (edgeAt r i) → RowEdge r i e
 unfolding edgeAt
 in-edge {e} r i =
-    both (λ (l : List Edge). In e l → RowEdge r i e) (eqb (toAt r i) absent) (λ _ j. elim j [ ])
+    both (λ (l : List Edge). In e l → RowEdge r i e) (eqb (toAt r i) NOWHERE) (λ _ j. elim j [ ])
     (λ off j. let q = in-only j in record {
       leads = eqb-false _ _ off;
       place = ap (λ (d : Edge). d .place) q;

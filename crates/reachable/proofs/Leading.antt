@@ -11,13 +11,13 @@ use lib.ListN.{length}
 use borrow.Author.Tests.{eqb-true, eq-eqb, ne-eqb}
 use Rattle.spec.specs.Lists.{if, mem}
 use Rattle.spec.specs.Reach.{Edge, edge}
-use Rattle.spec.specs.Entries.{absent}
 use Rattle.laws.proofs.Branch.{if-true, if-false}
 use Rattle.laws.proofs.Members.{In, or-cases}
 use Rattle.theorems.proofs.Reached.{Reached, seed, along}
 use Rattle.lent.specs.Bytes.{Holds}
 use Rattle.layout.specs.Edges.{E-TO, keyAt, toAt, linkAt}
 use Rattle.layout.specs.Fields.{headAt}
+use Rattle.layout.specs.Marks.{NOWHERE}
 use Rattle.layout.specs.Records.{RECORD, recordPlace}
 use Rattle.reachable.specs.Marks.{flagged}
 use Rattle.reachable.specs.Links.{firstFrom, edgeAt, edgesAt}
@@ -53,13 +53,13 @@ spread-more f p = record { grew = p .grew; sound = λ y h. along-more f (p .soun
 -- ---- one row
 
 module _ {n by i count : ℕ} {w r : List ℕ} (g : RowGoing n by w r i count) where
-  pub row-nowhere : {to : ℕ} → Holds 2 r (recordPlace i + E-TO) to → to ≡ absent → FollowedRow n by r i w count w count
+  pub row-nowhere : {to : ℕ} → Holds 2 r (recordPlace i + E-TO) to → to ≡ NOWHERE → FollowedRow n by r i w count w count
   row-nowhere h e = record { spread = spread-none; led = λ ne. absurd (ne (sym (h .is) ∙ e)) }
 
   pub row-other : {other : ℕ} → Holds 2 r (recordPlace i + (4 - by)) other → Address n w other
   row-other h = record { lent = g .lent; inside = rw (h .is) (other-within (g .row) (g .key)) }
 
-  pub row-going : {to : ℕ} → Holds 2 r (recordPlace i + E-TO) to → (to ≡ absent → ⊥) → Going n w to 1 count
+  pub row-going : {to : ℕ} → Holds 2 r (recordPlace i + E-TO) to → (to ≡ NOWHERE → ⊥) → Going n w to 1 count
   row-going h ne = record {
     at = record { lent = g .lent; inside = rw (h .is) (g .row .to (λ e. ne (h .is ∙ e))) };
     small = omega arith;
@@ -70,7 +70,7 @@ module _ {n by i count : ℕ} {w r : List ℕ} (g : RowGoing n by w r i count) w
     pub row-not-led : is ≡ false → FollowedRow n by r i w count w count
     row-not-led z = record { spread = spread-none; led = λ _ q. not-both q (rw (← o .is, ← f) z) }
 
-    module _ {to count′ : ℕ} {w′ : List ℕ} (h : Holds 2 r (recordPlace i + E-TO) to) (ne : to ≡ absent → ⊥) (yes : is ≡ true) (t : Took n 1 (to ∷ []) w count w′ count′) where
+    module _ {to count′ : ℕ} {w′ : List ℕ} (h : Holds 2 r (recordPlace i + E-TO) to) (ne : to ≡ NOWHERE → ⊥) (yes : is ≡ true) (t : Took n 1 (to ∷ []) w count w′ count′) where
       -- both keys are flagged
       ends : (mem (keyAt r 0 i) (flagged w n) ≡ true) × (mem (keyAt r 4 i) (flagged w n) ≡ true)
       ends =
@@ -97,7 +97,7 @@ pub record Walking (n m by x : ℕ) (r w₀ : List ℕ) (count₀ : ℕ) (w : Li
   pub inside : from ≤ m
   pub is : k ≡ firstFrom r by x from (m - from)
   pub spread : Spread (edgesAt r m) n w₀ count₀ w count
-  pub led : (i : ℕ) → i < from → keyAt r by i ≡ x → (toAt r i ≡ absent → ⊥) → mem (keyAt r (4 - by) i) (flagged w₀ n) ≡ true → mem (toAt r i) (flagged w n) ≡ true
+  pub led : (i : ℕ) → i < from → keyAt r by i ≡ x → (toAt r i ≡ NOWHERE → ⊥) → mem (keyAt r (4 - by) i) (flagged w₀ n) ≡ true → mem (toAt r i) (flagged w n) ≡ true
 
 -- how many rows may be left
 abbrev pub steps : ℕ → ℕ → ℕ
@@ -126,7 +126,7 @@ module _ {n m by x count₀ : ℕ} {r w₀ : List ℕ} (g : RowsGoing n m by w�
     pub walk-done : k ≡ 0 → FollowedRows n m by r x w₀ count₀ w count
     walk-done z = record { spread = s .spread; led = λ i h q. split i h q (decLt i (s .from)) }
       where
-        split : (i : ℕ) → i < m → keyAt r by i ≡ x → Dec (i < s .from) → (toAt r i ≡ absent → ⊥) → mem (keyAt r (4 - by) i) (flagged w₀ n) ≡ true
+        split : (i : ℕ) → i < m → keyAt r by i ≡ x → Dec (i < s .from) → (toAt r i ≡ NOWHERE → ⊥) → mem (keyAt r (4 - by) i) (flagged w₀ n) ≡ true
             → mem (toAt r i) (flagged w n) ≡ true
         split i h q (yes l) = s .led i l q
         split i h q (no l) = absurd (first .none z i (omega arith) (omega arith) q)
@@ -162,7 +162,7 @@ module _ {n m by x count₀ : ℕ} {r w₀ : List ℕ} (g : RowsGoing n m by w�
           led = λ i h q. split i h q (decLt i (s .from)) (ℕ-discrete i (k - 1));
         }
           where
-            split : (i : ℕ) → i < k → keyAt r by i ≡ x → Dec (i < s .from) → Dec (i ≡ k - 1) → (toAt r i ≡ absent → ⊥) → mem (keyAt r (4 - by) i) (flagged w₀ n) ≡ true
+            split : (i : ℕ) → i < k → keyAt r by i ≡ x → Dec (i < s .from) → Dec (i ≡ k - 1) → (toAt r i ≡ NOWHERE → ⊥) → mem (keyAt r (4 - by) i) (flagged w₀ n) ≡ true
                 → mem (toAt r i) (flagged w′ n) ≡ true
             split i h q (yes l) d ne o = more-keeps (f .spread .grew .more) (toAt r i) (s .led i l q ne o)
             split i h q (no l) (yes d) ne o = rw d (f .led (rw d at ne) (keeps _ (rw d at o)))

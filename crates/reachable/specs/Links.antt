@@ -4,8 +4,8 @@ use Prim.Native.Nat.{ℕ, zero, suc, _+_}
 use lib.Dec.{eqb}
 use Rattle.spec.specs.Lists.{if}
 use Rattle.spec.specs.Reach.{Edge, edge}
-use Rattle.spec.specs.Entries.{absent}
 use Rattle.layout.specs.Edges.{keyAt, toAt}
+use Rattle.layout.specs.Marks.{NOWHERE}
 
 -- the first, of the k rows from i on, that has the key x
 unfoldable pub firstFrom : List ℕ → ℕ → ℕ → ℕ → ℕ → ℕ
@@ -16,7 +16,7 @@ firstFrom r by x i (suc k) =
 
 -- the edge of row i, if it has one
 unfoldable pub edgeAt : List ℕ → ℕ → List Edge
-edgeAt r i = if (eqb (toAt r i) absent) [] (edge (keyAt r 0 i) (keyAt r 4 i) (toAt r i) ∷ [])
+edgeAt r i = if (eqb (toAt r i) NOWHERE) [] (edge (keyAt r 0 i) (keyAt r 4 i) (toAt r i) ∷ [])
 
 -- those of the first m rows
 unfoldable pub edgesAt : List ℕ → ℕ → List Edge

@@ -7,12 +7,12 @@ use Prim.Native.Nat.{ℕ, _+_, _-_, _≤_, _<_}
 use lib.ListN.{length, take, drop, replicate}
 use Rattle.spec.specs.Lists.{mem, little}
 use Rattle.spec.specs.Reach.{Edge, closure}
-use Rattle.spec.specs.Entries.{absent}
 use Rattle.laws.specs.Lists.{In}
 use Rattle.theorems.specs.Reached.{Reached}
 use Rattle.lent.specs.Bytes.{Stored}
 use Rattle.layout.specs.Edges.{E-LINKS, E-ENDS, keyAt, toAt, linkAt}
 use Rattle.layout.specs.Fields.{COUNT, LAST, HEADS, markAt, flagAt, headAt}
+use Rattle.layout.specs.Marks.{NOWHERE}
 use Rattle.layout.specs.Parts.{fieldsPlace, SameRows, SameStart, SameFields, PastFields, PastList}
 use Rattle.layout.specs.Records.{RECORD, recordPlace}
 use Rattle.reachable.specs.Marks.{flagged, entries}
@@ -27,10 +27,12 @@ pub record EdgeRow (n : ℕ) (r : List ℕ) (i : ℕ) : Type 0 where
   pub room : recordPlace i + RECORD ≤ length r
   pub place : keyAt r 0 i ≤ n
   pub witness : keyAt r 4 i ≤ n
-  pub to : (toAt r i ≡ absent → ⊥) → toAt r i ≤ n
+  pub to : (toAt r i ≡ NOWHERE → ⊥) → toAt r i ≤ n
 
+-- rows of edges, and no address is the rows' mark for none
 pub record EdgeRows (n m : ℕ) (r : List ℕ) : Type 0 where
   pub few : m ≤ 1073741824
+  pub away : n < NOWHERE
   pub each : (i : ℕ) → i < m → EdgeRow n r i
 
 -- the place, or the witness
@@ -97,7 +99,7 @@ pub record RowGoing (n by : ℕ) (w r : List ℕ) (i count : ℕ) : Type 0 where
 -- a row leads on if its other end is flagged too
 pub record FollowedRow (n by : ℕ) (r : List ℕ) (i : ℕ) (w : List ℕ) (count : ℕ) (w′ : List ℕ) (count′ : ℕ) : Type 0 where
   pub spread : Spread (edgeAt r i) n w count w′ count′
-  pub led : (toAt r i ≡ absent → ⊥) → mem (keyAt r (4 - by) i) (flagged w n) ≡ true → mem (toAt r i) (flagged w′ n) ≡ true
+  pub led : (toAt r i ≡ NOWHERE → ⊥) → mem (keyAt r (4 - by) i) (flagged w n) ≡ true → mem (toAt r i) (flagged w′ n) ≡ true
 
 pub record RowsGoing (n m by : ℕ) (w r : List ℕ) (x count : ℕ) : Type 0 where
   pub lent : Room n w
@@ -110,7 +112,7 @@ pub record RowsGoing (n m by : ℕ) (w r : List ℕ) (x count : ℕ) : Type 0 wh
 -- the rows of x are followed
 pub record FollowedRows (n m by : ℕ) (r : List ℕ) (x : ℕ) (w : List ℕ) (count : ℕ) (w′ : List ℕ) (count′ : ℕ) : Type 0 where
   pub spread : Spread (edgesAt r m) n w count w′ count′
-  pub led : (i : ℕ) → i < m → keyAt r by i ≡ x → (toAt r i ≡ absent → ⊥) → mem (keyAt r (4 - by) i) (flagged w n) ≡ true → mem (toAt r i) (flagged w′ n) ≡ true
+  pub led : (i : ℕ) → i < m → keyAt r by i ≡ x → (toAt r i ≡ NOWHERE → ⊥) → mem (keyAt r (4 - by) i) (flagged w n) ≡ true → mem (toAt r i) (flagged w′ n) ≡ true
 
 -- how W and r stand in pruning's loop
 pub record Pruning (n m : ℕ) (w r : List ℕ) : Type 0 where

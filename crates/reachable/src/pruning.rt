@@ -8,7 +8,7 @@ use crate::follow::last;
 use crate::link::first_row;
 use crate::link::link;
 use crate::link::next_row;
-use layout::MISSING;
+use layout::NOWHERE;
 use layout::edge::PLACE;
 use layout::edge::TO;
 use layout::edge::WITNESS;
@@ -25,7 +25,7 @@ fn follow_row(w: &mut [u8], n: usize, r: &[u8], i: usize, by: usize, count: usiz
     ensures { λ c. ⌜ FollowedRow n by (now (r .entry)) i (now (w .entry)) count (now (w .exit)) c ⌝ }
 {
     let to = get16(r, RECORD * i + TO);
-    if to == MISSING {
+    if to == NOWHERE {
         return count;
     }
     let other = get16(r, RECORD * i + (WITNESS - by));

@@ -1,5 +1,6 @@
 -- A body's numbers, read where they stand among the bytes, and the ways out of the functions that read a body. Assumes nothing.
 use mathlib.Core.Path.{_≡_, refl, sym, ap, _∙_}
+use mathlib.Core.Bool.{Bool}
 use mathlib.Core.List.{List, [], _∷_}
 use Prim.Native.Nat.{ℕ, _+_, _*_, _≤_, _<_}
 use native.Mathlib.Nat.{le-refl}
@@ -14,7 +15,9 @@ use Rattle.spec.specs.Forms.{field, Sort, HEAD, BLOCK, WAY, RECORD, TERMINATE, 
 use Rattle.laws.proofs.Branch.{if-true, if-false}
 use Rattle.lent.specs.Bytes.{numAt, Holds}
 use Rattle.lent.proofs.Parts.{length-part, part-prefix}
+use Rattle.reader.specs.Dests.{goesTo}
 use Rattle.reader.specs.Shapes.{numbers, known, shape}
+use Rattle.reader.specs.declared.dest.Destination.{Destination}
 use Rattle.reader.specs.declared.entry.Entry.the-variants.{Head, Terminate, Jump, Jumpi, DynamicJump, DynamicJumpi, Way, Record, Wrong}
 
 -- the number at a place, and as a field of the bytes from a place on
@@ -105,42 +108,43 @@ module _ (b : List ℕ) (at n : ℕ) (room : at + n ≤ length b) where
       let fc = held at n 6 hc refl (omega arith) in
       cc (fit (BLOCK DYNAMIC-JUMPI) q)
 
-  pub way-short : n < 6 → Wrong ≡ shape at (WAY absent) body
-  way-short h = misfit (WAY absent) (λ e. omega arith)
+  module _ (wide : Bool) where
+    pub way-short : n < 6 → Wrong ≡ shape at (WAY (absent wide)) body
+    way-short h = misfit (WAY (absent wide)) (λ e. omega arith)
 
-  pub way-wrong : {c : ℕ} → 6 ≤ n → Holds 4 b (at + 2) c → (n ≡ 6 + 2 * c → ⊥) → Wrong ≡ shape at (WAY absent) body
-  way-wrong h hc f = misfit (WAY absent) (λ e. f (omega (arith, held at n 2 hc refl (omega arith))))
+    pub way-wrong : {c : ℕ} → 6 ≤ n → Holds 4 b (at + 2) c → (n ≡ 6 + 2 * c → ⊥) → Wrong ≡ shape at (WAY (absent wide)) body
+    way-wrong h hc f = misfit (WAY (absent wide)) (λ e. f (omega (arith, held at n 2 hc refl (omega arith))))
 
-  pub way-right : {t c : ℕ} → 6 ≤ n → Holds 2 b at t → Holds 4 b (at + 2) c → n ≡ 6 + 2 * c → Way t (at + 6) c ≡ shape at (WAY absent) body
-  way-right h ht hc q =
-      let ft = held at n 0 ht (omega arith) (omega arith) in
-      let fc = held at n 2 hc refl (omega arith) in
-      cc (fit (WAY absent) (omega arith))
+    pub way-right : {t c : ℕ} {d : Destination} → 6 ≤ n → Holds 2 b at t → Holds 4 b (at + 2) c → n ≡ 6 + 2 * c → d ≡ goesTo (absent wide) t → Way d (at + 6) c ≡ shape at (WAY (absent wide)) body
+    way-right h ht hc q g =
+        let ft = held at n 0 ht (omega arith) (omega arith) in
+        let fc = held at n 2 hc refl (omega arith) in
+        cc (fit (WAY (absent wide)) (omega arith))
 
-  pub record-short : n < 8 → Wrong ≡ shape at (RECORD 4 absent) body
-  record-short h = misfit (RECORD 4 absent) (λ e. omega arith)
+    pub record-short : n < 8 → Wrong ≡ shape at (RECORD 4 (absent wide)) body
+    record-short h = misfit (RECORD 4 (absent wide)) (λ e. omega arith)
 
-  pub record-wrong : {c : ℕ} → 8 ≤ n → Holds 4 b (at + 4) c → (n ≡ 8 + 2 * c → ⊥) → Wrong ≡ shape at (RECORD 4 absent) body
-  record-wrong h hc f = misfit (RECORD 4 absent) (λ e. f (omega (arith, held at n 4 hc refl (omega arith))))
+    pub record-wrong : {c : ℕ} → 8 ≤ n → Holds 4 b (at + 4) c → (n ≡ 8 + 2 * c → ⊥) → Wrong ≡ shape at (RECORD 4 (absent wide)) body
+    record-wrong h hc f = misfit (RECORD 4 (absent wide)) (λ e. f (omega (arith, held at n 4 hc refl (omega arith))))
 
-  pub record-right : {s t c : ℕ} → 8 ≤ n → Holds 2 b at s → Holds 2 b (at + 2) t → Holds 4 b (at + 4) c → n ≡ 8 + 2 * c → Record s t 4 0 (at + 8) c ≡ shape at (RECORD 4 absent) body
-  record-right h hs ht hc q =
-      let fs = held at n 0 hs (omega arith) (omega arith) in
-      let ft = held at n 2 ht refl (omega arith) in
-      let fc = held at n 4 hc refl (omega arith) in
-      cc (fit (RECORD 4 absent) (omega arith))
+    pub record-right : {s t c : ℕ} {d : Destination} → 8 ≤ n → Holds 2 b at s → Holds 2 b (at + 2) t → Holds 4 b (at + 4) c → n ≡ 8 + 2 * c → d ≡ goesTo (absent wide) t → Record s d 4 0 (at + 8) c ≡ shape at (RECORD 4 (absent wide)) body
+    record-right h hs ht hc q g =
+        let fs = held at n 0 hs (omega arith) (omega arith) in
+        let ft = held at n 2 ht refl (omega arith) in
+        let fc = held at n 4 hc refl (omega arith) in
+        cc (fit (RECORD 4 (absent wide)) (omega arith))
 
-  pub numbered-short : n < 12 → Wrong ≡ shape at (RECORD 8 absent) body
-  numbered-short h = misfit (RECORD 8 absent) (λ e. omega arith)
+    pub numbered-short : n < 12 → Wrong ≡ shape at (RECORD 8 (absent wide)) body
+    numbered-short h = misfit (RECORD 8 (absent wide)) (λ e. omega arith)
 
-  pub numbered-wrong : {c : ℕ} → 12 ≤ n → Holds 4 b (at + 8) c → (n ≡ 12 + 2 * c → ⊥) → Wrong ≡ shape at (RECORD 8 absent) body
-  numbered-wrong h hc f = misfit (RECORD 8 absent) (λ e. f (omega (arith, held at n 8 hc refl (omega arith))))
+    pub numbered-wrong : {c : ℕ} → 12 ≤ n → Holds 4 b (at + 8) c → (n ≡ 12 + 2 * c → ⊥) → Wrong ≡ shape at (RECORD 8 (absent wide)) body
+    numbered-wrong h hc f = misfit (RECORD 8 (absent wide)) (λ e. f (omega (arith, held at n 8 hc refl (omega arith))))
 
-  pub numbered-right : {s t v c : ℕ} → 12 ≤ n → Holds 2 b at s → Holds 2 b (at + 2) t → Holds 4 b (at + 4) v → Holds 4 b (at + 8) c → n ≡ 12 + 2 * c
-      → Record s t 8 v (at + 12) c ≡ shape at (RECORD 8 absent) body
-  numbered-right h hs ht hv hc q =
-      let fs = held at n 0 hs (omega arith) (omega arith) in
-      let ft = held at n 2 ht refl (omega arith) in
-      let fv = held at n 4 hv refl (omega arith) in
-      let fc = held at n 8 hc refl (omega arith) in
-      cc (fit (RECORD 8 absent) (omega arith))
+    pub numbered-right : {s t v c : ℕ} {d : Destination} → 12 ≤ n → Holds 2 b at s → Holds 2 b (at + 2) t → Holds 4 b (at + 4) v → Holds 4 b (at + 8) c → n ≡ 12 + 2 * c → d ≡ goesTo (absent wide) t
+        → Record s d 8 v (at + 12) c ≡ shape at (RECORD 8 (absent wide)) body
+    numbered-right h hs ht hv hc q g =
+        let fs = held at n 0 hs (omega arith) (omega arith) in
+        let ft = held at n 2 ht refl (omega arith) in
+        let fv = held at n 4 hv refl (omega arith) in
+        let fc = held at n 8 hc refl (omega arith) in
+        cc (fit (RECORD 8 (absent wide)) (omega arith))

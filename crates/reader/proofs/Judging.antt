@@ -11,13 +11,11 @@ use lib.ListN.{length, take, drop}
 use lib.Seq.{drop-drop}
 use borrow.Author.Tests.{le-leb, leb-true, eqb-true}
 use Rattle.spec.specs.Lists.{if}
-use Rattle.spec.specs.Entries.{absent}
-use Rattle.spec.specs.Forms.{field, announced, entry, Ends, Sort, HEAD, BLOCK, WAY, RECORD, UNKNOWN, TERMINATE, JUMP, JUMPI, DYNAMIC-JUMP, DYNAMIC-JUMPI, sort, long, dynamic, owes, start-in}
+use Rattle.spec.specs.Forms.{wide-in, field, announced, entry, Ends, Sort, HEAD, BLOCK, WAY, RECORD, UNKNOWN, TERMINATE, JUMP, JUMPI, DYNAMIC-JUMP, DYNAMIC-JUMPI, sort, long, dynamic, owes, start-in}
 use Rattle.spec.specs.Reader.{Piece, fair, formed, Place, first, blocks, records, next, goes-on, sevens, met, taken, first-bad, Item, item-of, items, finals-in, recs-in}
 use Rattle.spec.specs.BadEntries.{Whole}
 use Rattle.laws.proofs.Branch.{both, if-true, if-false}
 use Rattle.theorems.proofs.ReaderSplit.{body-long}
-use Rattle.theorems.proofs.ReaderItems.{by-kind}
 use Rattle.lent.proofs.Parts.{part-of-take}
 use Rattle.reader.specs.Shapes.{from, behindAt, numbers, known, shape, entryAt, itemOf}
 use Rattle.reader.specs.Classes.{classOf, blockIn, recordIn, blocksOf, recordsOf}
@@ -25,6 +23,7 @@ use Rattle.reader.specs.declared.entry.Entry.{Entry}
 use Rattle.reader.specs.declared.entry.Entry.the-variants.{Head, Terminate, Jump, Jumpi, DynamicJump, DynamicJumpi, Way, Record, Unknown, Wrong, Cut}
 use Rattle.reader.specs.declared.class.Class.{Class}
 use Rattle.reader.specs.declared.class.Class.the-variants.{Bad, Head as HeadOf, Block, Dynamic, Way as WayOf, Record as RecordOf}
+use Rattle.reader.proofs.Destinations.{destined-is}
 use Rattle.reader.proofs.Onward.{from-whole, from-cut}
 
 -- ---- the definitions' step, by the class
@@ -38,7 +37,7 @@ abbrev pub blockOf : ℕ → Bool → Place → Option Place
 blockOf start d p = next (BLOCK (endsOf d)) start p
 
 abbrev pub wayOf : Place → Option Place
-wayOf p = next (WAY absent) 0 p
+wayOf p = next (WAY 0) 0 p
 
 -- the place behind an entry
 abbrev pub orderOf : Class → Place → Option Place
@@ -47,16 +46,16 @@ orderOf HeadOf p = next HEAD 0 p
 orderOf (Block s) p = blockOf s false p
 orderOf (Dynamic s n) p = blockOf s true p
 orderOf WayOf p = wayOf p
-orderOf (RecordOf form) p = next (RECORD form absent) 0 p
+orderOf (RecordOf form) p = next (RECORD form 0) 0 p
 
 -- its count is met
-abbrev pub metOf : Class → List Piece → Bool
-metOf Bad ps = true
-metOf HeadOf ps = true
-metOf (Block s) ps = true
-metOf (Dynamic s n) ps = eqb n (sevens ps)
-metOf WayOf ps = true
-metOf (RecordOf form) ps = true
+abbrev pub metOf : Bool → Class → List Piece → Bool
+metOf wide Bad ps = true
+metOf wide HeadOf ps = true
+metOf wide (Block s) ps = true
+metOf wide (Dynamic s n) ps = eqb n (sevens wide ps)
+metOf wide WayOf ps = true
+metOf wide (RecordOf form) ps = true
 
 -- the run of 7s that begins with it, if it is one
 abbrev pub runOf : Class → ℕ → ℕ
@@ -92,7 +91,7 @@ next-way missing a (blocks low true) = refl
 next-way missing a (blocks low false) = refl
 next-way missing a (records by) = refl
 
-next-record : (to missing a : ℕ) (p : Place) → next (RECORD to missing) a p ≡ next (RECORD to absent) 0 p
+next-record : (to missing a : ℕ) (p : Place) → next (RECORD to missing) a p ≡ next (RECORD to 0) 0 p
 next-record to missing a first = refl
 next-record to missing a (blocks low d) = refl
 next-record to missing a (records by) = refl
@@ -104,12 +103,12 @@ module _ (at : ℕ) (on : Place → Option ℕ) where
   not-ok ok none e = refl
   not-ok ok (some q) e = if-false ok (on q) (some at) e
 
-  module _ (there : ℕ) (body : List ℕ) (ps : List Piece) (p : Place) where
+  module _ (wide : Bool) (there : ℕ) (body : List ℕ) (ps : List Piece) (p : Place) where
     abbrev Judged : Sort → Entry → Type 0
-    Judged s e = taken at (formed s body && met (owes s body) ps) on (next s (start-in body) p) ≡ taken at (metOf (classOf e) ps) on (orderOf (classOf e) p)
+    Judged s e = taken at (formed s body && met wide (owes s body) ps) on (next s (start-in body) p) ≡ taken at (metOf wide (classOf e) ps) on (orderOf (classOf e) p)
 
-    misfit : (s : Sort) → eqb (length body) (long s body) ≡ false → taken at (formed s body && met (owes s body) ps) on (next s (start-in body) p) ≡ some at
-    misfit s h = not-ok (formed s body && met (owes s body) ps) (next s (start-in body) p) (ap (λ (a : Bool). (a && fair s body) && met (owes s body) ps) h)
+    misfit : (s : Sort) → eqb (length body) (long s body) ≡ false → taken at (formed s body && met wide (owes s body) ps) on (next s (start-in body) p) ≡ some at
+    misfit s h = not-ok (formed s body && met wide (owes s body) ps) (next s (start-in body) p) (ap (λ (a : Bool). (a && fair s body) && met wide (owes s body) ps) h)
 
     off : (s : Sort) → eqb (length body) (long s body) ≡ false → Judged s (known s Wrong)
     off HEAD h = misfit HEAD h
@@ -118,17 +117,17 @@ module _ (at : ℕ) (on : Place → Option ℕ) where
     off (RECORD to missing) h = misfit (RECORD to missing) h
     off UNKNOWN h = refl
 
-    fits : (s : Sort) {o : Option Place} {k : Bool} → eqb (length body) (long s body) ≡ true → fair s body ≡ true → met (owes s body) ps ≡ k → next s (start-in body) p ≡ o
-        → taken at (formed s body && met (owes s body) ps) on (next s (start-in body) p) ≡ taken at k on o
+    fits : (s : Sort) {o : Option Place} {k : Bool} → eqb (length body) (long s body) ≡ true → fair s body ≡ true → met wide (owes s body) ps ≡ k → next s (start-in body) p ≡ o
+        → taken at (formed s body && met wide (owes s body) ps) on (next s (start-in body) p) ≡ taken at k on o
     fits s h f m e = ap₂ (λ (c : Bool) (q : Option Place). taken at c on q) (ap₂ (λ (a b : Bool). a && b) (ap₂ (λ (a b : Bool). a && b) h f) m) e
 
     right : (s : Sort) → eqb (length body) (long s body) ≡ true → Judged s (known s (numbers there s body))
     right HEAD h = fits HEAD h refl refl (next-head (start-in body) p)
     right (BLOCK TERMINATE) h =
-        both (λ (k : Class). taken at (formed (BLOCK TERMINATE) body && met (owes (BLOCK TERMINATE) body) ps) on (next (BLOCK TERMINATE) (start-in body) p) ≡ taken at (metOf k ps) on (orderOf k p))
+        both (λ (k : Class). taken at (formed (BLOCK TERMINATE) body && met wide (owes (BLOCK TERMINATE) body) ps) on (next (BLOCK TERMINATE) (start-in body) p) ≡ taken at (metOf wide k ps) on (orderOf k p))
         (leb (field 4 1 body) 1)
         (λ y. fits (BLOCK TERMINATE) h y refl (next-block TERMINATE (start-in body) p))
-        (λ n. not-ok (formed (BLOCK TERMINATE) body && met (owes (BLOCK TERMINATE) body) ps) (next (BLOCK TERMINATE) (start-in body) p) (ap₂ (λ (a b : Bool). (a && b) && true) h n))
+        (λ n. not-ok (formed (BLOCK TERMINATE) body && met wide (owes (BLOCK TERMINATE) body) ps) (next (BLOCK TERMINATE) (start-in body) p) (ap₂ (λ (a b : Bool). (a && b) && true) h n))
     right (BLOCK JUMP) h = fits (BLOCK JUMP) h refl refl (next-block JUMP (start-in body) p)
     right (BLOCK JUMPI) h = fits (BLOCK JUMPI) h refl refl (next-block JUMPI (start-in body) p)
     right (BLOCK DYNAMIC-JUMP) h = fits (BLOCK DYNAMIC-JUMP) h refl refl (next-block DYNAMIC-JUMP (start-in body) p)
@@ -150,7 +149,7 @@ module _ (b : List ℕ) (at : ℕ) where
   abbrev to : ℕ
   to = at + (6 + announced rest)
 
-  pub entry-whole : Whole rest → entryAt b at ≡ shape (at + 6) (sort (entry rest .kind)) (entry rest .body)
+  pub entry-whole : Whole rest → entryAt b at ≡ shape (at + 6) (sort (wide-in b) (entry rest .kind)) (entry rest .body)
   unfolding entryAt
   entry-whole w = if-true (leb (6 + announced rest) (length rest)) _ _ (le-leb _ _ w)
 
@@ -164,17 +163,17 @@ module _ (b : List ℕ) (at : ℕ) where
 
   -- the class judges as the definitions do
   pub judge : (p : Place) → at < length b
-      → first-bad (from b at) p ≡ taken at (metOf (classOf (entryAt b at)) (from b (behindAt b at))) (λ q. first-bad (from b (behindAt b at)) q) (orderOf (classOf (entryAt b at)) p)
+      → first-bad (wide-in b) (from b at) p ≡ taken at (metOf (wide-in b) (classOf (entryAt b at)) (from b (behindAt b at))) (λ q. first-bad (wide-in b) (from b (behindAt b at)) q) (orderOf (classOf (entryAt b at)) p)
   unfolding first-bad
   judge p h = by-whole (decLe (6 + announced rest) (length rest))
     where
-      by-whole : Dec (Whole rest) → first-bad (from b at) p
-          ≡ taken at (metOf (classOf (entryAt b at)) (from b (behindAt b at))) (λ q. first-bad (from b (behindAt b at)) q) (orderOf (classOf (entryAt b at)) p)
+      by-whole : Dec (Whole rest) → first-bad (wide-in b) (from b at) p
+          ≡ taken at (metOf (wide-in b) (classOf (entryAt b at)) (from b (behindAt b at))) (λ q. first-bad (wide-in b) (from b (behindAt b at)) q) (orderOf (classOf (entryAt b at)) p)
       by-whole (yes w) =
           rw (entry-whole w, behind-whole w)
-          (ap (λ (ps : List Piece). first-bad ps p) (from-whole b at w)
-          ∙ by-shape at (λ q. first-bad (from b to) q) (at + 6) (entry rest .body) (from b to) p (sort (entry rest .kind)))
-      by-whole (no n) = rw (entry-cut n) (ap (λ (ps : List Piece). first-bad ps p) (from-cut b at h n))
+          (ap (λ (ps : List Piece). first-bad (wide-in b) ps p) (from-whole b at w)
+          ∙ by-shape at (λ q. first-bad (wide-in b) (from b to) q) (wide-in b) (at + 6) (entry rest .body) (from b to) p (sort (wide-in b) (entry rest .kind)))
+      by-whole (no n) = rw (entry-cut n) (ap (λ (ps : List Piece). first-bad (wide-in b) ps p) (from-cut b at h n))
 
 -- ---- the run of 7s
 
@@ -204,45 +203,34 @@ module _ (there : ℕ) (body : List ℕ) (n : ℕ) where
   unfolding shape
   run-shape s = both (λ (e : Entry). Runs s (known s e)) (eqb (length body) (long s body)) (λ _. run-right s) (λ _. run-wrong s)
 
-pub sevens-on : (b : List ℕ) (at : ℕ) → (classOf (entryAt b at) ≡ Bad → ⊥) → sevens (from b at) ≡ runOf (classOf (entryAt b at)) (suc (sevens (from b (behindAt b at))))
+pub sevens-on : (b : List ℕ) (at : ℕ) → (classOf (entryAt b at) ≡ Bad → ⊥) → sevens (wide-in b) (from b at) ≡ runOf (classOf (entryAt b at)) (suc (sevens (wide-in b) (from b (behindAt b at))))
 unfolding sevens
 sevens-on b at h = by-whole (decLe (6 + announced (rest b at)) (length (rest b at)))
   where
-    by-whole : Dec (Whole (rest b at)) → sevens (from b at) ≡ runOf (classOf (entryAt b at)) (suc (sevens (from b (behindAt b at))))
+    by-whole : Dec (Whole (rest b at)) → sevens (wide-in b) (from b at) ≡ runOf (classOf (entryAt b at)) (suc (sevens (wide-in b) (from b (behindAt b at))))
     by-whole (yes w) =
         let e = entry-whole b at w in
         rw (e, behind-whole b at w)
-        (ap sevens (from-whole b at w) ∙ run-shape (at + 6) (entry (rest b at) .body) (suc (sevens (from b (to b at)))) (sort (entry (rest b at) .kind)) (rw e at h))
+        (ap (sevens (wide-in b)) (from-whole b at w) ∙ run-shape (at + 6) (entry (rest b at) .body) (suc (sevens (wide-in b) (from b (to b at)))) (sort (wide-in b) (entry (rest b at) .kind)) (rw e at h))
     by-whole (no n) = absurd (h (rw (entry-cut b at n)))
 
 -- ---- the item
-
--- the numbers that the table of kinds has
-abbrev Listed : Sort → Type 0
-Listed HEAD = Unit
-Listed (BLOCK x) = Unit
-Listed (WAY missing) = missing ≡ absent
-Listed (RECORD to missing) = missing ≡ absent
-Listed UNKNOWN = Unit
-
-listed : (k : ℕ) → Listed (sort k)
-listed k = by-kind (λ _. Listed) tt tt tt tt tt tt refl refl refl (λ _. tt) k
 
 module _ (b : List ℕ) (there : ℕ) (body : List ℕ) (tail : (i n : ℕ) → length body ≡ i + n → drop i body ≡ take n (drop (there + i) b)) where
   -- the entry of a right form is the item
   abbrev Is : Sort → Entry → Type 0
   Is s e = (classOf e ≡ Bad → ⊥) → item-of s body ≡ itemOf b e
 
-  is-right : (s : Sort) → Listed s → length body ≡ long s body → Is s (known s (numbers there s body))
-  is-right HEAD l h n = refl
-  is-right (BLOCK TERMINATE) l h n = refl
-  is-right (BLOCK JUMP) l h n = refl
-  is-right (BLOCK JUMPI) l h n = refl
-  is-right (BLOCK DYNAMIC-JUMP) l h n = refl
-  is-right (BLOCK DYNAMIC-JUMPI) l h n = refl
-  is-right (WAY missing) l h n = rw (l, tail 6 (2 * field 2 4 body) h)
-  is-right (RECORD to missing) l h n = rw (l, tail (to + 4) (2 * field to 4 body) h)
-  is-right UNKNOWN l h n = absurd (n refl)
+  is-right : (s : Sort) → length body ≡ long s body → Is s (known s (numbers there s body))
+  is-right HEAD h n = refl
+  is-right (BLOCK TERMINATE) h n = refl
+  is-right (BLOCK JUMP) h n = refl
+  is-right (BLOCK JUMPI) h n = refl
+  is-right (BLOCK DYNAMIC-JUMP) h n = refl
+  is-right (BLOCK DYNAMIC-JUMPI) h n = refl
+  is-right (WAY missing) h n = rw (destined-is missing (field 0 2 body), tail 6 (2 * field 2 4 body) h)
+  is-right (RECORD to missing) h n = rw (destined-is missing (field 2 2 body), tail (to + 4) (2 * field to 4 body) h)
+  is-right UNKNOWN h n = absurd (n refl)
 
   is-wrong : (s : Sort) → Is s (known s Wrong)
   is-wrong HEAD n = absurd (n refl)
@@ -251,9 +239,9 @@ module _ (b : List ℕ) (there : ℕ) (body : List ℕ) (tail : (i n : ℕ) → 
   is-wrong (RECORD to missing) n = absurd (n refl)
   is-wrong UNKNOWN n = absurd (n refl)
 
-  is-item : (s : Sort) → Listed s → Is s (shape there s body)
+  is-item : (s : Sort) → Is s (shape there s body)
   unfolding shape
-  is-item s l = both (λ (e : Entry). Is s (known s e)) (eqb (length body) (long s body)) (λ y. is-right s l (eqb-true _ _ y)) (λ _. is-wrong s)
+  is-item s = both (λ (e : Entry). Is s (known s e)) (eqb (length body) (long s body)) (λ y. is-right s (eqb-true _ _ y)) (λ _. is-wrong s)
 
 module _ (b : List ℕ) (at : ℕ) where
   tail-of : (w : Whole (rest b at)) (i n : ℕ) → length (entry (rest b at) .body) ≡ i + n → drop i (entry (rest b at) .body) ≡ take n (drop (at + 6 + i) b)
@@ -262,15 +250,15 @@ module _ (b : List ℕ) (at : ℕ) where
       ap (λ (k : ℕ). drop i (take k (drop 6 (rest b at)))) e ∙ sym (part-of-take n i (drop 6 (rest b at)))
       ∙ ap (λ (l : List ℕ). take n l) (ap (λ (l : List ℕ). drop i l) (drop-drop 6 at b) ∙ drop-drop i (at + 6) b)
 
-  pub items-on : (classOf (entryAt b at) ≡ Bad → ⊥) → items (from b at) ≡ itemOf b (entryAt b at) ∷ items (from b (behindAt b at))
+  pub items-on : (classOf (entryAt b at) ≡ Bad → ⊥) → items (wide-in b) (from b at) ≡ itemOf b (entryAt b at) ∷ items (wide-in b) (from b (behindAt b at))
   unfolding items
   items-on n = by-whole (decLe (6 + announced (rest b at)) (length (rest b at)))
     where
-      by-whole : Dec (Whole (rest b at)) → items (from b at) ≡ itemOf b (entryAt b at) ∷ items (from b (behindAt b at))
+      by-whole : Dec (Whole (rest b at)) → items (wide-in b) (from b at) ≡ itemOf b (entryAt b at) ∷ items (wide-in b) (from b (behindAt b at))
       by-whole (yes w) =
           let e = entry-whole b at w in
-          let same = is-item b (at + 6) (entry (rest b at) .body) (tail-of w) (sort (entry (rest b at) .kind)) (listed (entry (rest b at) .kind)) (rw e at n) in
-          rw (e, behind-whole b at w) (ap items (from-whole b at w) ∙ ap {B = List Item} (λ (i : Item). i ∷ items (from b (to b at))) same)
+          let same = is-item b (at + 6) (entry (rest b at) .body) (tail-of w) (sort (wide-in b) (entry (rest b at) .kind)) (rw e at n) in
+          rw (e, behind-whole b at w) (ap (items (wide-in b)) (from-whole b at w) ∙ ap {B = List Item} (λ (i : Item). i ∷ items (wide-in b) (from b (to b at))) same)
       by-whole (no m) = absurd (n (rw (entry-cut b at m)))
 
 -- ---- the blocks and records among them
@@ -294,8 +282,8 @@ tallied b Wrong is h = absurd (h refl)
 tallied b Cut is h = absurd (h refl)
 
 module _ (b : List ℕ) (at : ℕ) (n : classOf (entryAt b at) ≡ Bad → ⊥) where
-  pub blocks-on : blocksOf (from b at) ≡ blockIn (classOf (entryAt b at)) + blocksOf (from b (behindAt b at))
-  blocks-on = ap (λ (is : List Item). length (finals-in is)) (items-on b at n) ∙ tallied b (entryAt b at) (items (from b (behindAt b at))) n .blocks-are
+  pub blocks-on : blocksOf (wide-in b) (from b at) ≡ blockIn (classOf (entryAt b at)) + blocksOf (wide-in b) (from b (behindAt b at))
+  blocks-on = ap (λ (is : List Item). length (finals-in is)) (items-on b at n) ∙ tallied b (entryAt b at) (items (wide-in b) (from b (behindAt b at))) n .blocks-are
 
-  pub records-on : recordsOf (from b at) ≡ recordIn (classOf (entryAt b at)) + recordsOf (from b (behindAt b at))
-  records-on = ap (λ (is : List Item). length (recs-in is)) (items-on b at n) ∙ tallied b (entryAt b at) (items (from b (behindAt b at))) n .records-are
+  pub records-on : recordsOf (wide-in b) (from b at) ≡ recordIn (classOf (entryAt b at)) + recordsOf (wide-in b) (from b (behindAt b at))
+  records-on = ap (λ (is : List Item). length (recs-in is)) (items-on b at n) ∙ tallied b (entryAt b at) (items (wide-in b) (from b (behindAt b at))) n .records-are

@@ -1,6 +1,6 @@
 -- The leading bytes at an offset: the ways out of the functions that read them, and what a caller learns. Assumes nothing.
-use mathlib.Core.Path.{_≡_, refl, sym, ap, _∙_}
-use mathlib.Core.Bool.{true, false}
+use mathlib.Core.Path.{_≡_, refl, sym, ap, ap₂, _∙_}
+use mathlib.Core.Bool.{Bool, true, false}
 use mathlib.Core.List.{List}
 use Prim.Native.Nat.{ℕ, _+_, _-_, _^_, _≤_, _<_}
 use native.Mathlib.Omega.{arith}
@@ -11,7 +11,7 @@ use lib.ListN.{length, take, drop, length-drop}
 use lib.Seq.{drop-drop}
 use borrow.Author.Tests.{leb-true, leb-false, le-leb, lt-leb}
 use Rattle.spec.specs.Lists.{if}
-use Rattle.spec.specs.Forms.{field, announced, Sort as Means, sort, UNKNOWN}
+use Rattle.spec.specs.Forms.{wide-in, field, announced, Sort as Means, sort, UNKNOWN}
 use Rattle.spec.specs.BadEntries.{Whole}
 use Rattle.laws.proofs.Branch.{both, if-true, if-false}
 use Rattle.lent.specs.Bytes.{Holds}
@@ -105,18 +105,18 @@ module _ (b : List ℕ) (at : ℕ) where
 
     pub seven-cut : r ≡ Short → false ≡ sevenAt b at
     unfolding sevenAt
-    seven-cut q = sym (ap leads-way (sym e ∙ q))
+    seven-cut q = sym (ap (leads-way (wide-in b)) (sym e ∙ q))
 
-    by-sort : {k n : ℕ} → r ≡ Says k n → (s : Sort) → sortOf s ≡ sort k → way? (sortOf s) ≡ sevenAt b at
+    by-sort : {wide : Bool} {k n : ℕ} → r ≡ Says k n → wide ≡ wide-in b → (s : Sort) → sortOf wide s ≡ sort wide k → way? (sortOf wide s) ≡ sevenAt b at
     unfolding sevenAt
-    by-sort q s t = ap way? t ∙ sym (ap leads-way (sym e ∙ q))
+    by-sort q w s t = ap way? t ∙ sym (ap₂ leads-way (sym w) (sym e ∙ q))
 
-    module _ {k n : ℕ} (q : r ≡ Says k n) {s : Sort} (t : sortOf s ≡ sort k) where
+    module _ {wide : Bool} (w : wide ≡ wide-in b) {k n : ℕ} (q : r ≡ Says k n) {s : Sort} (t : sortOf wide s ≡ sort wide k) where
       pub seven-there : s ≡ Way → true ≡ sevenAt b at
-      seven-there m = ap (λ (x : Sort). way? (sortOf x)) (sym m) ∙ by-sort q s t
+      seven-there m = ap (λ (x : Sort). way? (sortOf wide x)) (sym m) ∙ by-sort q w s t
 
       pub seven-other : (s ≡ Way → ⊥) → false ≡ sevenAt b at
-      seven-other m = sym (not-way s m) ∙ by-sort q s t
+      seven-other m = sym (not-way wide s m) ∙ by-sort q w s t
 
     -- ---- the ways out of entry_at
 
@@ -124,17 +124,20 @@ module _ (b : List ℕ) (at : ℕ) where
     unfolding entryAt
     entry-cut q = both (λ (x : Entry). Cut ≡ x) (leb (6 + announced rest) (length rest)) (λ on. absurd (short q (leb-true _ _ on))) (λ off. refl)
 
-    entry-of : {k n : ℕ} (s : Means) → r ≡ Says k n → sort k ≡ s → shape (at + 6) s (take n (drop (at + 6) b)) ≡ entryAt b at
+    entry-of : {k n : ℕ} (s : Means) → r ≡ Says k n → sort (wide-in b) k ≡ s → shape (at + 6) s (take n (drop (at + 6) b)) ≡ entryAt b at
     unfolding entryAt
     entry-of {k} {n} s q t =
         let l = leads q in
         rw (if-true (leb (6 + announced rest) (length rest)) _ _ (le-leb _ _ (l .there)), ← t, l .kind, l .size, ← drop-drop 6 at b)
 
     -- by its kind
-    module _ {k n : ℕ} (q : r ≡ Says k n) {s : Sort} (t : sortOf s ≡ sort k) where
+    module _ {wide : Bool} (w : wide ≡ wide-in b) {k n : ℕ} (q : r ≡ Says k n) {s : Sort} (t : sortOf wide s ≡ sort wide k) where
+      sorted : {v : Sort} → s ≡ v → sort (wide-in b) k ≡ sortOf wide v
+      sorted g = ap (λ (x : Bool). sort x k) (sym w) ∙ sym t ∙ ap (sortOf wide) g
+
       pub entry-none : s ≡ Unknown → NotKnown ≡ entryAt b at
       unfolding shape
-      entry-none g = entry-of UNKNOWN q (sym t ∙ ap sortOf g)
+      entry-none g = entry-of UNKNOWN q (sorted g)
 
-      pub entry-sorted : {v : Sort} {x : Entry} → s ≡ v → x ≡ shape (at + 6) (sortOf v) (take n (drop (at + 6) b)) → x ≡ entryAt b at
-      entry-sorted {v} g h = h ∙ entry-of (sortOf v) q (sym t ∙ ap sortOf g)
+      pub entry-sorted : {v : Sort} {x : Entry} → s ≡ v → x ≡ shape (at + 6) (sortOf wide v) (take n (drop (at + 6) b)) → x ≡ entryAt b at
+      entry-sorted {v} g h = h ∙ entry-of (sortOf wide v) q (sorted g)

@@ -1,4 +1,5 @@
 pub mod Sorting
+pub mod Destinations
 pub mod Bodies
 pub mod Leads
 pub mod Classing

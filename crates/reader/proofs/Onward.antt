@@ -1,5 +1,6 @@
 -- The entries from an offset on, and the run of 7s among them. Assumes nothing.
 use mathlib.Core.Path.{_≡_, refl, sym, ap, _∙_}
+use mathlib.Core.Bool.{Bool}
 use mathlib.Core.List.{List, [], _∷_}
 use Prim.Native.Nat.{ℕ, suc, _+_, _-_, _^_, _≤_, _<_}
 use native.Mathlib.Omega.{arith}
@@ -9,7 +10,7 @@ use mir.Syntax.{w64}
 use mir.Val.{Fits}
 use lib.ListN.{length, drop, length-drop}
 use lib.Seq.{drop-drop}
-use Rattle.spec.specs.Forms.{announced, entry, sort}
+use Rattle.spec.specs.Forms.{wide-in, announced, entry, sort}
 use Rattle.spec.specs.Reader.{Piece, whole, cut, goes-on, sevens}
 use Rattle.spec.specs.BadEntries.{Whole}
 use Rattle.theorems.proofs.ReaderSplit.{Split, moved, split-skip, split-whole, split-cut, split-none, split-once}
@@ -52,27 +53,27 @@ module _ (b : List ℕ) (at : ℕ) where
 pub record Counting (b : List ℕ) (at n to : ℕ) : Type 0 where
   pub within : to ≤ length b
   pub few : n ≤ to
-  pub sum : n + sevens (from b to) ≡ sevens (from b at)
+  pub sum : n + sevens (wide-in b) (from b to) ≡ sevens (wide-in b) (from b at)
 
 pub count-none : (b : List ℕ) (at : ℕ) → at ≤ length b → Counting b at 0 at
 count-none b at h = record { within = h; few = omega arith; sum = omega arith }
 
 module _ {b : List ℕ} {at n to : ℕ} (h : Counting b at n to) {r : Lead} (e : r ≡ leadAt b to) where
-  pub count-cut : r ≡ Short → n ≡ sevens (from b at)
+  pub count-cut : r ≡ Short → n ≡ sevens (wide-in b) (from b at)
   unfolding sevens
   count-cut q = by-left (decLt to (length b))
     where
-      by-left : Dec (to < length b) → n ≡ sevens (from b at)
-      by-left (yes l) = omega (arith, ap sevens (from-cut b to l (short b to e q)))
-      by-left (no l) = omega (arith, ap sevens (from-end b to (omega arith)))
+      by-left : Dec (to < length b) → n ≡ sevens (wide-in b) (from b at)
+      by-left (yes l) = omega (arith, ap (sevens (wide-in b)) (from-cut b to l (short b to e q)))
+      by-left (no l) = omega (arith, ap (sevens (wide-in b)) (from-end b to (omega arith)))
 
-  module _ {k s : ℕ} (q : r ≡ Says k s) {x : Sort} (t : sortOf x ≡ sort k) where
-    pub count-other : (x ≡ Way → ⊥) → n ≡ sevens (from b at)
+  module _ {wide : Bool} (w : wide ≡ wide-in b) {k s : ℕ} (q : r ≡ Says k s) {x : Sort} (t : sortOf wide x ≡ sort wide k) where
+    pub count-other : (x ≡ Way → ⊥) → n ≡ sevens (wide-in b) (from b at)
     unfolding sevens
     count-other m =
         let l = leads b to e q in
-        let z : goes-on (sort k) (suc (sevens (from b (to + (6 + announced (drop to b)))))) ≡ 0 = rw (← t) (no-way x m _) in
-        let f : sevens (from b to) ≡ 0 = ap sevens (from-whole b to (l .there)) ∙ rw (l .kind) at z in
+        let z : goes-on (sort (wide-in b) k) (suc (sevens (wide-in b) (from b (to + (6 + announced (drop to b)))))) ≡ 0 = rw (← w, ← t) (no-way wide x m _) in
+        let f : sevens (wide-in b) (from b to) ≡ 0 = ap (sevens (wide-in b)) (from-whole b to (l .there)) ∙ rw (l .kind) at z in
         omega arith
 
     pub count-more : x ≡ Way → Counting b at (n + 1) (to + 6 + s)
@@ -80,8 +81,8 @@ module _ {b : List ℕ} {at n to : ℕ} (h : Counting b at n to) {r : Lead} (e :
     count-more m =
         let l = leads b to e q in
         let on : to + 6 + s ≡ to + (6 + announced (drop to b)) = omega arith in
-        let z : goes-on (sort k) (suc (sevens (from b (to + 6 + s)))) ≡ suc (sevens (from b (to + 6 + s))) = rw (← t, m) in
-        let f : sevens (from b to) ≡ suc (sevens (from b (to + 6 + s))) = rw on (ap sevens (from-whole b to (l .there))) ∙ (rw (l .kind) at z) in
+        let z : goes-on (sort (wide-in b) k) (suc (sevens (wide-in b) (from b (to + 6 + s)))) ≡ suc (sevens (wide-in b) (from b (to + 6 + s))) = rw (← w, ← t, m) in
+        let f : sevens (wide-in b) (from b to) ≡ suc (sevens (wide-in b) (from b (to + 6 + s))) = rw on (ap (sevens (wide-in b)) (from-whole b to (l .there))) ∙ (rw (l .kind) at z) in
         record { within = omega arith; few = omega arith; sum = omega arith }
 
   module _ {k s : ℕ} (q : r ≡ Says k s) where

@@ -10,7 +10,7 @@ use lib.Dec.{eqb, leb}
 use lib.ListN.{length, drop, length-drop}
 use borrow.Author.Tests.{leb-true}
 use Rattle.spec.specs.Lists.{number}
-use Rattle.spec.specs.Forms.{field, announced, entry, Sort, HEAD, BLOCK, WAY, RECORD, UNKNOWN, TERMINATE, JUMP, JUMPI, DYNAMIC-JUMP, DYNAMIC-JUMPI, sort, long, start-in}
+use Rattle.spec.specs.Forms.{wide-in, field, announced, entry, Sort, HEAD, BLOCK, WAY, RECORD, UNKNOWN, TERMINATE, JUMP, JUMPI, DYNAMIC-JUMP, DYNAMIC-JUMPI, sort, long, start-in}
 use Rattle.spec.specs.Reader.{sevens}
 use Rattle.spec.specs.BadEntries.{Whole}
 use Rattle.laws.proofs.Branch.{both}
@@ -72,7 +72,7 @@ module _ (b : List ℕ) (at : ℕ) where
       by-whole : Dec (Whole (drop at b)) → startOf (classOf (entryAt b at)) < 65536
       by-whole (yes w) =
           rw (entry-whole b at w)
-          (low (at + 6) (entry (drop at b) .body) (two-bytes (entry (drop at b) .body) (bytes-take (announced (drop at b)) (drop 6 (drop at b)) (bytes-drop 6 (drop at b) (bytes-drop at b h)))) (sort (entry (drop at b) .kind)))
+          (low (at + 6) (entry (drop at b) .body) (two-bytes (entry (drop at b) .body) (bytes-take (announced (drop at b)) (drop 6 (drop at b)) (bytes-drop 6 (drop at b) (bytes-drop at b h)))) (sort (wide-in b) (entry (drop at b) .kind)))
       by-whole (no n) = rw (entry-cut b at n) (omega arith)
 
   pub behind-in : behindAt b at ≤ length b
@@ -122,10 +122,10 @@ module _ (b : List ℕ) (s : Scan) where
 
   -- what is left to judge behind the entry ends where the whole does, or the entry is where the scan stops
   module _ (w : Within b s) (h : s .at < length b) where
-    moved : (st : Step) → stepOf kind-of (s .place) at ≡ st → Moves at (from b at) (from b (behindAt b at)) (s .place) st
+    moved : (st : Step) → stepOf kind-of (s .place) at ≡ st → Moves (wide-in b) at (from b at) (from b (behindAt b at)) (s .place) st
     moved st e =
-        subst (Moves at (from b at) (from b (behindAt b at)) (s .place)) e
-        (moves at (from b at) (from b (behindAt b at)) kind-of (λ p. judge b at p h) (sevens-on b at) (s .place))
+        subst (Moves (wide-in b) at (from b at) (from b (behindAt b at)) (s .place)) e
+        (moves (wide-in b) at (from b at) (from b (behindAt b at)) kind-of (λ p. judge b at p h) (sevens-on b at) (s .place))
 
     not-bad : (p : Order) → stepOf kind-of (s .place) at ≡ To p → kind-of ≡ Bad → ⊥
     not-bad p e z = let y : To p ≡ stepOf Bad (s .place) at = sym e ∙ ap (λ (x : Class). stepOf x (s .place) at) z in never (cc)
@@ -168,7 +168,7 @@ module _ (b : List ℕ) (s : Scan) where
         let same : k ≡ kind-of = c ∙ ap classOf is in
         ap (turnTo b s k) (sym q ∙ o) ∙ ap (λ (x : Class). turnTo b s x (stepOf x (s .place) at)) same
 
-    pub one-stops : r ≡ Stop → {x : ℕ} → x ≡ stoppedOf (s .place) (s .at) (sevens (from b (s .at))) → Stops x ≡ turnOf b s
+    pub one-stops : r ≡ Stop → {x : ℕ} → x ≡ stoppedOf (s .place) (s .at) (sevens (wide-in b) (from b (s .at))) → Stops x ≡ turnOf b s
     one-stops q z = ap Stops z ∙ turns-to q
 
     pub one-goes : {p : Order} → r ≡ To p → {x y to : ℕ} → to ≡ behindAt b (s .at) → x ≡ blockIn k → y ≡ recordIn k

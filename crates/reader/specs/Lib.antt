@@ -1,4 +1,5 @@
 pub mod Sorts
+pub mod Dests
 pub mod Shapes
 pub mod Classes
 pub mod Scanning

@@ -6,9 +6,9 @@ use lib.Dec.{eqb, leb}
 use lib.ListN.{length, take, drop}
 use Rattle.spec.specs.Lists.{if}
 use Rattle.spec.specs.Blocks.{block, terminate, jump, jumpi, dynamic-jump, dynamic-jumpi}
-use Rattle.spec.specs.Entries.{absent}
-use Rattle.spec.specs.Forms.{field, announced, entry, Sort, HEAD, BLOCK, WAY, RECORD, UNKNOWN, TERMINATE, JUMP, JUMPI, DYNAMIC-JUMP, DYNAMIC-JUMPI, sort, long}
-use Rattle.spec.specs.Reader.{Piece, pieces, Item, a-head, a-block, a-way, a-record, no-item, destined, addresses, numbered-by}
+use Rattle.spec.specs.Forms.{wide-in, field, announced, entry, Sort, HEAD, BLOCK, WAY, RECORD, UNKNOWN, TERMINATE, JUMP, JUMPI, DYNAMIC-JUMP, DYNAMIC-JUMPI, sort, long}
+use Rattle.spec.specs.Reader.{Piece, pieces, Item, a-head, a-block, a-way, a-record, no-item, addresses, numbered-by}
+use Rattle.reader.specs.Dests.{goesTo, foundOf}
 use Rattle.reader.specs.declared.lead.Lead.{Lead}
 use Rattle.reader.specs.declared.lead.Lead.the-variants.{Says, Short}
 use Rattle.reader.specs.declared.entry.Entry.{Entry}
@@ -22,7 +22,7 @@ from b at = pieces (drop at b) 0 at
 unfoldable pub leadAt : List ℕ → ℕ → Lead
 leadAt b at = let e = drop at b in if (leb (6 + announced e) (length e)) (Says (field 4 2 e) (announced e)) Short
 
--- whether they are a 7's
+-- whether they are a 7's, in a family
 abbrev pub way? : Sort → Bool
 way? HEAD = false
 way? (BLOCK x) = false
@@ -30,12 +30,12 @@ way? (WAY missing) = true
 way? (RECORD to missing) = false
 way? UNKNOWN = false
 
-abbrev pub leads-way : Lead → Bool
-leads-way (Says k n) = way? (sort k)
-leads-way Short = false
+abbrev pub leads-way : Bool → Lead → Bool
+leads-way wide (Says k n) = way? (sort wide k)
+leads-way wide Short = false
 
 unfoldable pub sevenAt : List ℕ → ℕ → Bool
-sevenAt b at = leads-way (leadAt b at)
+sevenAt b at = leads-way (wide-in b) (leadAt b at)
 
 -- where the entry behind it stands
 unfoldable pub behindAt : List ℕ → ℕ → ℕ
@@ -49,8 +49,8 @@ numbers at (BLOCK JUMP) body = Jump (field 0 2 body) (field 2 2 body) (field 4 2
 numbers at (BLOCK JUMPI) body = Jumpi (field 0 2 body) (field 2 2 body) (field 4 2 body) (field 6 2 body)
 numbers at (BLOCK DYNAMIC-JUMP) body = DynamicJump (field 0 2 body) (field 2 2 body) (field 4 4 body)
 numbers at (BLOCK DYNAMIC-JUMPI) body = DynamicJumpi (field 0 2 body) (field 2 2 body) (field 4 2 body) (field 6 4 body)
-numbers at (WAY missing) body = Way (field 0 2 body) (at + 6) (field 2 4 body)
-numbers at (RECORD to missing) body = Record (field 0 2 body) (field 2 2 body) to (numbered-by (eqb to 8) (field 4 4 body)) (at + (to + 4)) (field to 4 body)
+numbers at (WAY missing) body = Way (goesTo missing (field 0 2 body)) (at + 6) (field 2 4 body)
+numbers at (RECORD to missing) body = Record (field 0 2 body) (goesTo missing (field 2 2 body)) to (numbered-by (eqb to 8) (field 4 4 body)) (at + (to + 4)) (field to 4 body)
 numbers at UNKNOWN body = Unknown
 
 abbrev pub known : Sort → Entry → Entry
@@ -65,7 +65,7 @@ shape at s body = known s (if (eqb (length body) (long s body)) (numbers at s bo
 
 -- the entry at an offset
 unfoldable pub entryAt : List ℕ → ℕ → Entry
-entryAt b at = let e = drop at b in if (leb (6 + announced e) (length e)) (shape (at + 6) (sort (entry e .kind)) (entry e .body)) Cut
+entryAt b at = let e = drop at b in if (leb (6 + announced e) (length e)) (shape (at + 6) (sort (wide-in b) (entry e .kind)) (entry e .body)) Cut
 
 -- the item of the definitions that an entry of the bytes b is
 abbrev pub itemOf : List ℕ → Entry → Item
@@ -75,9 +75,9 @@ itemOf b (Jump s e to) = a-block (block s s e (jump to)) 0
 itemOf b (Jumpi s e t f) = a-block (block s s e (jumpi t f)) 0
 itemOf b (DynamicJump s e n) = a-block (block s s e dynamic-jump) n
 itemOf b (DynamicJumpi s e f n) = a-block (block s s e (dynamic-jumpi f)) n
-itemOf b (Way to path n) = a-way (destined absent to) (addresses (take (2 * n) (drop path b)))
+itemOf b (Way to path n) = a-way (foundOf to) (addresses (take (2 * n) (drop path b)))
 itemOf b (Record s to form energy path n) =
-    a-record (eqb form 8) (record { start = s; to = destined absent to; path = addresses (take (2 * n) (drop path b)); energy = energy })
+    a-record (eqb form 8) (record { start = s; to = foundOf to; path = addresses (take (2 * n) (drop path b)); energy = energy })
 itemOf b Unknown = no-item
 itemOf b Wrong = no-item
 itemOf b Cut = no-item

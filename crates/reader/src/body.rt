@@ -1,5 +1,6 @@
 // A body of n bytes from `at` on, as the kind has it; or its length is another than the kind says.
 // "bodies longer or shorter than their kind says are bad"
+use crate::dest::destined;
 use crate::entry::Entry;
 use lent::get8;
 use lent::get16;
@@ -117,10 +118,10 @@ pub fn dynamic_jumpi(map: &[u8], at: usize, n: usize) -> Entry
     }
 }
 
-// Kind 7: to, path length, path.
-pub fn way(map: &[u8], at: usize, n: usize) -> Entry
+// Kind 7 or 10: to, path length, path.
+pub fn way(map: &[u8], wide: bool, at: usize, n: usize) -> Entry
     requires { ⌜ at + n ≤ length (now map) ⌝ }
-    ensures { λ r. ⌜ r ≡ shape at (WAY absent) (take n (drop at (now (map .entry)))) ⌝ }
+    ensures { λ r. ⌜ r ≡ shape at (WAY (absent wide)) (take n (drop at (now (map .entry)))) ⌝ }
 {
     if n < 6 {
         return Entry::Wrong;
@@ -131,16 +132,16 @@ pub fn way(map: &[u8], at: usize, n: usize) -> Entry
         return Entry::Wrong;
     }
     Entry::Way {
-        to,
+        to: destined(wide, to),
         path: at + 6,
         count,
     }
 }
 
-// Kind 8: start, to, path length, path.
-pub fn record(map: &[u8], at: usize, n: usize) -> Entry
+// Kind 8 or 11: start, to, path length, path.
+pub fn record(map: &[u8], wide: bool, at: usize, n: usize) -> Entry
     requires { ⌜ at + n ≤ length (now map) ⌝ }
-    ensures { λ r. ⌜ r ≡ shape at (RECORD 4 absent) (take n (drop at (now (map .entry)))) ⌝ }
+    ensures { λ r. ⌜ r ≡ shape at (RECORD 4 (absent wide)) (take n (drop at (now (map .entry)))) ⌝ }
 {
     if n < 8 {
         return Entry::Wrong;
@@ -153,7 +154,7 @@ pub fn record(map: &[u8], at: usize, n: usize) -> Entry
     }
     Entry::Record {
         start,
-        to,
+        to: destined(wide, to),
         form: 4,
         energy: 0,
         path: at + 8,
@@ -161,10 +162,10 @@ pub fn record(map: &[u8], at: usize, n: usize) -> Entry
     }
 }
 
-// "kind 9: start, to, energy, path length, path".
-pub fn numbered(map: &[u8], at: usize, n: usize) -> Entry
+// "kind 9: start, to, energy, path length, path", or 12.
+pub fn numbered(map: &[u8], wide: bool, at: usize, n: usize) -> Entry
     requires { ⌜ at + n ≤ length (now map) ⌝ }
-    ensures { λ r. ⌜ r ≡ shape at (RECORD 8 absent) (take n (drop at (now (map .entry)))) ⌝ }
+    ensures { λ r. ⌜ r ≡ shape at (RECORD 8 (absent wide)) (take n (drop at (now (map .entry)))) ⌝ }
 {
     if n < 12 {
         return Entry::Wrong;
@@ -178,7 +179,7 @@ pub fn numbered(map: &[u8], at: usize, n: usize) -> Entry
     }
     Entry::Record {
         start,
-        to,
+        to: destined(wide, to),
         form: 8,
         energy,
         path: at + 12,

@@ -8,14 +8,16 @@ use crate::body::numbered;
 use crate::body::record;
 use crate::body::terminate;
 use crate::body::way;
+use crate::dest::Destination;
 use crate::kind::Sort;
 use crate::kind::sort_of;
+use crate::kind::wide_in;
 use crate::lead::Lead;
 use crate::lead::lead_at;
 ghost use mathlib.Core.Path.{_≡_};
 ghost use Rattle.reader.specs.Shapes.{entryAt};
 
-// Its numbers, by its kind: a missing destination is 0x8000, and a path is told by where its addresses of 2 bytes stand and how many they are.
+// Its numbers, by its kind; the two families of kinds give the same. A path is told by where its addresses of 2 bytes stand and how many they are.
 // A record's form is where the path length stands in its body: 4 in kind 8; 8 in kind 9, behind its number, which is 0 in kind 8.
 // Or what is wrong with it by itself: its kind is not known, its body is "longer or shorter than" its kind says, or it is cut.
 pub enum Entry {
@@ -53,13 +55,13 @@ pub enum Entry {
         count: usize,
     },
     Way {
-        to: usize,
+        to: Destination,
         path: usize,
         count: usize,
     },
     Record {
         start: usize,
-        to: usize,
+        to: Destination,
         form: usize,
         energy: usize,
         path: usize,
@@ -78,16 +80,17 @@ pub fn entry_at(map: &[u8], at: usize) -> Entry
     match l {
         Lead::Says { kind, length } => {
             let body = at + 6;
-            match sort_of(kind) {
+            let wide = wide_in(map);
+            match sort_of(wide, kind) {
                 Sort::Head => head(map, body, length),
                 Sort::Terminate => terminate(map, body, length),
                 Sort::Jump => jump(map, body, length),
                 Sort::Jumpi => jumpi(map, body, length),
                 Sort::DynamicJump => dynamic_jump(map, body, length),
                 Sort::DynamicJumpi => dynamic_jumpi(map, body, length),
-                Sort::Way => way(map, body, length),
-                Sort::Record => record(map, body, length),
-                Sort::Numbered => numbered(map, body, length),
+                Sort::Way => way(map, wide, body, length),
+                Sort::Record => record(map, wide, body, length),
+                Sort::Numbered => numbered(map, wide, body, length),
                 Sort::Unknown => Entry::Unknown,
             }
         }

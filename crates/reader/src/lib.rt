@@ -1,6 +1,7 @@
 // The reader of stored maps (document 02, No. 2): the entry at an offset, the judgement of a whole byte string, and the walk over an accepted one.
 mod body;
 mod class;
+mod dest;
 mod entry;
 mod kind;
 mod lead;
@@ -9,6 +10,7 @@ mod scan;
 mod walk;
 
 pub use class::Order;
+pub use dest::Destination;
 pub use entry::Entry;
 pub use entry::entry_at;
 pub use lead::end_of;

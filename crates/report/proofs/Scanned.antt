@@ -1,6 +1,5 @@
 -- The one pass over a stored map: what is counted so far and what is still to come are the totals of all its entries, and the reader's scan judges them. Assumes nothing.
 use mathlib.Core.Path.{_≡_, refl, sym, ap, ap₂, _∙_}
-use mathlib.Core.Bool.{Bool, true, false}
 use mathlib.Core.List.{List, [], _∷_}
 use Prim.Native.Nat.{ℕ, zero, suc, _+_, _*_, _-_, _^_, _≤_, _<_}
 use native.Mathlib.Omega.{arith}
@@ -9,22 +8,23 @@ use lib.Dec.{eqb}
 use lib.ListN.{length, take, drop}
 use borrow.Author.Tests.{eq-eqb, ne-eqb}
 use Rattle.spec.specs.Lists.{if}
-use Rattle.spec.specs.Stacks.{entry as no-state}
-use Rattle.spec.specs.Search.{nowhere, found}
-use Rattle.spec.specs.Entries.{Map, absent}
-use Rattle.spec.specs.Forms.{announced}
-use Rattle.spec.specs.Reader.{Reading as Said, holds, bad, Piece, Item, a-head, items, destined, addresses, read}
+use Rattle.spec.specs.Entries.{Map}
+use Rattle.spec.specs.Forms.{wide-in, announced}
+use Rattle.spec.specs.Reader.{Reading as Said, holds, bad, Piece, Item, a-head, items, addresses, read}
 use Rattle.spec.specs.BadEntries.{Whole as WholeEntry}
 use Rattle.spec.specs.Report.{Totals, totals-of, nothing-yet, join}
-use Rattle.laws.proofs.Branch.{both, if-true, if-false}
+use Rattle.laws.proofs.Branch.{if-true, if-false}
 use Rattle.theorems.proofs.ReaderPlaces.{never}
 use Rattle.theorems.proofs.ReaderItems.{items-of}
 use Rattle.theorems.proofs.ReportLaws.{join-assoc, join-comm, join-neutral}
 use Rattle.lent.proofs.Parts.{length-part}
+use Rattle.reader.specs.Dests.{foundOf}
 use Rattle.reader.specs.Shapes.{from, behindAt, entryAt, itemOf}
 use Rattle.reader.specs.Classes.{classOf, stepOf, blockIn, recordIn}
 use Rattle.reader.specs.Scanning.{Within, turnTo, turnOf, refuses, lastOf, restOf, readingOf}
 use Rattle.reader.specs.Walks.{itemsFrom}
+use Rattle.reader.specs.declared.dest.Destination.{Destination}
+use Rattle.reader.specs.declared.dest.Destination.the-variants.{Missing, At}
 use Rattle.reader.specs.declared.entry.Entry.{Entry}
 use Rattle.reader.specs.declared.entry.Entry.the-variants.{Head, Terminate, Jump, Jumpi, DynamicJump, DynamicJumpi, Way, Record, Unknown, Wrong, Cut}
 use Rattle.reader.specs.declared.class.Class.{Class}
@@ -42,7 +42,7 @@ use Rattle.reader.proofs.Turning.{behind-in}
 use Rattle.reader.proofs.Resting.{Scans, scan-start, scan-on, scan-less, scan-bad, scan-last, read-head}
 use Rattle.reader.proofs.Walked.{begins}
 use Rattle.reader.proofs.Paths.{way-inside, record-inside}
-use Rattle.report.specs.Counts.{totalsOf, countsOf, noneCounted, at-place, shutOf, pathOf, recordOf, addsOf, seesOf, seenBy, openedBy, Shut, Counted, RoomToShut, Roomy}
+use Rattle.report.specs.Counts.{totalsOf, countsOf, noneCounted, at-place, shutOf, recordOf, addsOf, seenBy, openedBy, Shut, Counted, RoomToShut, Roomy}
 use Rattle.report.specs.Scanning.{Headed, closedOf, passOf}
 use Rattle.report.specs.declared.count.Counts.{Counts}
 use Rattle.report.specs.declared.count.Open.{Open}
@@ -61,21 +61,13 @@ addresses-long n (x ∷ []) e = absurd (omega arith)
 addresses-long zero (x ∷ y ∷ l) e = absurd (omega arith)
 addresses-long (suc n) (x ∷ y ∷ l) e = ap suc (addresses-long n l (omega arith))
 
-seen-destined : (to : ℕ) (o : Open) → seen (destined absent to) o ≡ seenBy to o
-unfolding if
-seen-destined to o = by (eqb to absent)
-  where
-    by : (t : Bool) → seen (if t nowhere (found to no-state)) o ≡ if t o (seesOf to o)
-    by true = refl
-    by false = refl
+seen-found : (to : Destination) (o : Open) → seen (foundOf to) o ≡ seenBy to o
+seen-found Missing o = refl
+seen-found (At t) o = refl
 
-record-destined : (to n : ℕ) → record-totals n (destined absent to) ≡ recordOf to n
-unfolding if
-record-destined to n = by (eqb to absent)
-  where
-    by : (t : Bool) → record-totals n (if t nowhere (found to no-state)) ≡ if t (join (at-place 10 1) (pathOf n)) (join (at-place 9 1) (pathOf n))
-    by true = refl
-    by false = refl
+record-found : (to : Destination) (n : ℕ) → record-totals n (foundOf to) ≡ recordOf to n
+record-found Missing n = refl
+record-found (At t) n = refl
 
 -- a block ends the block at hand, in either order
 reordered : (t s k : Totals) → join (join t s) k ≡ join t (join k s)
@@ -94,10 +86,10 @@ module _ (b : List ℕ) (at : ℕ) (is : List Item) (t : Totals) (o : Open) wher
   scan-entry (DynamicJump s e n) q = ap (λ (u : Totals). scan is u NoneYet) (reordered t (shutOf o) (at-place 4 1))
   scan-entry (DynamicJumpi s e f n) q = ap (λ (u : Totals). scan is u NoneYet) (reordered t (shutOf o) (at-place 5 1))
   scan-entry (Way to path n) q =
-      ap₂ (λ (k : ℕ) (p : Open). scan is (join t (at-place 11 k)) p) (path-long path n (way-inside b at q refl)) (seen-destined to o)
+      ap₂ (λ (k : ℕ) (p : Open). scan is (join t (at-place 11 k)) p) (path-long path n (way-inside b at q refl)) (seen-found to o)
   scan-entry (Record s to form energy path n) q =
-      ap (λ (k : ℕ). scan is (join t (record-totals k (destined absent to))) o) (path-long path n (record-inside b at q refl))
-      ∙ ap (λ (u : Totals). scan is (join t u) o) (record-destined to n)
+      ap (λ (k : ℕ). scan is (join t (record-totals k (foundOf to))) o) (path-long path n (record-inside b at q refl))
+      ∙ ap (λ (u : Totals). scan is (join t u) o) (record-found to n)
   scan-entry Unknown q = ap (λ (u : Totals). scan is u o) (sym (join-neutral t))
   scan-entry Wrong q = ap (λ (u : Totals). scan is u o) (sym (join-neutral t))
   scan-entry Cut q = ap (λ (u : Totals). scan is u o) (sym (join-neutral t))
@@ -143,7 +135,8 @@ one-more (Jumpi s e x y) o = omega (arith, no-kind o)
 one-more (DynamicJump s e n) o = omega (arith, no-kind o)
 one-more (DynamicJumpi s e f n) o = omega (arith, no-kind o)
 one-more (Way to path n) o = omega arith
-one-more (Record s to form energy path n) o = both One (eqb to absent) (λ _. omega arith) (λ _. omega arith)
+one-more (Record s Missing form energy path n) o = omega arith
+one-more (Record s (At t) form energy path n) o = omega arith
 one-more Unknown o = omega arith
 one-more Wrong o = omega arith
 one-more Cut o = omega arith
@@ -205,7 +198,7 @@ module _ (b : List ℕ) {size n k energy : ℕ} (h : entryAt b 0 ≡ Head size n
   module _ {m : Map} (r : read b ≡ holds m) where
     all-items : a-head size n k energy ∷ itemsFrom b (behindAt b 0) ≡ items-of m
     unfolding itemsFrom
-    all-items = sym (items-on b 0 head-right ∙ ap {B = List Item} (λ (e : Entry). itemOf b e ∷ items (from b (behindAt b 0))) h) ∙ begins b m r .all
+    all-items = sym (items-on b 0 head-right ∙ ap {B = List Item} (λ (e : Entry). itemOf b e ∷ items (wide-in b) (from b (behindAt b 0))) h) ∙ begins b m r .all
 
     rest-is : itemsFrom b (behindAt b 0) ≡ tail-of m
     rest-is = let z = all-items in cc
@@ -287,7 +280,7 @@ module _ {b : List ℕ} {to n m : ℕ} (h : Headed b to n m) where
       counted-all : {v : Map} → read b ≡ holds v → countsOf (join (totalsOf c) (shutOf o)) ≡ countsOf (totals-of v)
       unfolding scan itemsFrom items
       counted-all {v} e =
-          ap countsOf (sym (z .same ∙ ap (λ (ps : List Piece). scan (items ps) (totalsOf c) o) (from-end b (s .at) l))
+          ap countsOf (sym (z .same ∙ ap (λ (ps : List Piece). scan (items (wide-in b) ps) (totalsOf c) o) (from-end b (s .at) l))
           ∙ ap (λ (i : ℕ). scan (itemsFrom b i) nothing-yet Static) (h .behind) ∙ ap (λ (is : List Item). scan is nothing-yet Static) (rest-is b (h .head) e) ∙ scan-is v)
 
       pub pass-end : {x : Pass} → x ≡ closedOf s n m c o → x ≡ passOf (read b)

@@ -5,8 +5,9 @@ use mathlib.Core.List.{[], _∷_, _++_}
 use lib.Dec.{eqb}
 use lib.ListN.{replicate}
 use Rattle.spec.specs.Lists.{if}
-use Rattle.spec.specs.Entries.{absent}
 use Rattle.spec.specs.Report.{Totals, listed, nothing-yet, join}
+use Rattle.reader.specs.declared.dest.Destination.{Destination}
+use Rattle.reader.specs.declared.dest.Destination.the-variants.{Missing, At}
 use Rattle.reader.specs.declared.entry.Entry.{Entry}
 use Rattle.reader.specs.declared.entry.Entry.the-variants.{Head, Terminate, Jump, Jumpi, DynamicJump, DynamicJumpi, Way, Record, Unknown, Wrong, Cut}
 use Rattle.report.specs.declared.count.Counts.{Counts}
@@ -65,8 +66,9 @@ shutOf Several = at-place 8 1
 abbrev pub pathOf : ℕ → Totals
 pathOf n = at-place 11 n
 
-abbrev pub recordOf : ℕ → ℕ → Totals
-recordOf to n = if (eqb to absent) (join (at-place 10 1) (pathOf n)) (join (at-place 9 1) (pathOf n))
+abbrev pub recordOf : Destination → ℕ → Totals
+recordOf Missing n = join (at-place 10 1) (pathOf n)
+recordOf (At t) n = join (at-place 9 1) (pathOf n)
 
 -- an entry, with the block at hand before it; the head is counted apart
 abbrev pub addsOf : Entry → Open → Totals
@@ -89,7 +91,7 @@ pub record Shut (c : Counts) (o : Open) (r : Counts) : Type 0 where
 pub record Longer (c : Counts) (n : ℕ) (r : Counts) : Type 0 where
   pub is : totalsOf r ≡ join (totalsOf c) (pathOf n)
 
-pub record Recorded (c : Counts) (to n : ℕ) (r : Counts) : Type 0 where
+pub record Recorded (c : Counts) (to : Destination) (n : ℕ) (r : Counts) : Type 0 where
   pub is : totalsOf r ≡ join (totalsOf c) (recordOf to n)
 
 pub record Counted (c : Counts) (o : Open) (e : Entry) (r : Counts) : Type 0 where
@@ -102,8 +104,9 @@ seesOf t NoneYet = Only t
 seesOf t (Only u) = if (eqb u t) (Only u) Several
 seesOf t Several = Several
 
-abbrev pub seenBy : ℕ → Open → Open
-seenBy to o = if (eqb to absent) o (seesOf to o)
+abbrev pub seenBy : Destination → Open → Open
+seenBy Missing o = o
+seenBy (At t) o = seesOf t o
 
 -- the block at hand behind an entry
 abbrev pub openedBy : Entry → Open → Open

@@ -1,10 +1,10 @@
 // What an entry adds to the totals of its map.
 // "blocks of each kind, dynamic blocks with no destination (unresolved), one, or several distinct ones, records with and without destination, longest
 // path"
-use layout::MISSING;
+use reader::Destination;
 use reader::Entry;
 ghost use mathlib.Core.Path.{_≡_};
-ghost use Rattle.report.specs.Counts.{noneCounted, Shut, Longer, Recorded, Counted, seenBy, openedBy, RoomToShut, Roomy};
+ghost use Rattle.report.specs.Counts.{noneCounted, Shut, Longer, Recorded, Counted, seesOf, seenBy, openedBy, RoomToShut, Roomy};
 
 // The totals of a map, but for the number of maps and the energy.
 pub struct Counts {
@@ -84,17 +84,21 @@ fn longer(counts: Counts, n: usize) -> Counts
 }
 
 // The totals with a record among them, by its destination and the length of its path.
-fn recorded(counts: Counts, to: usize, n: usize) -> Counts
+fn recorded(counts: Counts, to: Destination, n: usize) -> Counts
     requires { ⌜ Roomy counts ⌝ }
     ensures { λ r. ⌜ Recorded counts to n r ⌝ }
 {
     let mut d = counts;
-    if to == MISSING {
-        d.nowhere += 1;
-        return longer(d, n);
+    match to {
+        Destination::Missing => {
+            d.nowhere += 1;
+            longer(d, n)
+        }
+        Destination::At(_) => {
+            d.found += 1;
+            longer(d, n)
+        }
     }
-    d.found += 1;
-    longer(d, n)
 }
 
 // The totals behind an entry: a block ends the run of 7s of the block at hand.
@@ -133,13 +137,10 @@ pub fn counted(counts: Counts, hand: Open, entry: Entry) -> Counts
     }
 }
 
-// The block at hand with a destination of one of its 7s.
-fn seen(hand: Open, to: usize) -> Open
-    ensures { λ r. ⌜ r ≡ seenBy to hand ⌝ }
+// The block at hand with an address that one of its 7s leads to.
+fn sees(hand: Open, to: usize) -> Open
+    ensures { λ r. ⌜ r ≡ seesOf to hand ⌝ }
 {
-    if to == MISSING {
-        return hand;
-    }
     match hand {
         Open::Static => Open::Static,
         Open::NoneYet => Open::Only(to),
@@ -150,6 +151,16 @@ fn seen(hand: Open, to: usize) -> Open
             Open::Several
         }
         Open::Several => Open::Several,
+    }
+}
+
+// The block at hand with the destination of one of its 7s.
+fn seen(hand: Open, to: Destination) -> Open
+    ensures { λ r. ⌜ r ≡ seenBy to hand ⌝ }
+{
+    match to {
+        Destination::Missing => hand,
+        Destination::At(t) => sees(hand, t),
     }
 }
 

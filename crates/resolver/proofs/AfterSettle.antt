@@ -12,13 +12,13 @@ use lib.Seq.{take-all, take-append-le}
 use borrow.Author.Tests.{eq-eqb, ne-eqb, ltb-true, lt-ltb, le-leb}
 use Rattle.spec.specs.Lists.{if, mem}
 use Rattle.spec.specs.Search.{Rec, dest, dests, edges, reached-by}
-use Rattle.spec.specs.Entries.{absent}
 use Rattle.laws.proofs.Branch.{both, if-true, if-false, and-false}
 use Rattle.laws.proofs.Members.{in-mem, mem-in, in-right, and-both, and-true, or-right, or-cases, gather-append}
 use Rattle.theorems.proofs.Reached.{seed, closure-complete}
 use Rattle.lent.specs.Bytes.{numAt}
 use Rattle.lent.proofs.Numbers.{num-suffix}
 use Rattle.layout.specs.Fields.{FIRST-FOUND, LAST-FOUND, FLAG, markAt}
+use Rattle.layout.specs.Marks.{NOWHERE}
 use Rattle.layout.specs.Parts.{fieldsPlace, bucketsPlace, bucketPlace}
 use Rattle.layout.specs.Records.{toAt}
 use Rattle.layout.specs.Buffers.{buffers}
@@ -47,7 +47,7 @@ use Rattle.resolver.proofs.SettleLoop.{dests-split}
 module _ (r q s : List ℕ) (room : ℕ) where
   dest-of : (i : ℕ) → dest (recAt r q s room i .to) ≡ destAt r i
   unfolding recAt foundAt
-  dest-of i = dest-if (eqb (toAt r i) absent) (toAt r i) _
+  dest-of i = dest-if (eqb (toAt r i) NOWHERE) (toAt r i) _
 
   dests-of : (m : ℕ) → dests (recsOf r q s room m) ≡ destsFrom r 0 m
   unfolding recsOf destsFrom
@@ -88,7 +88,7 @@ module _ {code : List ℕ} {k : Plan} {since : ℕ} {w p s t r q : List ℕ} {cu
     goes = λ j l. goes j (i .tables .goes j l);
   }
     where
-      goes : (j : ℕ) → Goes (k .n) (k .rooms .s) r s j → (toAt r j ≡ absent) ⊎ (toAt r j ≤ k .n)
+      goes : (j : ℕ) → Goes (k .n) (k .rooms .s) r s j → (toAt r j ≡ NOWHERE) ⊎ (toAt r j ≤ k .n)
       goes j (leads-nowhere e g) = inl e
       goes j (leads e g) = inr e
 

@@ -12,11 +12,11 @@ use lib.Seq.{take-suc-set}
 use borrow.Author.Tests.{ltb-true, ltb-false, eqb-false, eq-eqb, ne-eqb}
 use Rattle.spec.specs.Lists.{if, mem}
 use Rattle.spec.specs.Reach.{closure}
-use Rattle.spec.specs.Entries.{absent}
 use Rattle.laws.proofs.Branch.{both, if-true, if-false}
 use Rattle.laws.proofs.Members.{In, here, there, mem-in, in-mem}
 use Rattle.theorems.proofs.Reached.{Reached, seed, along}
 use Rattle.lent.specs.Bytes.{Holds}
+use Rattle.layout.specs.Marks.{NOWHERE}
 use Rattle.layout.specs.Records.{recordPlace, R-TO, toAt}
 use Rattle.reachable.specs.Marks.{flagged}
 use Rattle.reachable.specs.Edges.{rowEdges}
@@ -32,7 +32,7 @@ use Rattle.resolver.specs.declared.settle.Batch.{Batch}
 -- ---- the destinations, a record at a time
 
 abbrev pub destAt : List ℕ → ℕ → List ℕ
-destAt r i = if (eqb (toAt r i) absent) [] (toAt r i ∷ [])
+destAt r i = if (eqb (toAt r i) NOWHERE) [] (toAt r i ∷ [])
 
 one-more : (b : Bool) (x : ℕ) (xs ys : List ℕ) → if b (xs ++ ys) (x ∷ (xs ++ ys)) ≡ if b xs (x ∷ xs) ++ ys
 unfolding if
@@ -44,21 +44,21 @@ unfolding destsFrom
 dests-more r i zero = let e : i + 0 ≡ i = omega arith in rw e
 dests-more r i (suc m) =
     let e : suc i + m ≡ i + suc m = omega arith in
-    rw (dests-more r (suc i) m, e) (one-more (eqb (toAt r i) absent) (toAt r i) (destsFrom r (suc i) m) (destAt r (i + suc m)))
+    rw (dests-more r (suc i) m, e) (one-more (eqb (toAt r i) NOWHERE) (toAt r i) (destsFrom r (suc i) m) (destAt r (i + suc m)))
 
 -- each is an address
 in-first : {n a x : ℕ} {xs : List ℕ} → x ≤ n → (In a xs → a ≤ n) → In a (x ∷ xs) → a ≤ n
 in-first h k here = h
 in-first h k (there i) = k i
 
-dests-within : {n : ℕ} (r : List ℕ) (i m : ℕ) → ((j : ℕ) → j < i + m → (toAt r j ≡ absent) ⊎ (toAt r j ≤ n)) → {a : ℕ} → In a (destsFrom r i m) → a ≤ n
+dests-within : {n : ℕ} (r : List ℕ) (i m : ℕ) → ((j : ℕ) → j < i + m → (toAt r j ≡ NOWHERE) ⊎ (toAt r j ≤ n)) → {a : ℕ} → In a (destsFrom r i m) → a ≤ n
 unfolding destsFrom
 dests-within r i zero h k = elim k [ ]
 dests-within {n} r i (suc m) h {a} k =
     let later : In a (destsFrom r (suc i) m) → a ≤ n = dests-within r (suc i) m (λ j l. h j (omega arith)) in
-    both (λ (l : List ℕ). In a l → a ≤ n) (eqb (toAt r i) absent) (λ _. later) (λ off. in-first (near off (h i (omega arith))) later) k
+    both (λ (l : List ℕ). In a l → a ≤ n) (eqb (toAt r i) NOWHERE) (λ _. later) (λ off. in-first (near off (h i (omega arith))) later) k
   where
-    near : eqb (toAt r i) absent ≡ false → (toAt r i ≡ absent) ⊎ (toAt r i ≤ n) → toAt r i ≤ n
+    near : eqb (toAt r i) NOWHERE ≡ false → (toAt r i ≡ NOWHERE) ⊎ (toAt r i ≤ n) → toAt r i ≤ n
     near off (inl e) = absurd (eqb-false _ _ off e)
     near off (inr l) = l
 
@@ -99,7 +99,7 @@ module _ {r batch : List ℕ} {from records many i to : ℕ} (g : Gathering r fr
       rw e (rw f at (dests-more r from (i - from)))
 
   -- a record with no destination
-  pub gather-skip : to ≡ absent → Gathering r from records many (i + 1) batch
+  pub gather-skip : to ≡ NOWHERE → Gathering r from records many (i + 1) batch
   gather-skip z =
       let e : destAt r i ≡ [] = if-true _ _ _ (eq-eqb _ _ (sym (h .is) ∙ z)) in
       record {
@@ -114,7 +114,7 @@ module _ {r batch : List ℕ} {from records many i to : ℕ} (g : Gathering r fr
         long = g .long;
       }
 
-  pub gather-turn : ltb many 64 ≡ true → (to ≡ absent → ⊥) → Gathering r from records (many + 1) (i + 1) (set batch many to)
+  pub gather-turn : ltb many 64 ≡ true → (to ≡ NOWHERE → ⊥) → Gathering r from records (many + 1) (i + 1) (set batch many to)
   gather-turn test ne =
       let room = ltb-true many 64 test in
       let e : destAt r i ≡ to ∷ [] = rw (← h .is) (if-false _ _ _ (ne-eqb _ _ ne)) in

@@ -237,7 +237,7 @@ module _ {mode : Mode} {code w w₁ w₂ : List ℕ} {limit head : ℕ} (a : Sea
 -- ---- the same, by the values that the functions give
 
 pub search-heads : {mode : Mode} {code w : List ℕ} {limit head : ℕ} {rooms : Rooms} {k : Plan} → k ≡ planOf mode (length code) limit head rooms → SearchAsks mode code w limit head
-    → (bucketPlace (length code) (k .buckets) ≤ length w) × (4 * k .buckets ≤ 500000)
+    → (bucketPlace (length code) (k .buckets) ≤ length w) × (4 * k .buckets ≤ 1000000)
 search-heads ek a = let is = ap (λ (x : Plan). x .buckets) ek in (omega (arith, a .lent, is), omega (arith, a .short, is))
 
 pub search-begins : {mode : Mode} {n limit head : ℕ} {rooms : Rooms} {k : Plan} (t : List ℕ) → k ≡ planOf mode n limit head rooms → rooms .t ≡ units (length t) 32 → Begins (k .shelves) t

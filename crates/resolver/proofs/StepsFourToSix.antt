@@ -10,12 +10,12 @@ use Rattle.spec.specs.Stacks.{Sym, before, Stack, cells, read, compose}
 use Rattle.spec.specs.Search as search
 use Rattle.spec.specs.Search.{Found, nowhere, found, S, T, St, need, remember, Met, met?, in-use, Turn, arrive, follow}
 use Rattle.spec.specs.Rooms.{Lent, or-else, shortage}
-use Rattle.spec.specs.Entries.{absent}
 use Rattle.laws.proofs.Branch.{both, if-true, if-false}
 use Rattle.theorems.proofs.Older.{clear}
 use Rattle.theorems.proofs.Growth.{Later, later}
 use Rattle.theorems.proofs.Carried.{carry-arrive}
 use Rattle.lent.specs.Bytes.{numAt}
+use Rattle.layout.specs.Marks.{NOWHERE}
 use Rattle.layout.specs.Records.{toAt, keptOf}
 use Rattle.layout.specs.Buffers.{Mem, buffers}
 use Rattle.state.specs.Modes.{modeOf}
@@ -56,7 +56,7 @@ use Rattle.resolver.proofs.LevelKept.{stays-then, stays-less}
 
 -- ---- what is asked of a parent's state
 
-kept-leads : {n room : ℕ} {r s : List ℕ} {i : ℕ} → n < absent → toAt r i ≤ n → Goes n room r s i → State s (9 * (room - keptOf r (suc i))) (keptOf r (suc i) - keptOf r i)
+kept-leads : {n room : ℕ} {r s : List ℕ} {i : ℕ} → n < NOWHERE → toAt r i ≤ n → Goes n room r s i → State s (9 * (room - keptOf r (suc i))) (keptOf r (suc i) - keptOf r i)
 kept-leads few h (leads-nowhere e f) = absurd (omega arith)
 kept-leads few h (leads e f) = f
 

@@ -25,7 +25,7 @@ use Rattle.reachable.specs.Marks.{flagged}
 use Rattle.reachable.specs.Contracts.{Room}
 use Rattle.steps.specs.Cursors.{pathCursor, stackCursor}
 use Rattle.steps.specs.Paths.{Inside, OnPath}
-use Rattle.steps.specs.Sound.{SoundStack, SoundRecs}
+use Rattle.steps.specs.Sound.{DEEPEST, SoundStack, SoundRecs}
 use Rattle.steps.specs.Lands.{Marks}
 use Rattle.steps.specs.Runs.{tabled, recsIn}
 use Rattle.steps.specs.declared.Plan.{Plan}
@@ -72,7 +72,7 @@ pub record Stands (k : Plan) (m : Mem) (c : Counts) (l : Level) : Type 0 where
   pub state : State (m .s) (9 * l .from) (l .cells)
   pub low : l .from + l .cells ≤ c .used
   pub sound : SoundStack (k .n) (l .np) (stackAt (m .s) (9 * l .from) (l .cells))
-  pub near : l .position ≤ l .np * 2 ^ 19
+  pub near : l .position ≤ l .np * DEEPEST
   pub left : l .left ≤ 255
 
 -- the counts in W are those of the level's path

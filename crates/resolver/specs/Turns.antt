@@ -13,10 +13,10 @@ use Rattle.spec.specs.Search.{Node, Taker, takers, direct, Rec, dests, St, begi
 use Rattle.spec.specs.Reach.{closure}
 use Rattle.spec.specs.Answer.{prepared}
 use Rattle.spec.specs.Rooms.{Lent, units, shortage, longest, work-need}
-use Rattle.spec.specs.Entries.{absent}
 use Rattle.laws.specs.Lists.{In}
 use Rattle.lent.specs.Bytes.{Stored}
 use Rattle.layout.specs.Fields.{markAt}
+use Rattle.layout.specs.Marks.{NOWHERE}
 use Rattle.layout.specs.Parts.{bucketsOf, SameRows}
 use Rattle.layout.specs.Records.{recordPlace, toAt}
 use Rattle.layout.specs.Rows.{positionAt}
@@ -133,12 +133,12 @@ pub record Settles (n : ℕ) (w r : List ℕ) (since records : ℕ) : Type 0 whe
   pub order : since ≤ records
   pub inR : recordPlace records ≤ length r
   pub few : records ≤ 1073741824
-  pub goes : (i : ℕ) → i < records → (toAt r i ≡ absent) ⊎ (toAt r i ≤ n)
+  pub goes : (i : ℕ) → i < records → (toAt r i ≡ NOWHERE) ⊎ (toAt r i ≤ n)
 
 -- the destinations of the records from i on, up to m
 unfoldable pub destsFrom : List ℕ → ℕ → ℕ → List ℕ
 destsFrom r i zero = []
-destsFrom r i (suc m) = if (eqb (toAt r i) absent) (destsFrom r (suc i) m) (toAt r i ∷ destsFrom r (suc i) m)
+destsFrom r i (suc m) = if (eqb (toAt r i) NOWHERE) (destsFrom r (suc i) m) (toAt r i ∷ destsFrom r (suc i) m)
 
 pub record Settled (n : ℕ) (w r : List ℕ) (since records : ℕ) (w′ : List ℕ) : Type 0 where
   pub reached : (x : ℕ) → mem x (flagged w′ n) ≡ mem x (closure (rowEdges w n) (destsFrom r since (records - since) ++ flagged w n))

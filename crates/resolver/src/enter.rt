@@ -1,6 +1,6 @@
 // What is done with a parent of a level, up to the level that it may open.
 // "Per parent, in this order: ... A one-block parent already on the path is skipped. ... The path grows (room P). ... It is remembered (room T)."
-use layout::MISSING;
+use layout::NOWHERE;
 use lent::get16;
 use parents::link::parent_start;
 use state::sym::StackSym;
@@ -116,7 +116,7 @@ fn no_entry(start: usize, energy: usize) -> Entry
 {
     Entry {
         start,
-        to: MISSING,
+        to: NOWHERE,
         from: 0,
         cells: 0,
         energy,

@@ -1,6 +1,6 @@
 // What a round found, handed over to the reached set when it ends.
 // "Then let a round hand its targets over in batches of 64."
-use layout::MISSING;
+use layout::NOWHERE;
 use layout::record::RECORD;
 use layout::record::TO;
 use lent::get16;
@@ -28,7 +28,7 @@ fn gather(r: &[u8], from: usize, records: usize, batch: &mut [usize; BATCH]) -> 
     while i < records && many < BATCH {
         let to = get16(r, RECORD * i + TO);
         i += 1;
-        if to != MISSING {
+        if to != NOWHERE {
             batch[many] = to;
             many += 1;
         }

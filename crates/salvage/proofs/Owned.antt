@@ -10,7 +10,7 @@ use lib.Dec.{eqb, leb}
 use lib.ListN.{length, drop, length-drop}
 use borrow.Author.Tests.{leb-true, leb-false, le-leb, lt-leb, eq-eqb, ne-eqb}
 use Rattle.spec.specs.Lists.{if}
-use Rattle.spec.specs.Forms.{announced, Entry, entry, Sort, HEAD, BLOCK, WAY, RECORD, UNKNOWN, sort}
+use Rattle.spec.specs.Forms.{wide-in, announced, Entry, entry, Sort, HEAD, BLOCK, WAY, RECORD, UNKNOWN, sort}
 use Rattle.spec.specs.Reader.{Piece, whole, cut, sevens}
 use Rattle.spec.specs.BadEntries.{Whole, block-in, record-in}
 use Rattle.spec.specs.Salvage.{of-run, runs as runs-on, first-map}
@@ -41,7 +41,8 @@ use Rattle.salvage.proofs.Sorted.{Told, told}
 module _ (b c : List ℕ) (at : ℕ) where
   pub record SameAt (qs : List Piece) : Type 0 where
     pub there : at < length c
-    pub entry-is : entryAt c at ≡ entryAt b at
+    pub whole-there : Whole (drop at c)
+    pub entry-is : entry (drop at c) ≡ entry (drop at b)
     pub behind-is : behindAt c at ≡ behindAt b at
     pub rest-is : from c (behindAt b at) ≡ qs
 
@@ -55,10 +56,16 @@ module _ (b c : List ℕ) (at : ℕ) where
       let to : behindAt b at ≡ at + (6 + announced (drop at c)) = behind-whole b at w ∙ ap (λ (k : ℕ). at + (6 + k)) (sym a) in
       record {
         there = omega (arith, length-drop at c);
-        entry-is = entry-whole c at v ∙ ap (λ (x : Entry). shape (at + 6) (sort (x .kind)) (x .body)) e ∙ sym (entry-whole b at w);
+        whole-there = v;
+        entry-is = e;
         behind-is = behind-whole c at v ∙ sym to;
         rest-is = ap (from c) to ∙ left;
       }
+
+  -- in one family it is the code's same entry
+  pub same-entry : wide-in c ≡ wide-in b → Whole (drop at b) → {qs : List Piece} → SameAt qs → entryAt c at ≡ entryAt b at
+  same-entry f w z =
+      entry-whole c at (z .whole-there) ∙ ap₂ (λ (wide : Bool) (x : Entry). shape (at + 6) (sort wide (x .kind)) (x .body)) f (z .entry-is) ∙ sym (entry-whole b at w)
 
 -- ---- when a map is over
 
@@ -83,13 +90,13 @@ and-assoc true y z = refl
 and-assoc false y z = refl
 
 module _ (b : List ℕ) (at : ℕ) where
-  seven-whole : Whole (drop at b) → sevenAt b at ≡ way? (sort (entry (drop at b) .kind))
+  seven-whole : Whole (drop at b) → sevenAt b at ≡ way? (sort (wide-in b) (entry (drop at b) .kind))
   unfolding sevenAt leadAt
-  seven-whole w = ap leads-way (if-true (leb (6 + announced (drop at b)) (length (drop at b))) _ _ (le-leb _ _ w))
+  seven-whole w = ap (leads-way (wide-in b)) (if-true (leb (6 + announced (drop at b)) (length (drop at b))) _ _ (le-leb _ _ w))
 
   seven-cut : (Whole (drop at b) → ⊥) → sevenAt b at ≡ false
   unfolding sevenAt leadAt
-  seven-cut n = both (λ (l : Lead). leads-way l ≡ false) (leb (6 + announced (drop at b)) (length (drop at b))) (λ y. absurd (n (leb-true _ _ y))) (λ _. refl)
+  seven-cut n = both (λ (l : Lead). leads-way (wide-in b) l ≡ false) (leb (6 + announced (drop at b)) (length (drop at b))) (λ y. absurd (n (leb-true _ _ y))) (λ _. refl)
 
 -- ---- the scan of the first map
 
@@ -99,9 +106,9 @@ module _ (b : List ℕ) where
 
   -- the entries that are left are the map's own
   abbrev pub Owns : ℕ → ℕ → Scan → Type 0
-  Owns n m s = from mine (s .at) ≡ own (n - s .blocks) (m - s .records) (running (s .place)) (from b (s .at))
+  Owns n m s = from mine (s .at) ≡ own (wide-in b) (n - s .blocks) (m - s .records) (running (s .place)) (from b (s .at))
 
-  module _ (n m : ℕ) (s : Scan) (o : Owns n m s) where
+  module _ (family : wide-in mine ≡ wide-in b) (n m : ℕ) (s : Scan) (o : Owns n m s) where
     abbrev at : ℕ
     at = s .at
 
@@ -116,10 +123,10 @@ module _ (b : List ℕ) where
     left-over h = ap (λ (x : Bool). x || (leb n (s .blocks) && (leb m (s .records) && not (runs (s .place) b at)))) (lt-leb _ _ h) ∙ and-assoc (leb n (s .blocks)) (leb m (s .records)) _
 
     whole-test : Whole (drop at b) → at < length b
-        → eqb (n - s .blocks + (m - s .records)) 0 && not (of-run (sort (here .kind)) (running (s .place))) ≡ overOf b s n m
+        → eqb (n - s .blocks + (m - s .records)) 0 && not (of-run (sort (wide-in b) (here .kind)) (running (s .place))) ≡ overOf b s n m
     whole-test w h =
         ap₂ (λ (x y : Bool). x && not y) (counts-met n m (s .blocks) (s .records))
-        (of-run-is (sort (here .kind)) (running (s .place)) ∙ ap (λ (x : Bool). running (s .place) && x) (sym (seven-whole b at w)))
+        (of-run-is (sort (wide-in b) (here .kind)) (running (s .place)) ∙ ap (λ (x : Bool). running (s .place) && x) (sym (seven-whole b at w)))
         ∙ sym (left-over h)
 
     cut-test : (Whole (drop at b) → ⊥) → at < length b → eqb (n - s .blocks + (m - s .records)) 0 ≡ overOf b s n m
@@ -133,17 +140,17 @@ module _ (b : List ℕ) where
         and-true false = refl
 
     abbrev later : List Piece
-    later = own (n - s .blocks - block-in (sort (here .kind))) (m - s .records - record-in (sort (here .kind))) (runs-on (sort (here .kind)) (running (s .place))) (from b (behindAt b at))
+    later = own (wide-in b) (n - s .blocks - block-in (sort (wide-in b) (here .kind))) (m - s .records - record-in (sort (wide-in b) (here .kind))) (runs-on (sort (wide-in b) (here .kind)) (running (s .place))) (from b (behindAt b at))
 
     own-whole : Whole (drop at b) → from mine at
-        ≡ if (eqb (n - s .blocks + (m - s .records)) 0 && not (of-run (sort (here .kind)) (running (s .place)))) [] (whole at here ∷ later)
+        ≡ if (eqb (n - s .blocks + (m - s .records)) 0 && not (of-run (sort (wide-in b) (here .kind)) (running (s .place)))) [] (whole at here ∷ later)
     unfolding own
     own-whole w =
-        o ∙ ap (own (n - s .blocks) (m - s .records) (running (s .place))) (from-whole b at w ∙ ap {B = List Piece} (λ (k : ℕ). whole at here ∷ from b k) (sym (behind-whole b at w)))
+        o ∙ ap (own (wide-in b) (n - s .blocks) (m - s .records) (running (s .place))) (from-whole b at w ∙ ap {B = List Piece} (λ (k : ℕ). whole at here ∷ from b k) (sym (behind-whole b at w)))
 
     own-cut : at < length b → (Whole (drop at b) → ⊥) → from mine at ≡ if (eqb (n - s .blocks + (m - s .records)) 0) [] (cut at ∷ [])
     unfolding own
-    own-cut h v = o ∙ ap (own (n - s .blocks) (m - s .records) (running (s .place))) (from-cut b at h v)
+    own-cut h v = o ∙ ap (own (wide-in b) (n - s .blocks) (m - s .records) (running (s .place))) (from-cut b at h v)
 
     -- ---- where the map is over its bytes end
 
@@ -152,7 +159,7 @@ module _ (b : List ℕ) where
     none-own t = by-left (decLt at (length b)) (decLe (6 + announced (drop at b)) (length (drop at b)))
       where
         by-left : Dec (at < length b) → Dec (Whole (drop at b)) → from mine at ≡ []
-        by-left (no l) d = o ∙ ap (own (n - s .blocks) (m - s .records) (running (s .place))) (from-end b at (omega arith))
+        by-left (no l) d = o ∙ ap (own (wide-in b) (n - s .blocks) (m - s .records) (running (s .place))) (from-end b at (omega arith))
         by-left (yes l) (yes w) = own-whole w ∙ if-true _ _ _ (whole-test w l ∙ t)
         by-left (yes l) (no v) = own-cut l v ∙ if-true _ _ _ (cut-test v l ∙ t)
 
@@ -190,10 +197,10 @@ module _ (b : List ℕ) where
           by-meets (cut-there v l u) = l
 
       -- the scan turns as over the map alone
-      stopped-same : (p : Order) → from mine at ≡ own (n - s .blocks) (m - s .records) (running p) (from b at)
-          → stoppedOf p at (sevens (from mine at)) ≡ stoppedOf p at (sevens (from b at))
+      stopped-same : (p : Order) → from mine at ≡ own (wide-in b) (n - s .blocks) (m - s .records) (running p) (from b at)
+          → stoppedOf p at (sevens (wide-in mine) (from mine at)) ≡ stoppedOf p at (sevens (wide-in b) (from b at))
       stopped-same (Blocks low) e = refl
-      stopped-same (Sevens low block left) e = ap (stoppedOf (Sevens low block left) at) (ap sevens e ∙ own-sevens (n - s .blocks) (m - s .records) (from b at))
+      stopped-same (Sevens low block left) e = ap (stoppedOf (Sevens low block left) at) (ap₂ sevens family e ∙ own-sevens (wide-in b) (n - s .blocks) (m - s .records) (from b at))
       stopped-same (Records form) e = refl
 
       abbrev class-there : Class
@@ -211,7 +218,7 @@ module _ (b : List ℕ) where
           by-class e = ap (λ x. turnTo mine s (classOf x) (stepOf (classOf x) (s .place) at)) e
 
           by-meets : Meets → turnOf mine s ≡ turnOf b s
-          by-meets (entry-there w z) = by-class (z .entry-is) ∙ to-same (z .behind-is) class-there (stepOf class-there (s .place) at)
+          by-meets (entry-there w z) = by-class (same-entry b mine at family w z) ∙ to-same (z .behind-is) class-there (stepOf class-there (s .place) at)
           by-meets (cut-there v l u) =
               by-class (entry-cut mine at u ∙ sym (entry-cut b at v))
               ∙ ap (λ x. turnTo mine s (classOf x) (stepOf (classOf x) (s .place) at)) (entry-cut b at v)
@@ -223,14 +230,14 @@ module _ (b : List ℕ) where
       unfolding turnOf
       owns-on {t} e = by-meets meets
         where
-          fewer : (k : Class) → Told (sort (here .kind)) k → (q : Order) → stepOf k (s .place) at ≡ To q
-              → later ≡ own (n - (s .blocks + blockIn k)) (m - (s .records + recordIn k)) (running q) (from b (behindAt b at))
+          fewer : (k : Class) → Told (sort (wide-in b) (here .kind)) k → (q : Order) → stepOf k (s .place) at ≡ To q
+              → later ≡ own (wide-in b) (n - (s .blocks + blockIn k)) (m - (s .records + recordIn k)) (running q) (from b (behindAt b at))
           fewer k h q g =
-              let x : n - s .blocks - block-in (sort (here .kind)) ≡ n - (s .blocks + blockIn k) = omega (arith, h .blocks-are) in
-              let y : m - s .records - record-in (sort (here .kind)) ≡ m - (s .records + recordIn k) = omega (arith, h .records-are) in
+              let x : n - s .blocks - block-in (sort (wide-in b) (here .kind)) ≡ n - (s .blocks + blockIn k) = omega (arith, h .blocks-are) in
+              let y : m - s .records - record-in (sort (wide-in b) (here .kind)) ≡ m - (s .records + recordIn k) = omega (arith, h .records-are) in
               rw (x, y, h .run-is (s .place) q at g)
 
-          by-step : SameAt b mine at later → Told (sort (here .kind)) class-there → (st : Step) → stepOf class-there (s .place) at ≡ st → turnTo b s class-there st ≡ On t → Owns n m t
+          by-step : SameAt b mine at later → Told (sort (wide-in b) (here .kind)) class-there → (st : Step) → stepOf class-there (s .place) at ≡ st → turnTo b s class-there st ≡ On t → Owns n m t
           by-step z h (To q) g r =
               let same : record { at = behindAt b at; place = q; blocks = s .blocks + blockIn class-there; records = s .records + recordIn class-there } ≡ t = cc in
               subst (Owns n m) same (z .rest-is ∙ fewer class-there h q g)
@@ -242,5 +249,5 @@ module _ (b : List ℕ) where
           by-meets : Meets → Owns n m t
           by-meets (entry-there w z) =
               let h = entry-whole b at w in
-              by-step z (subst (λ x. Told (sort (here .kind)) (classOf x)) (sym h) (told (at + 6) (here .body) (sort (here .kind)) (λ y. not-bad (ap classOf h ∙ y)))) (stepOf class-there (s .place) at) refl e
+              by-step z (subst (λ x. Told (sort (wide-in b) (here .kind)) (classOf x)) (sym h) (told (at + 6) (here .body) (sort (wide-in b) (here .kind)) (λ y. not-bad (ap classOf h ∙ y)))) (stepOf class-there (s .place) at) refl e
           by-meets (cut-there v l u) = absurd (not-bad (ap classOf (entry-cut b at v)))

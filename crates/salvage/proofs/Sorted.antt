@@ -6,12 +6,15 @@ use Prim.Native.Nat.{ℕ, _+_, _-_}
 use native.Mathlib.Omega.{arith}
 use lib.Dec.{eqb, leb}
 use lib.ListN.{length}
-use borrow.Author.Tests.{ne-eqb}
-use Rattle.spec.specs.Forms.{field, Sort, HEAD, BLOCK, WAY, RECORD, UNKNOWN, TERMINATE, JUMP, JUMPI, DYNAMIC-JUMP, DYNAMIC-JUMPI, long}
+use borrow.Author.Tests.{eqb-true, ne-eqb}
+use Rattle.spec.specs.Lists.{if}
+use Rattle.spec.specs.Entries.{way-kind, record-kind, numbered-kind, absent}
+use Rattle.spec.specs.Forms.{sort, field, Sort, HEAD, BLOCK, WAY, RECORD, UNKNOWN, TERMINATE, JUMP, JUMPI, DYNAMIC-JUMP, DYNAMIC-JUMPI, long}
 use Rattle.spec.specs.BadEntries.{block-in, record-in}
 use Rattle.spec.specs.Salvage.{runs as runs-on}
 use Rattle.laws.proofs.Branch.{both}
 use Rattle.theorems.proofs.ReaderPlaces.{never}
+use Rattle.theorems.proofs.ReaderItems.{by-kind}
 use Rattle.reader.specs.Shapes.{numbers, known, shape}
 use Rattle.reader.specs.Classes.{classOf, blockStep, wayStep, recordStep, stepOf, blockIn, recordIn}
 use Rattle.reader.specs.declared.entry.Entry.{Entry}
@@ -98,22 +101,22 @@ module _ (there : ℕ) (body : List ℕ) where
   unfolding shape
   told x = both (λ (e : Entry). Tells x (known x e)) (eqb (length body) (long x body)) (λ _. told-right x) (λ _. told-wrong x)
 
-  -- ---- a head's counts are the body's
+  -- ---- a head is of 12 bytes, has the body's counts, and is one in either family
 
   module _ (size n m energy : ℕ) where
     abbrev Counts : Entry → Type 0
-    Counts e = e ≡ Head size n m energy → (n ≡ field 2 2 body) × (m ≡ field 4 4 body)
+    Counts e = e ≡ Head size n m energy → (n ≡ field 2 2 body) × (m ≡ field 4 4 body) × (length body ≡ 12)
 
-    counts-right : (x : Sort) → Counts (known x (numbers there x body))
-    counts-right HEAD e = (cc, cc)
-    counts-right (BLOCK TERMINATE) e = never (cc)
-    counts-right (BLOCK JUMP) e = never (cc)
-    counts-right (BLOCK JUMPI) e = never (cc)
-    counts-right (BLOCK DYNAMIC-JUMP) e = never (cc)
-    counts-right (BLOCK DYNAMIC-JUMPI) e = never (cc)
-    counts-right (WAY missing) e = never (cc)
-    counts-right (RECORD to missing) e = never (cc)
-    counts-right UNKNOWN e = never (cc)
+    counts-right : (x : Sort) → length body ≡ long x body → Counts (known x (numbers there x body))
+    counts-right HEAD l e = (cc, cc, l)
+    counts-right (BLOCK TERMINATE) l e = never (cc)
+    counts-right (BLOCK JUMP) l e = never (cc)
+    counts-right (BLOCK JUMPI) l e = never (cc)
+    counts-right (BLOCK DYNAMIC-JUMP) l e = never (cc)
+    counts-right (BLOCK DYNAMIC-JUMPI) l e = never (cc)
+    counts-right (WAY missing) l e = never (cc)
+    counts-right (RECORD to missing) l e = never (cc)
+    counts-right UNKNOWN l e = never (cc)
 
     counts-wrong : (x : Sort) → Counts (known x Wrong)
     counts-wrong HEAD e = never (cc)
@@ -124,4 +127,38 @@ module _ (there : ℕ) (body : List ℕ) where
 
     pub head-counts : (x : Sort) → Counts (shape there x body)
     unfolding shape
-    head-counts x = both (λ (e : Entry). Counts (known x e)) (eqb (length body) (long x body)) (λ _. counts-right x) (λ _. counts-wrong x)
+    head-counts x = both (λ (e : Entry). Counts (known x e)) (eqb (length body) (long x body)) (λ y. counts-right x (eqb-true _ _ y)) (λ _. counts-wrong x)
+
+    abbrev Either : Bool → ℕ → Sort → Type 0
+    Either wide k x = shape there x body ≡ Head size n m energy → shape there (sort wide k) body ≡ Head size n m energy
+
+    other-kind : (wide : Bool) (k : ℕ) (x : Sort) → (x ≡ HEAD → ⊥) → Either wide k x
+    unfolding shape
+    other-kind wide k x h =
+        both (λ (e : Entry). known x e ≡ Head size n m energy → shape there (sort wide k) body ≡ Head size n m energy) (eqb (length body) (long x body)) (λ _ e. absurd (no-head-right x h e)) (λ _ e. absurd (no-head-wrong x e))
+      where
+        no-head-right : (x : Sort) → (x ≡ HEAD → ⊥) → known x (numbers there x body) ≡ Head size n m energy → ⊥
+        no-head-right HEAD h e = h refl
+        no-head-right (BLOCK TERMINATE) h e = never (cc)
+        no-head-right (BLOCK JUMP) h e = never (cc)
+        no-head-right (BLOCK JUMPI) h e = never (cc)
+        no-head-right (BLOCK DYNAMIC-JUMP) h e = never (cc)
+        no-head-right (BLOCK DYNAMIC-JUMPI) h e = never (cc)
+        no-head-right (WAY missing) h e = never (cc)
+        no-head-right (RECORD to missing) h e = never (cc)
+        no-head-right UNKNOWN h e = never (cc)
+
+        no-head-wrong : (x : Sort) → known x Wrong ≡ Head size n m energy → ⊥
+        no-head-wrong HEAD e = never (cc)
+        no-head-wrong (BLOCK x) e = never (cc)
+        no-head-wrong (WAY missing) e = never (cc)
+        no-head-wrong (RECORD to missing) e = never (cc)
+        no-head-wrong UNKNOWN e = never (cc)
+
+    pub head-either : (wide other : Bool) (k : ℕ) → shape there (sort wide k) body ≡ Head size n m energy → shape there (sort other k) body ≡ Head size n m energy
+    unfolding sort if
+    head-either wide other =
+        let not-head : (k : ℕ) (x : Sort) → (x ≡ HEAD → ⊥) → Either other k x = other-kind other in
+        by-kind wide (Either other) (λ e. e) (not-head 2 (BLOCK TERMINATE) (λ q. never (cc))) (not-head 3 (BLOCK JUMP) (λ q. never (cc))) (not-head 4 (BLOCK JUMPI) (λ q. never (cc)))
+        (not-head 5 (BLOCK DYNAMIC-JUMP) (λ q. never (cc))) (not-head 6 (BLOCK DYNAMIC-JUMPI) (λ q. never (cc))) (not-head (way-kind wide) (WAY (absent wide)) (λ q. never (cc)))
+        (not-head (record-kind wide) (RECORD 4 (absent wide)) (λ q. never (cc))) (not-head (numbered-kind wide) (RECORD 8 (absent wide)) (λ q. never (cc))) (λ k. not-head k UNKNOWN (λ q. never (cc)))

@@ -44,14 +44,14 @@ fn run(
 // The arrays as slices. Lent by `main` itself, the prover would count to the length of each.
 fn run_in(
     input: &mut [u8; 1048576],
-    code: &mut [u8; 24577],
-    w: &mut [u8; 1573120],
+    code: &mut [u8; 49153],
+    w: &mut [u8; 3145984],
     p: &mut [u8; 65536],
     s: &mut [u8; 524288],
     t: &mut [u8; 262144],
     r: &mut [u8; 262144],
     q: &mut [u8; 262144],
-    out: &mut [u8; 524288],
+    out: &mut [u8; 1048576],
 ) {
     run(input, code, w, p, s, t, r, q, out);
 }
@@ -59,14 +59,14 @@ fn run_in(
 // The buffers: the cases, a code one byte too long, W for the longest code, and what the cases need of the others.
 fn main() {
     let mut input = [0u8; 1048576];
-    let mut code = [0u8; 24577];
-    let mut w = [0u8; 1573120];
+    let mut code = [0u8; 49153];
+    let mut w = [0u8; 3145984];
     let mut p = [0u8; 65536];
     let mut s = [0u8; 524288];
     let mut t = [0u8; 262144];
     let mut r = [0u8; 262144];
     let mut q = [0u8; 262144];
-    let mut out = [0u8; 524288];
+    let mut out = [0u8; 1048576];
     run_in(
         &mut input,
         &mut code,

@@ -6,7 +6,7 @@ use mathlib.Core.Option.{Option, none, some}
 use lib.Dec.{eqb}
 use lib.ListN.{take, drop}
 use Rattle.spec.specs.Lists.{if, number}
-use Rattle.spec.specs.Entries.{absent}
+use Rattle.spec.specs.Entries.{wide-code, way-kind, record-kind, numbered-kind, absent}
 
 -- the number in the k bytes from `at` on
 abbrev pub field : ℕ → ℕ → List ℕ → ℕ
@@ -39,18 +39,18 @@ pub data Sort : Type 0 where
   WAY : ℕ → Sort
   RECORD : ℕ → ℕ → Sort
 
--- the table of the kinds: a new one is a line here
-unfoldable pub sort : ℕ → Sort
-sort k =
+-- the table of the kinds of one family: a kind of the other is as a kind that is not known
+unfoldable pub sort : Bool → ℕ → Sort
+sort wide k =
     if (eqb k 1) HEAD
     (if (eqb k 2) (BLOCK TERMINATE)
     (if (eqb k 3) (BLOCK JUMP)
     (if (eqb k 4) (BLOCK JUMPI)
     (if (eqb k 5) (BLOCK DYNAMIC-JUMP)
     (if (eqb k 6) (BLOCK DYNAMIC-JUMPI)
-    (if (eqb k 7) (WAY absent)
-    (if (eqb k 8) (RECORD 4 absent)
-    (if (eqb k 9) (RECORD 8 absent) UNKNOWN))))))))
+    (if (eqb k (way-kind wide)) (WAY (absent wide))
+    (if (eqb k (record-kind wide)) (RECORD 4 (absent wide))
+    (if (eqb k (numbered-kind wide)) (RECORD 8 (absent wide)) UNKNOWN))))))))
 
 -- how long the kind says that the body is; 7, 8 and 9 by the path length that it announces
 abbrev pub long : Sort → List ℕ → ℕ
@@ -86,3 +86,8 @@ owes (BLOCK DYNAMIC-JUMPI) body = some (field 6 4 body)
 -- where a block starts
 abbrev pub start-in : List ℕ → ℕ
 start-in body = field 0 2 body
+
+-- the family of a map's kinds, by the code length behind the 6 leading bytes of its head: "the reader refuses a map with a kind of the family that is not its
+-- code length's". What does not begin with a head is bad at 0 in either.
+abbrev pub wide-in : List ℕ → Bool
+wide-in b = wide-code (field 6 2 b)

@@ -13,7 +13,7 @@ use Rattle.spec.specs.PathMeaning.{fetched, all-known}
 use Rattle.spec.specs.Search.{sides, Found, nowhere, found, Rec, dests, St}
 use Rattle.spec.specs.Ending.{Final, finals}
 use Rattle.spec.specs.Entries.{Map}
-use Rattle.spec.specs.Forms.{sort}
+use Rattle.spec.specs.Forms.{wide-in, sort}
 use Rattle.spec.specs.Rooms.{longest, work-need}
 use Rattle.spec.specs.Reader.{Reading, holds, bad, Piece, whole, cut, pieces, Item, a-head, a-block, a-way, a-record, no-item, item-of, read, told}
 use Rattle.spec.specs.Answer.{prepared}
@@ -92,10 +92,10 @@ shows b at on (a-record numbered r) = record { offset = at; entry = r } ∷ on b
 shows b at on no-item = on b
 
 -- a 7 is of the block before it, here at b
-unfoldable pub path-entries : ℕ → List Piece → List PathEntry
-path-entries b [] = []
-path-entries b (cut at ∷ ps) = path-entries b ps
-path-entries b (whole at e ∷ ps) = shows b at (λ a. path-entries a ps) (item-of (sort (e .kind)) (e .body))
+unfoldable pub path-entries : Bool → ℕ → List Piece → List PathEntry
+path-entries wide b [] = []
+path-entries wide b (cut at ∷ ps) = path-entries wide b ps
+path-entries wide b (whole at e ∷ ps) = shows b at (λ a. path-entries wide a ps) (item-of (sort wide (e .kind)) (e .body))
 
 -- ---- the call
 
@@ -116,7 +116,7 @@ first-wrong rules code m (e ∷ es) = let later = first-wrong rules code m es in
 
 abbrev pub looks-at : Rules → List ℕ → List ℕ → Reading → Inspection
 looks-at rules code map (bad at) = bad-entry at
-looks-at rules code map (holds m) = first-wrong rules code m (path-entries 0 (pieces map 0 0))
+looks-at rules code map (holds m) = first-wrong rules code m (path-entries (wide-in map) 0 (pieces map 0 0))
 
 -- "Refusals: 1, 13 and 3 as before; 12 as in No. 2; 17, path entry not right"; `work` is how long W is
 unfoldable pub inspect : Rules → List ℕ → List ℕ → ℕ → Inspection

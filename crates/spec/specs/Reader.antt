@@ -11,7 +11,7 @@ use Rattle.spec.specs.Stacks.{entry as no-state}
 use Rattle.spec.specs.Search.{Found, nowhere, found, Rec}
 use Rattle.spec.specs.Ending.{Final}
 use Rattle.spec.specs.Entries.{Map}
-use Rattle.spec.specs.Forms.{field, announced, Entry, entry, TERMINATE, JUMP, JUMPI, DYNAMIC-JUMP, DYNAMIC-JUMPI, Sort, HEAD, WAY, RECORD, UNKNOWN, BLOCK, sort, long, dynamic, owes, start-in}
+use Rattle.spec.specs.Forms.{wide-in, field, announced, Entry, entry, TERMINATE, JUMP, JUMPI, DYNAMIC-JUMP, DYNAMIC-JUMPI, Sort, HEAD, WAY, RECORD, UNKNOWN, BLOCK, sort, long, dynamic, owes, start-in}
 
 -- "either gives the answer it holds or refuses with the place of the first bad entry"
 pub data Reading : Type 0 where
@@ -101,15 +101,15 @@ goes-on (WAY missing) more = more
 goes-on (RECORD at missing) more = 0
 goes-on UNKNOWN more = 0
 
-unfoldable pub sevens : List Piece → ℕ
-sevens [] = 0
-sevens (cut at ∷ ps) = 0
-sevens (whole at e ∷ ps) = let more = suc (sevens ps) in goes-on (sort (e .kind)) more
+unfoldable pub sevens : Bool → List Piece → ℕ
+sevens wide [] = 0
+sevens wide (cut at ∷ ps) = 0
+sevens wide (whole at e ∷ ps) = let more = suc (sevens wide ps) in goes-on (sort wide (e .kind)) more
 
 -- "a dynamic count its 7s do not meet"
-abbrev pub met : Option ℕ → List Piece → Bool
-met none ps = true
-met (some n) ps = eqb n (sevens ps)
+abbrev pub met : Bool → Option ℕ → List Piece → Bool
+met wide none ps = true
+met wide (some n) ps = eqb n (sevens wide ps)
 
 -- ---- the first bad entry
 
@@ -119,14 +119,14 @@ taken at ok on none = some at
 taken at ok on (some p) = let later = on p in if ok later (some at)
 
 -- "a missing head": there is no byte
-unfoldable pub first-bad : List Piece → Place → Option ℕ
-first-bad [] first = some 0
-first-bad [] (blocks low sevens) = none
-first-bad [] (records by) = none
-first-bad (cut at ∷ ps) p = some at
-first-bad (whole at e ∷ ps) p =
-    let s = sort (e .kind) in
-    taken at (formed s (e .body) && met (owes s (e .body)) ps) (λ q. first-bad ps q) (next s (start-in (e .body)) p)
+unfoldable pub first-bad : Bool → List Piece → Place → Option ℕ
+first-bad wide [] first = some 0
+first-bad wide [] (blocks low sevens) = none
+first-bad wide [] (records by) = none
+first-bad wide (cut at ∷ ps) p = some at
+first-bad wide (whole at e ∷ ps) p =
+    let s = sort wide (e .kind) in
+    taken at (formed s (e .body) && met wide (owes s (e .body)) ps) (λ q. first-bad wide ps q) (next s (start-in (e .body)) p)
 
 -- ---- the map that the entries hold
 
@@ -168,10 +168,10 @@ item-of (RECORD at missing) body =
     a-record (eqb at 8) (record { start = field 0 2 body; to = destined missing (field 2 2 body); path = addresses (drop (at + 4) body); energy = numbered-by (eqb at 8) (field 4 4 body) })
 item-of UNKNOWN body = no-item
 
-unfoldable pub items : List Piece → List Item
-items [] = []
-items (cut at ∷ ps) = items ps
-items (whole at e ∷ ps) = item-of (sort (e .kind)) (e .body) ∷ items ps
+unfoldable pub items : Bool → List Piece → List Item
+items wide [] = []
+items wide (cut at ∷ ps) = items wide ps
+items wide (whole at e ∷ ps) = item-of (sort wide (e .kind)) (e .body) ∷ items wide ps
 
 -- the 7s that come first, as entries of the block at a
 unfoldable pub ways : ℕ → List Item → List Rec
@@ -221,13 +221,17 @@ held (a-way t p ∷ is) = bad 0
 held (a-record b r ∷ is) = bad 0
 held (no-item ∷ is) = bad 0
 
-abbrev pub verdict : List Piece → Option ℕ → Reading
-verdict ps none = held (items ps)
-verdict ps (some at) = bad at
+abbrev pub verdict : Bool → List Piece → Option ℕ → Reading
+verdict wide ps none = held (items wide ps)
+verdict wide ps (some at) = bad at
+
+-- in one family
+unfoldable pub reading : Bool → List ℕ → Reading
+reading wide b = let ps = pieces b 0 0 in verdict wide ps (first-bad wide ps first)
 
 -- the reader
 unfoldable pub read : List ℕ → Reading
-read b = let ps = pieces b 0 0 in verdict ps (first-bad ps first)
+read b = reading (wide-in b) b
 
 -- ---- what the bytes of a map keep of it: all but the states that a search keeps for destinations, and the numbers of records where they are not written
 

@@ -6,7 +6,7 @@ use lib.Dec.{eqb, leb}
 use lib.ListN.{length, take, drop}
 use Rattle.spec.specs.Lists.{if}
 use Rattle.spec.specs.Entries.{joined}
-use Rattle.spec.specs.Forms.{field, Sort, HEAD, WAY, RECORD, UNKNOWN, BLOCK, sort}
+use Rattle.spec.specs.Forms.{wide-in, field, Sort, HEAD, WAY, RECORD, UNKNOWN, BLOCK, sort}
 use Rattle.spec.specs.Reader.{Reading, holds, bad, Piece, whole, cut, pieces, read}
 use Rattle.spec.specs.BadEntries.{block-in, record-in}
 use Rattle.spec.specs.Eights.{as-eights, over}
@@ -31,23 +31,23 @@ runs UNKNOWN run = false
 
 -- With n blocks and m records to come: the offset of the first entry that is not the map's, or `end`, where the bytes end, if there is none. A map goes on
 -- until both counts are met, past blocks too many, and behind the last block with its 7s; a cut entry is its own if one of them is not met.
-unfoldable pub ends : ℕ → ℕ → Bool → ℕ → List Piece → ℕ
-ends n m run end [] = end
-ends n m run end (cut at ∷ ps) = if (eqb (n + m) 0) at end
-ends n m run end (whole at e ∷ ps) =
-    let s = sort (e .kind) in
-    let later = ends (n - block-in s) (m - record-in s) (runs s run) end ps in
+unfoldable pub ends : Bool → ℕ → ℕ → Bool → ℕ → List Piece → ℕ
+ends wide n m run end [] = end
+ends wide n m run end (cut at ∷ ps) = if (eqb (n + m) 0) at end
+ends wide n m run end (whole at e ∷ ps) =
+    let s = sort wide (e .kind) in
+    let later = ends wide (n - block-in s) (m - record-in s) (runs s run) end ps in
     if (eqb (n + m) 0 && not (of-run s run)) at later
 
 -- by the block and record counts that stand in its first entry; what does not begin with a head is refused wherever it ends
-abbrev pub map-end : ℕ → List Piece → ℕ
-map-end end [] = end
-map-end end (cut at ∷ ps) = end
-map-end end (whole at e ∷ ps) = ends (field 2 2 (e .body)) (field 4 4 (e .body)) false end ps
+abbrev pub map-end : Bool → ℕ → List Piece → ℕ
+map-end wide end [] = end
+map-end wide end (cut at ∷ ps) = end
+map-end wide end (whole at e ∷ ps) = ends wide (field 2 2 (e .body)) (field 4 4 (e .body)) false end ps
 
 -- the bytes of the map that an archive begins with
 unfoldable pub first-map : List ℕ → List ℕ
-first-map b = take (map-end (length b) (pieces b 0 0)) b
+first-map b = take (map-end (wide-in b) (length b) (pieces b 0 0)) b
 
 -- ---- "stored maps standing one after another"
 

@@ -12,7 +12,6 @@ use borrow.Author.Tests.{eq-eqb, ne-eqb}
 use Rattle.spec.specs.Lists.{if, keep}
 use Rattle.spec.specs.Stacks.{Stack}
 use Rattle.spec.specs.Search.{Parent, parent, Found, found, Rec, leads, found-parents}
-use Rattle.spec.specs.Entries.{absent}
 use Rattle.state.specs.Cells.{stackAt}
 use Rattle.tables.specs.Chains.{following}
 use Rattle.tables.specs.Records.{pathAt, foundAt, recAt, recsOf}
@@ -20,6 +19,7 @@ use Rattle.tables.proofs.Chains.{Follower, ends, goes, follower}
 use Rattle.tables.proofs.Orders.{below}
 use Rattle.tables.proofs.Counted.{recs-length}
 use Rattle.laws.proofs.Branch.{both}
+use Rattle.layout.specs.Marks.{NOWHERE}
 use Rattle.layout.specs.Records.{toAt, keptOf}
 use Rattle.steps.specs.Cursors.{clipped, foundTo, Left, none-left, found-left}
 use Rattle.steps.proofs.Clips.{clip-none, clip-late, clip-there}
@@ -64,29 +64,29 @@ module _ (r q s : List ℕ) (room : ℕ) where
   -- ---- where a record leads
 
   module _ (b i : ℕ) where
-    found-here : b < absent → toAt r i ≡ b → foundAt r s room i ≡ found b (stateAt r s room i)
+    found-here : b < NOWHERE → toAt r i ≡ b → foundAt r s room i ≡ found b (stateAt r s room i)
     unfolding foundAt if
-    found-here l e = rw (ne-eqb (toAt r i) absent (λ z. omega arith), e)
+    found-here l e = rw (ne-eqb (toAt r i) NOWHERE (λ z. omega arith), e)
 
-    pub rec-here : b < absent → toAt r i ≡ b → recAt r q s room i .to ≡ found b (stateAt r s room i)
+    pub rec-here : b < NOWHERE → toAt r i ≡ b → recAt r q s room i .to ≡ found b (stateAt r s room i)
     unfolding recAt
     rec-here l e = found-here l e
 
     pub rec-to : {x : Stack} → recAt r q s room i .to ≡ found b x → toAt r i ≡ b
     unfolding recAt foundAt
-    rec-to {x} = both (λ (f : Found). f ≡ found b x → toAt r i ≡ b) (eqb (toAt r i) absent) (λ _ e. cc) (λ _ e. cc)
+    rec-to {x} = both (λ (f : Found). f ≡ found b x → toAt r i ≡ b) (eqb (toAt r i) NOWHERE) (λ _ e. cc) (λ _ e. cc)
 
     skips : (p : List ℕ) (rest : List Rec) → (toAt r i ≡ b → ⊥) → keep (λ (x : Parent). eqb b (x .to)) (leads p (foundAt r s room i) ++ found-parents rest) ≡ foundTo b rest
     unfolding foundAt if
     skips p rest d =
-        both (λ (f : Found). keep (λ (x : Parent). eqb b (x .to)) (leads p f ++ found-parents rest) ≡ foundTo b rest) (eqb (toAt r i) absent)
+        both (λ (f : Found). keep (λ (x : Parent). eqb b (x .to)) (leads p f ++ found-parents rest) ≡ foundTo b rest) (eqb (toAt r i) NOWHERE)
         (λ _. refl) (λ _. rw (ne-eqb b (toAt r i) (λ e. d (sym e))))
 
     leads-other : (rest : List Rec) → (toAt r i ≡ b → ⊥) → foundTo b (recAt r q s room i ∷ rest) ≡ foundTo b rest
     unfolding recAt
     leads-other rest d = skips (pathAt r q i) rest d
 
-    pub leads-here : (rest : List Rec) → b < absent → toAt r i ≡ b → foundTo b (recAt r q s room i ∷ rest) ≡ parent b (pathAt r q i) (stateAt r s room i) ∷ foundTo b rest
+    pub leads-here : (rest : List Rec) → b < NOWHERE → toAt r i ≡ b → foundTo b (recAt r q s room i ∷ rest) ≡ parent b (pathAt r q i) (stateAt r s room i) ∷ foundTo b rest
     unfolding recAt if
     leads-here rest l e = rw (found-here l e, eq-eqb b b refl)
 
@@ -107,7 +107,7 @@ module _ (r q s : List ℕ) (room : ℕ) where
         passed (opened - i) i opened (omega arith) (omega arith) h
         ∙ ap (foundTo b) (drop-of-length-le rs {i = opened} (omega (arith, recs-length r q s room opened)))
 
-    module _ (mode : ℕ) (code w : List ℕ) (n m : ℕ) (few : b < absent) (most : opened ≤ m) where
+    module _ (mode : ℕ) (code w : List ℕ) (n m : ℕ) (few : b < NOWHERE) (most : opened ≤ m) where
       -- the first of them by the link to it, if it was there
       follows-left : (i x : ℕ) → i ≤ opened → Follower (toAt r) b i m x → Left mode code w n b rs (clipped opened x) (foundTo b (drop i rs))
       follows-left i x l (ends e) =

@@ -12,13 +12,13 @@ use lib.Seq.{take-all, take-append-le}
 use borrow.Author.Tests.{lt-ltb, le-ltb, le-leb, lt-leb, eq-eqb, ne-eqb}
 use Rattle.spec.specs.Lists.{if, mem, little}
 use Rattle.spec.specs.Search.{Found, nowhere, found, Rec, dest, dests, kept}
-use Rattle.spec.specs.Entries.{absent}
 use Rattle.laws.proofs.Branch.{both, if-true, if-false, and-false}
 use Rattle.laws.proofs.Members.{gather-append}
 use Rattle.lent.specs.Bytes.{Stored}
 use Rattle.lent.proofs.Parts.{take-less}
 use Rattle.lent.proofs.Stored.{kept-take, kept-drop, kept-part, kept-num}
 use Rattle.layout.specs.Fields.{FIRST-FOUND, LAST-FOUND, COUNT, markAt}
+use Rattle.layout.specs.Marks.{NOWHERE}
 use Rattle.layout.specs.Parts.{rowsEnd, fieldsPlace, listPlace, bucketPlace, SameRows, SameFields, SameList, PastBuckets}
 use Rattle.state.specs.Cells.{stackAt}
 use Rattle.reachable.specs.Contracts.{Address, Marked}
@@ -241,7 +241,7 @@ pub lands-few : {p : List ℕ} {np : ℕ} {k : Plan} {m : tables.Mem} {c : Count
 lands-few y = let i = y .ready .tables .within in omega (arith, i .fitsR, i .mostR)
 
 -- a destination is an address
-lands-inside : {p : List ℕ} {np : ℕ} {k : Plan} {m : tables.Mem} {c : Counts} {e : Entry} → Lands p np k m c e → (e .to ≡ absent → ⊥) → e .to ≤ k .n
+lands-inside : {p : List ℕ} {np : ℕ} {k : Plan} {m : tables.Mem} {c : Counts} {e : Entry} → Lands p np k m c e → (e .to ≡ NOWHERE → ⊥) → e .to ≤ k .n
 lands-inside {k = k} {m = m} {e = e} y d = go (y .ready .entry)
   where
     go : Enters (k .n) (m .s) e → e .to ≤ k .n
@@ -258,11 +258,11 @@ module _ {p : List ℕ} {np : ℕ} {k : Plan} {w r q s w₁ r₁ q₁ s₁ : Lis
       → Noted p np k (tables.mem w r q s) c (e .start) (e .energy) (newFound s e) (tables.mem w₂ r₁ q₁ s₁) a
   noted-as {w₂ = w₂} is n = subst (λ (x : Found). Noted p np k (tables.mem w r q s) c (e .start) (e .energy) x (tables.mem w₂ r₁ q₁ s₁) a) (sym is) n
 
-  pub landed-nowhere : e .to ≡ absent → Noted p np k (tables.mem w r q s) c (e .start) (e .energy) (newFound s e) (tables.mem w₁ r₁ q₁ s₁) a
+  pub landed-nowhere : e .to ≡ NOWHERE → Noted p np k (tables.mem w r q s) c (e .start) (e .energy) (newFound s e) (tables.mem w₁ r₁ q₁ s₁) a
   landed-nowhere z = let is = new-nowhere s e z in noted-as is (strayed (recorded-as is))
 
   -- what `mark` asks
-  pub lands-address : (e .to ≡ absent → ⊥) → Address (k .n) w₁ (e .to)
+  pub lands-address : (e .to ≡ NOWHERE → ⊥) → Address (k .n) w₁ (e .to)
   lands-address some-to =
       record {
         lent = record { short = y .lent .short; room = omega (arith, y .lent .room, h .beyond .apart .long) };
@@ -270,7 +270,7 @@ module _ {p : List ℕ} {np : ℕ} {k : Plan} {w r q s w₁ r₁ q₁ s₁ : Lis
       }
 
   -- a record was added, so its destination is marked
-  pub landed-new : (e .to ≡ absent → ⊥) → {w₂ : List ℕ} → (a .counts .records ≡ c .records → ⊥) → Marked (k .n) w₁ (e .to) (c .records + 2) w₂
+  pub landed-new : (e .to ≡ NOWHERE → ⊥) → {w₂ : List ℕ} → (a .counts .records ≡ c .records → ⊥) → Marked (k .n) w₁ (e .to) (c .records + 2) w₂
       → Noted p np k (tables.mem w r q s) c (e .start) (e .energy) (newFound s e) (tables.mem w₂ r₁ q₁ s₁) a
   landed-new some-to {w₂} d m =
       let is : newFound s e ≡ found (e .to) (stackAt s (9 * e .from) (e .cells)) = new-at s e (y .ready .tables .few) (lands-inside y some-to) in

@@ -8,7 +8,6 @@ use lib.ListN.{length, take, drop, take-append-drop, drop-of-length-le}
 use Rattle.spec.specs.Lists.{lastOf}
 use Rattle.spec.specs.Search.{Parent, parent, found, Rec}
 use Rattle.spec.specs.Rooms.{or-else, longest}
-use Rattle.spec.specs.Entries.{absent}
 use Rattle.lent.specs.Bytes.{numAt}
 use Rattle.state.specs.Cells.{State}
 use Rattle.tables.specs.Addrs.{addrs}
@@ -29,6 +28,7 @@ use Rattle.laws.proofs.Members.{In, here, there, in-only, in-right}
 use Rattle.laws.proofs.Lists.{Rising, one-more}
 use Rattle.steps.specs.Cursors.{clipped, nextCursor, pathCursor, lastCursor, stackCursor, Cursor, Asks, foundTo, LeadsTo, Left, none-left, direct-left, found-left}
 use Rattle.layout.specs.Fields.{firstFoundAt}
+use Rattle.layout.specs.Marks.{NOWHERE}
 use Rattle.layout.specs.Parts.{rowsEnd, SameRows}
 use Rattle.layout.specs.Records.{toAt, endOf, keptOf}
 use Rattle.layout.specs.Rows.{startOf}
@@ -214,7 +214,7 @@ module _ (mode : ℕ) (code : List ℕ) {w r q s : List ℕ} {n buckets : ℕ} {
       i : ℕ
       i = at - 0x10000
 
-      few : b < absent
+      few : b < NOWHERE
       few = omega (arith, t .few)
 
       below : i < opened

@@ -1,7 +1,7 @@
 -- Stacks that a search over a code of n bytes makes stay sound: a block's own, one behind another, and what is read of them. Assumes nothing.
 use mathlib.Core.Path.{_≡_, sym}
 use mathlib.Core.Logic.{_⊎_, inl, inr}
-use Prim.Native.Nat.{ℕ, zero, suc, _+_, _*_, _^_, _≤_}
+use Prim.Native.Nat.{ℕ, zero, suc, _+_, _*_, _≤_}
 use mathlib.Core.List.{List, [], _∷_, map}
 use native.Mathlib.Omega.{arith}
 use lib.ListN.{length, drop}
@@ -13,7 +13,7 @@ use Rattle.state.proofs.Reach.{depth-read, reach-compose}
 use Rattle.laws.proofs.Members.{In, here, there, in-cases, in-map}
 use Rattle.parents.proofs.Goals.{run-deep}
 use Rattle.theorems.proofs.Landing.{run-lands}
-use Rattle.steps.specs.Sound.{SoundStack}
+use Rattle.steps.specs.Sound.{DEEPEST, SoundStack}
 
 pub sound-more : {n a b : ℕ} {s : Stack} → SoundStack n a s → a ≤ b → SoundStack n b s
 sound-more o h = record { deep = omega (arith, o .deep); lands = o .lands }
@@ -38,7 +38,7 @@ module _ {n m : ℕ} {s : Stack} (o : SoundStack n m s) where
   pub sound-read : (position : ℕ) {t : ℕ} → read s position ≡ jumpdest t → t ≤ n
   sound-read position {t} e = o .lands t (read-in s position e)
 
-  pub sound-before : (position a : ℕ) {x : ℕ} → read s position ≡ before x → position ≤ a * 2 ^ 19 → x ≤ (a + m) * 2 ^ 19
+  pub sound-before : (position a : ℕ) {x : ℕ} → read s position ≡ before x → position ≤ a * DEEPEST → x ≤ (a + m) * DEEPEST
   sound-before position a e h = let d = rw e at (depth-read s position) in omega (arith, o .deep)
 
 -- ---- one behind another

@@ -9,9 +9,13 @@ use Rattle.laws.specs.Lists.{In}
 use Rattle.state.specs.Cells.{reach}
 use Rattle.steps.specs.Paths.{Inside}
 
--- the state of a path of m blocks reaches 2^19 words deep for each at most, and its Jumpdests lie in the code
+-- so many words deep a block reaches at the most: 17 for each byte of a code, of which it has 49,152 at the most, and 17
+abbrev pub DEEPEST : ℕ
+DEEPEST = 2 ^ 20
+
+-- the state of a path of m blocks reaches no deeper than that for each, and its Jumpdests lie in the code
 pub record SoundStack (n m : ℕ) (s : Stack) : Type 0 where
-  pub deep : reach s ≤ m * 2 ^ 19
+  pub deep : reach s ≤ m * DEEPEST
   pub lands : (t : ℕ) → In (jumpdest t) (s .above) → t ≤ n
 
 pub record SoundRec (n : ℕ) (r : Rec) : Type 0 where

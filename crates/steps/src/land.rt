@@ -1,7 +1,7 @@
 // What a path ends in: it is recorded, and where it leads counts as reached at once.
 // "A destination found counts as reached for parents at once"
 use crate::Plan;
-use layout::MISSING;
+use layout::NOWHERE;
 use reachable::mark;
 use tables::Answer;
 use tables::Counts;
@@ -27,7 +27,7 @@ pub fn land(
         (mem (now (w .exit)) (now (r .exit)) (now (q .exit)) (now (s .exit))) a ⌝ }
 {
     let a = record_entry(p, np, w, r, q, s, k.rooms, c, k.n, k.buckets, e);
-    if e.to == MISSING {
+    if e.to == NOWHERE {
         return a;
     }
     let counts = a.counts;

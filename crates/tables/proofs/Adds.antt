@@ -10,9 +10,9 @@ use lib.ListN.{length, take, drop}
 use borrow.Author.Tests.{eq-eqb}
 use Rattle.spec.specs.Lists.{if}
 use Rattle.spec.specs.Search.{nowhere, found}
-use Rattle.spec.specs.Entries.{absent}
 use Rattle.lent.specs.Bytes.{Stored}
 use Rattle.lent.proofs.Stored.{kept-take, kept-drop}
+use Rattle.layout.specs.Marks.{NOWHERE}
 use Rattle.layout.specs.Records.{endOf, keptOf}
 use Rattle.state.specs.Cells.{stackAt, State, Lies}
 use Rattle.state.proofs.States.{state-lies, lies-copied}
@@ -29,7 +29,7 @@ use Rattle.tables.proofs.Orders.{below}
 use Rattle.tables.proofs.Frames.{ends-same, kept-same, row-kept, goes-kept, recs-kept}
 
 module _ {p w r q s : List ℕ} {np n buckets sum : ℕ} {k : Rooms} {c : Counts} {e : Entry} (a : Adds p np n buckets k (mem w r q s) c e sum) where
-  leads-to : Enters n s e → (e .to ≡ absent) ⊎ (e .to ≤ n)
+  leads-to : Enters n s e → (e .to ≡ NOWHERE) ⊎ (e .to ≤ n)
   leads-to (enters-nowhere z y) = inl z
   leads-to (enters z t) = inr z
 
@@ -112,8 +112,8 @@ module _ {p w r q s : List ℕ} {np n buckets sum : ℕ} {k : Rooms} {c : Counts
     unfolding foundAt if
     new-found = rw (l .says .to, l .says .kept, kept-before, count) (go (a .ready .entry))
       where
-        go : Enters n s e → if (eqb (e .to) absent) nowhere (found (e .to) (stackAt s′ (9 * (k .s - (c .kept + e .cells))) (e .cells))) ≡ newFound s e
-        go (enters-nowhere z y) = rw (eq-eqb (e .to) absent z)
+        go : Enters n s e → if (eqb (e .to) NOWHERE) nowhere (found (e .to) (stackAt s′ (9 * (k .s - (c .kept + e .cells))) (e .cells))) ≡ newFound s e
+        go (enters-nowhere z y) = rw (eq-eqb (e .to) NOWHERE z)
         go (enters z h) = rw (new-state h .is)
 
     new-rec : recAt r′ q′ s′ (k .s) (c .records) ≡ newRec s e (addrs p 0 np)

@@ -10,12 +10,12 @@ use lib.Seq.{take-append-le, take-all}
 use borrow.Author.Tests.{eq-eqb, ne-eqb}
 use Rattle.spec.specs.Lists.{total}
 use Rattle.spec.specs.Search.{Found, nowhere, found, Rec, kept}
-use Rattle.spec.specs.Entries.{absent}
 use Rattle.laws.proofs.Branch.{if-true, if-false}
 use Rattle.lent.specs.Bytes.{numAt}
 use Rattle.lent.proofs.Parts.{drop-more}
 use Rattle.lent.proofs.Once.{Bytes, Same, same-num, same-as, same-then, same-rows, same-whole}
 use Rattle.layout.specs.Fields.{FIRST-FOUND, LAST-FOUND, COUNT, firstFoundAt, lastFoundAt}
+use Rattle.layout.specs.Marks.{NOWHERE, toNumber}
 use Rattle.layout.specs.Parts.{fieldsPlace, listPlace, bucketsPlace, bucketPlace, SameRows, PastBuckets}
 use Rattle.layout.specs.Records.{recordPlace, R-TO, R-FREE, startAt, toAt, nextAt, linkAt, sumAt, energyAt, endOf, keptOf}
 use Rattle.layout.proofs.Once.{same-to-list}
@@ -44,25 +44,21 @@ addrs-same {b} {d} p q long i (suc n) e =
 
 -- ---- tables with the same records: the bytes that these stand in, and the links
 
-abbrev target : Found → ℕ
-target nowhere = absent
-target (found u s) = u
-
 module _ (r s : List ℕ) (room i : ℕ) {x : Found} (e : foundAt r s room i ≡ x) where
-  goes-nowhere : toAt r i ≡ absent → nowhere ≡ x
+  goes-nowhere : toAt r i ≡ NOWHERE → nowhere ≡ x
   unfolding foundAt
-  goes-nowhere h = sym (if-true _ _ _ (eq-eqb (toAt r i) absent h)) ∙ e
+  goes-nowhere h = sym (if-true _ _ _ (eq-eqb (toAt r i) NOWHERE h)) ∙ e
 
-  goes-found : (toAt r i ≡ absent → ⊥) → found (toAt r i) (stackAt s (9 * (room - keptOf r (suc i))) (keptOf r (suc i) - keptOf r i)) ≡ x
+  goes-found : (toAt r i ≡ NOWHERE → ⊥) → found (toAt r i) (stackAt s (9 * (room - keptOf r (suc i))) (keptOf r (suc i) - keptOf r i)) ≡ x
   unfolding foundAt
-  goes-found h = sym (if-false _ _ _ (ne-eqb (toAt r i) absent h)) ∙ e
+  goes-found h = sym (if-false _ _ _ (ne-eqb (toAt r i) NOWHERE h)) ∙ e
 
-  goes-to : toAt r i ≡ target x
-  goes-to = go (keyed (toAt r i) absent)
+  goes-to : toAt r i ≡ toNumber x
+  goes-to = go (keyed (toAt r i) NOWHERE)
     where
-      go : (toAt r i ≡ absent) ⊎ (toAt r i ≡ absent → ⊥) → toAt r i ≡ target x
-      go (inl h) = h ∙ ap target (goes-nowhere h)
-      go (inr h) = ap target (goes-found h)
+      go : (toAt r i ≡ NOWHERE) ⊎ (toAt r i ≡ NOWHERE → ⊥) → toAt r i ≡ toNumber x
+      go (inl h) = h ∙ ap toNumber (goes-nowhere h)
+      go (inr h) = ap toNumber (goes-found h)
 
 recs-take : (r q s : List ℕ) (room m i : ℕ) → i ≤ m → take i (recsOf r q s room m) ≡ recsOf r q s room i
 unfolding recsOf
@@ -173,7 +169,7 @@ module _ {n buckets : ℕ} {k : Rooms} {m m′ : Mem} {c : Counts} (p : Tables n
     where
       go : Goes n (k .s) (m .r) (m .s) i → Goes n (k .s) (m′ .r) (m′ .s) i
           → Same (m .s) (m′ .s) (9 * (k .s - keptOf (m .r) (suc i))) (9 * (keptOf (m .r) (suc i) - keptOf (m .r) i))
-      go (leads-nowhere e z) g = let absent : 9 * (keptOf (m .r) (suc i) - keptOf (m .r) i) ≡ 0 = omega arith in rw absent (record { is = refl })
+      go (leads-nowhere e z) g = let none-kept : 9 * (keptOf (m .r) (suc i) - keptOf (m .r) i) ≡ 0 = omega arith in rw none-kept (record { is = refl })
       go (leads e t) (leads-nowhere f z) = absurd (omega (arith, tos i h, p .few))
       go (leads e t) (leads f u) =
           let one = goes-found (m .r) (m .s) (k .s) i (founds i h) (omega (arith, p .few)) in
@@ -185,7 +181,7 @@ module _ {n buckets : ℕ} {k : Rooms} {m m′ : Mem} {c : Counts} (p : Tables n
           one-lies (record { state = t; is = refl }) (rw (← kepts (suc i) h, ← kepts i (omega arith)) at other)
 
   kept-bytes : (i : ℕ) → i ≤ c .records → Same (m .s) (m′ .s) (9 * (k .s - keptOf (m .r) i)) (9 * keptOf (m .r) i)
-  kept-bytes zero h = let absent : keptOf (m .r) 0 ≡ 0 = kept-zero (m .r) in rw absent (record { is = refl })
+  kept-bytes zero h = let none-kept : keptOf (m .r) 0 ≡ 0 = kept-zero (m .r) in rw none-kept (record { is = refl })
   kept-bytes (suc i) h =
       let rises : keptOf (m .r) i ≤ keptOf (m .r) (suc i) = kept-rises i (p .goes i h) in
       let most : keptOf (m .r) (suc i) ≤ k .s = omega (arith, kept-grow (p .goes) (c .records) (suc i) h (omega arith), p .kept, p .within .fitsS) in

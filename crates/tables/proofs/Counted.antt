@@ -10,7 +10,7 @@ use borrow.Author.Tests.{eq-eqb, ne-eqb, eqb-true, eqb-false}
 use Rattle.spec.specs.Lists.{if, same, some?, total}
 use Rattle.spec.specs.Stacks.{Stack}
 use Rattle.spec.specs.Search.{nowhere, found, Rec, dest, is-at, is-nowhere, kept}
-use Rattle.spec.specs.Entries.{absent}
+use Rattle.layout.specs.Marks.{NOWHERE}
 use Rattle.layout.specs.Records.{toAt, endOf, keptOf}
 use Rattle.state.specs.Cells.{stackAt}
 use Rattle.state.proofs.States.{state-lies, lies-count}
@@ -66,13 +66,13 @@ module _ (r q s : List ℕ) (room : ℕ) where
   pub recs-addresses : {m : ℕ} → ((i : ℕ) → i < m → Row r q i) → total (λ (x : Rec). length (x .path)) (recsOf r q s room m) ≡ endOf r m
   recs-addresses {m} rows = addresses-upto rows m (omega arith)
 
-  module _ {n : ℕ} (few : n < absent) where
+  module _ {n : ℕ} (few : n < NOWHERE) where
     kept-one : (i : ℕ) → Goes n room r s i → keptOf r i + kept (foundAt r s room i) ≡ keptOf r (suc i)
     unfolding foundAt if
-    kept-one i (leads-nowhere e z) = rw (eq-eqb (toAt r i) absent e) (omega arith)
+    kept-one i (leads-nowhere e z) = rw (eq-eqb (toAt r i) NOWHERE e) (omega arith)
     kept-one i (leads e t) =
-        let d : toAt r i ≡ absent → ⊥ = λ z. omega arith in
-        rw (ne-eqb (toAt r i) absent d)
+        let d : toAt r i ≡ NOWHERE → ⊥ = λ z. omega arith in
+        rw (ne-eqb (toAt r i) NOWHERE d)
         (omega (arith, lies-count (state-lies s (9 * (room - keptOf r (suc i))) (keptOf r (suc i) - keptOf r i) t), t .some))
 
     kept-upto : {m : ℕ} → ((i : ℕ) → i < m → Goes n room r s i) → (j : ℕ) → j ≤ m → total (λ (x : Rec). kept (x .to)) (recsOf r q s room j) ≡ keptOf r j
@@ -86,26 +86,26 @@ module _ (r q s : List ℕ) (room : ℕ) where
 
   -- ---- one of them leads there, or nowhere, by the path
 
-  leads-at : (t : ℕ) → (t ≡ absent → ⊥) → (i : ℕ) → is-at t (foundAt r s room i) ≡ eqb t (toAt r i)
+  leads-at : (t : ℕ) → (t ≡ NOWHERE → ⊥) → (i : ℕ) → is-at t (foundAt r s room i) ≡ eqb t (toAt r i)
   unfolding foundAt if
-  leads-at t d i = go (eqb (toAt r i) absent) refl
+  leads-at t d i = go (eqb (toAt r i) NOWHERE) refl
     where
-      go : (b : Bool) → eqb (toAt r i) absent ≡ b → is-at t (if b nowhere (found (toAt r i) (stackAt s (9 * (room - keptOf r (suc i))) (keptOf r (suc i) - keptOf r i)))) ≡ eqb t (toAt r i)
-      go true e = sym (ne-eqb t (toAt r i) (λ z. d (z ∙ eqb-true (toAt r i) absent e)))
+      go : (b : Bool) → eqb (toAt r i) NOWHERE ≡ b → is-at t (if b nowhere (found (toAt r i) (stackAt s (9 * (room - keptOf r (suc i))) (keptOf r (suc i) - keptOf r i)))) ≡ eqb t (toAt r i)
+      go true e = sym (ne-eqb t (toAt r i) (λ z. d (z ∙ eqb-true (toAt r i) NOWHERE e)))
       go false e = refl
 
-  leads-none : (i : ℕ) → is-nowhere (foundAt r s room i) ≡ eqb absent (toAt r i)
+  leads-none : (i : ℕ) → is-nowhere (foundAt r s room i) ≡ eqb NOWHERE (toAt r i)
   unfolding foundAt if
-  leads-none i = go (eqb (toAt r i) absent) refl
+  leads-none i = go (eqb (toAt r i) NOWHERE) refl
     where
-      go : (b : Bool) → eqb (toAt r i) absent ≡ b → is-nowhere (if b nowhere (found (toAt r i) (stackAt s (9 * (room - keptOf r (suc i))) (keptOf r (suc i) - keptOf r i)))) ≡ eqb absent (toAt r i)
-      go true e = sym (eq-eqb absent (toAt r i) (sym (eqb-true (toAt r i) absent e)))
-      go false e = sym (ne-eqb absent (toAt r i) (λ z. eqb-false (toAt r i) absent e (sym z)))
+      go : (b : Bool) → eqb (toAt r i) NOWHERE ≡ b → is-nowhere (if b nowhere (found (toAt r i) (stackAt s (9 * (room - keptOf r (suc i))) (keptOf r (suc i) - keptOf r i)))) ≡ eqb NOWHERE (toAt r i)
+      go true e = sym (eq-eqb NOWHERE (toAt r i) (sym (eqb-true (toAt r i) NOWHERE e)))
+      go false e = sym (ne-eqb NOWHERE (toAt r i) (λ z. eqb-false (toAt r i) NOWHERE e (sym z)))
 
-  pub recs-at : (t : ℕ) → (t ≡ absent → ⊥) → (path : List ℕ) (m : ℕ) → some? (λ (x : Rec). is-at t (x .to) && same path (x .path)) (recsOf r q s room m) ≡ hasRec r q t path m
+  pub recs-at : (t : ℕ) → (t ≡ NOWHERE → ⊥) → (path : List ℕ) (m : ℕ) → some? (λ (x : Rec). is-at t (x .to) && same path (x .path)) (recsOf r q s room m) ≡ hasRec r q t path m
   unfolding recAt isRec
   recs-at t d path m = some-recs (λ (x : Rec). is-at t (x .to) && same path (x .path)) (isRec r q t path) m (λ i l. rw (leads-at t d i))
 
-  pub recs-nowhere : (path : List ℕ) (m : ℕ) → some? (λ (x : Rec). is-nowhere (x .to) && same path (x .path)) (recsOf r q s room m) ≡ hasRec r q absent path m
+  pub recs-nowhere : (path : List ℕ) (m : ℕ) → some? (λ (x : Rec). is-nowhere (x .to) && same path (x .path)) (recsOf r q s room m) ≡ hasRec r q NOWHERE path m
   unfolding recAt isRec
-  recs-nowhere path m = some-recs (λ (x : Rec). is-nowhere (x .to) && same path (x .path)) (isRec r q absent path) m (λ i l. rw (leads-none i))
+  recs-nowhere path m = some-recs (λ (x : Rec). is-nowhere (x .to) && same path (x .path)) (isRec r q NOWHERE path) m (λ i l. rw (leads-none i))

@@ -9,8 +9,8 @@ use lib.ListN.{length, take, drop}
 use borrow.Author.Tests.{eq-eqb}
 use Rattle.spec.specs.Lists.{if}
 use Rattle.spec.specs.Search.{nowhere, found}
-use Rattle.spec.specs.Entries.{absent}
 use Rattle.lent.proofs.Parts.{part-suffix}
+use Rattle.layout.specs.Marks.{NOWHERE}
 use Rattle.layout.specs.Records.{toAt, endOf, keptOf}
 use Rattle.state.specs.Cells.{stackAt, State, Lies}
 use Rattle.state.proofs.States.{state-lies, lies-within}
@@ -98,19 +98,19 @@ module _ {r r′ : List ℕ} {m : ℕ} (same : (i : ℕ) → i < m → SameRow r
           go (leads-nowhere e z) = leads-nowhere (same i l .to ∙ e) (kept-same (suc i) l ∙ z ∙ sym (kept-same i (omega arith)))
           go (leads e t) = leads (rw (same i l .to) e) (rw (kept-same (suc i) l, kept-same i (omega arith)) (state-same t .state))
 
-      pub found-same : n < absent → foundAt r′ s′ room i ≡ foundAt r s room i
+      pub found-same : n < NOWHERE → foundAt r′ s′ room i ≡ foundAt r s room i
       unfolding foundAt if
       found-same few = rw (same i l .to, kept-same (suc i) l, kept-same i (omega arith)) (go (goes i l))
         where
           go : Goes n room r s i
-              → if (eqb (toAt r i) absent) nowhere (found (toAt r i) (stackAt s′ (9 * (room - keptOf r (suc i))) (keptOf r (suc i) - keptOf r i)))
-              ≡ if (eqb (toAt r i) absent) nowhere (found (toAt r i) (stackAt s (9 * (room - keptOf r (suc i))) (keptOf r (suc i) - keptOf r i)))
-          go (leads-nowhere e z) = rw (eq-eqb (toAt r i) absent e)
+              → if (eqb (toAt r i) NOWHERE) nowhere (found (toAt r i) (stackAt s′ (9 * (room - keptOf r (suc i))) (keptOf r (suc i) - keptOf r i)))
+              ≡ if (eqb (toAt r i) NOWHERE) nowhere (found (toAt r i) (stackAt s (9 * (room - keptOf r (suc i))) (keptOf r (suc i) - keptOf r i)))
+          go (leads-nowhere e z) = rw (eq-eqb (toAt r i) NOWHERE e)
           go (leads e t) = rw (state-same t .is)
 
 -- ---- and so the records are the same
 
-module _ {r r′ q s : List ℕ} {n room m : ℕ} (q′ s′ : List ℕ) (few : n < absent) (same : (i : ℕ) → i < m → SameRow r r′ i)
+module _ {r r′ q s : List ℕ} {n room m : ℕ} (q′ s′ : List ℕ) (few : n < NOWHERE) (same : (i : ℕ) → i < m → SameRow r r′ i)
     (rows : (i : ℕ) → i < m → Row r q i) (goes : (i : ℕ) → i < m → Goes n room r s i)
     (a : ℕ) (ends : endOf r m ≤ a) (front : take (2 * a) q′ ≡ take (2 * a) q)
     (k : ℕ) (top : keptOf r m ≤ k) (fits : 9 * room ≤ length s′) (most : k ≤ room) (back : drop (9 * (room - k)) s′ ≡ drop (9 * (room - k)) s) where

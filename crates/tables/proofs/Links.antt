@@ -8,12 +8,12 @@ use native.Mathlib.Numerals.{add-one}
 use native.Mathlib.Omega.{arith}
 use lib.ListN.{length}
 use Rattle.spec.specs.Lists.{little}
-use Rattle.spec.specs.Entries.{absent}
 use Rattle.lent.specs.Bytes.{numAt, Holds, Stored}
 use Rattle.lent.proofs.Parts.{part-suffix, drop-more}
 use Rattle.lent.proofs.Numbers.{number-little, num-suffix}
 use Rattle.lent.proofs.Stored.{kept-take, kept-drop, kept-part, kept-num, read-num, read-back, stored-join}
 use Rattle.layout.specs.Fields.{FIRST-FOUND, LAST-FOUND, COUNT, firstFoundAt, lastFoundAt, newestAt}
+use Rattle.layout.specs.Marks.{NOWHERE}
 use Rattle.layout.specs.Parts.{rowsEnd, fieldsPlace, listPlace, bucketPlace, PastFields}
 use Rattle.layout.specs.Records.{RECORD, recordPlace, R-TO, R-ENDS, R-KEPT, R-NEXT, R-LINK, R-SUM, R-ENERGY, R-FREE, toAt, nextAt, linkAt, sumAt, endOf, keptOf}
 use Rattle.tables.specs.Records.{bucketAt, Chains}
@@ -85,7 +85,7 @@ module _ (m : ℕ) (f : Fields) (link : ℕ) {r r′ : List ℕ} (s : Stored 28 
   unfolding rowBytes saysBytes linkBytes numAt
   row-link h = read-num s 4 R-LINK (omega arith) ∙ number-little 4 link h
 
-  row-says : {n : ℕ} → Sayable n f → n < absent → Says r′ m f
+  row-says : {n : ℕ} → Sayable n f → n < NOWHERE → Says r′ m f
   unfolding rowBytes saysBytes linkBytes numAt endOf keptOf
   row-says {n} h g =
       record {
@@ -97,7 +97,7 @@ module _ (m : ℕ) (f : Fields) (link : ℕ) {r r′ : List ℕ} (s : Stored 28 
         energy = read-num s 4 R-ENERGY (omega arith) ∙ number-little 4 (f .energy) (h .energy);
       }
     where
-      fits : (f .to ≡ absent) ⊎ (f .to ≤ n) → f .to < 2 ^ 16
+      fits : (f .to ≡ NOWHERE) ⊎ (f .to ≤ n) → f .to < 2 ^ 16
       fits (inl e) = omega arith
       fits (inr e) = omega arith
 
@@ -256,7 +256,7 @@ module _ {n buckets m : ℕ} {w r : List ℕ} {f : Fields} (l : Links n buckets 
         back = kept-drop t (bucketPlace n buckets) (omega arith);
       }
 
-  pub linked-none : f .to ≡ absent → Linked n buckets w r m f w₁ r₁
+  pub linked-none : f .to ≡ NOWHERE → Linked n buckets w r m f w₁ r₁
   linked-none z =
       record {
         chains = chains-more;
@@ -268,7 +268,7 @@ module _ {n buckets m : ℕ} {w r : List ℕ} {f : Fields} (l : Links n buckets 
         beyond = beyond-head;
       }
 
-  pub links-parent : (f .to ≡ absent → ⊥) → Joins n w₁ r₁ (f .to) m
+  pub links-parent : (f .to ≡ NOWHERE → ⊥) → Joins n w₁ r₁ (f .to) m
   links-parent d =
       record {
         parents = parents-same;
@@ -280,7 +280,7 @@ module _ {n buckets m : ℕ} {w r : List ℕ} {f : Fields} (l : Links n buckets 
         small = l .small;
       }
     where
-      inside : (f .to ≡ absent) ⊎ (f .to ≤ n) → f .to ≤ n
+      inside : (f .to ≡ NOWHERE) ⊎ (f .to ≤ n) → f .to ≤ n
       inside (inl z) = absurd (d z)
       inside (inr z) = z
 

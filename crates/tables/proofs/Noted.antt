@@ -12,9 +12,9 @@ use Rattle.spec.specs.Lists.{if, total}
 use Rattle.spec.specs.Stacks.{cells}
 use Rattle.spec.specs.Search.{Found, nowhere, found, Rec, kept, R, Q, Need, St, Turn, in-use, addresses, record-nowhere, record-found}
 use Rattle.spec.specs.Rooms.{Lent, or-else, shortage}
-use Rattle.spec.specs.Entries.{absent}
 use Rattle.theorems.proofs.Older.{clear}
 use Rattle.laws.proofs.Branch.{if-true, if-false}
+use Rattle.layout.specs.Marks.{NOWHERE}
 use Rattle.state.specs.Cells.{stackAt}
 use Rattle.state.proofs.States.{state-lies, lies-count}
 use Rattle.tables.specs.Addrs.{addrs, Summed}
@@ -52,13 +52,13 @@ beyond-all n buckets w =
     record { apart = record { front = refl; marks = λ a l. refl; rests = λ a l. refl; long = refl }; work = refl; back = refl }
 
 -- where an entry leads
-pub new-nowhere : (s : List ℕ) (e : Entry) → e .to ≡ absent → newFound s e ≡ nowhere
+pub new-nowhere : (s : List ℕ) (e : Entry) → e .to ≡ NOWHERE → newFound s e ≡ nowhere
 unfolding if
-new-nowhere s e z = rw (eq-eqb (e .to) absent z)
+new-nowhere s e z = rw (eq-eqb (e .to) NOWHERE z)
 
-pub new-at : (s : List ℕ) (e : Entry) {n : ℕ} → n < absent → e .to ≤ n → newFound s e ≡ found (e .to) (stackAt s (9 * e .from) (e .cells))
+pub new-at : (s : List ℕ) (e : Entry) {n : ℕ} → n < NOWHERE → e .to ≤ n → newFound s e ≡ found (e .to) (stackAt s (9 * e .from) (e .cells))
 unfolding if
-new-at s e few z = rw (ne-eqb (e .to) absent (λ d. omega arith))
+new-at s e few z = rw (ne-eqb (e .to) NOWHERE (λ d. omega arith))
 
 module _ {p w r q s : List ℕ} {np n buckets : ℕ} {k : Rooms} {c : Counts} {e : Entry} (y : Ready p np n buckets k (mem w r q s) c e) where
   abbrev path : List ℕ

@@ -5,7 +5,6 @@ use mathlib.Core.Logic.{_⊎_, inl, inr}
 use Prim.Native.Nat.{ℕ, zero, suc, _-_, _≤_, _<_}
 use native.Mathlib.Decide.{decLt}
 use native.Mathlib.Omega.{arith}
-use Rattle.spec.specs.Entries.{absent}
 use Rattle.tables.specs.Chains.{newest, following, any, Chained, Ordered, Left}
 use Rattle.tables.proofs.Chains.{keyed, newest-le, newest-again, newest-key, any-newest, newest-here, newest-other, newest-is, newest-last, newest-same, following-new, following-other, following-stays, following-same, following-end, ends-following}
 

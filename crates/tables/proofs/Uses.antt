@@ -7,8 +7,8 @@ use lib.ListN.{length, drop}
 use Rattle.spec.specs.Lists.{total}
 use Rattle.spec.specs.Stacks.{cells}
 use Rattle.spec.specs.Search.{Rec, Met, kept, St, Turn, in-use}
-use Rattle.spec.specs.Entries.{absent}
 use Rattle.layout.specs.Fields.{newestAt}
+use Rattle.layout.specs.Marks.{NOWHERE}
 use Rattle.layout.specs.Records.{toAt, linkAt, endOf, keptOf}
 use Rattle.tables.specs.Chains.{newest, following}
 use Rattle.tables.specs.Records.{bucketAt, recsOf}
@@ -73,7 +73,7 @@ module _ {n buckets : ℕ} {k : Rooms} {w r q s : List ℕ} {c : Counts} (a : Ta
 
 -- ---- no record yet
 
-pub tables-none : {n buckets : ℕ} {k : Rooms} {w r q s : List ℕ} {c : Counts} → n < absent → Within k (mem w r q s) c → NoLinks n buckets w
+pub tables-none : {n buckets : ℕ} {k : Rooms} {w r q s : List ℕ} {c : Counts} → n < NOWHERE → Within k (mem w r q s) c → NoLinks n buckets w
     → c .records ≡ 0 → c .addresses ≡ 0 → c .kept ≡ 0 → Tables n buckets k (mem w r q s) c
 unfolding newest following endOf keptOf
 tables-none {r = r} {c = c} few i o e f g =

@@ -5,8 +5,8 @@ use Prim.Native.Nat.{ℕ, suc, _+_, _^_, _≤_, _<_}
 use mathlib.Core.List.{List, _++_}
 use lib.ListN.{length, drop}
 use Rattle.spec.specs.Lists.{little}
-use Rattle.spec.specs.Entries.{absent}
 use Rattle.layout.specs.Fields.{COUNT, firstFoundAt, lastFoundAt}
+use Rattle.layout.specs.Marks.{NOWHERE}
 use Rattle.layout.specs.Parts.{listPlace, SameRows, SameStart, SameFields, SameList, PastFields, PastBuckets}
 use Rattle.layout.specs.Records.{RECORD, recordPlace, R-FREE, startAt, toAt, nextAt, linkAt, sumAt, energyAt, freeAt, endOf, keptOf}
 use Rattle.tables.specs.Chains.{Ordered}
@@ -82,7 +82,7 @@ pub record Joined (n : ℕ) (w r : List ℕ) (m : ℕ) (w′ r′ : List ℕ) : 
 -- what is to be said fits its fields
 pub record Sayable (n : ℕ) (f : Fields) : Type 0 where
   pub start : f .start < 2 ^ 16
-  pub to : (f .to ≡ absent) ⊎ (f .to ≤ n)
+  pub to : (f .to ≡ NOWHERE) ⊎ (f .to ≤ n)
   pub ends : f .ends < 2 ^ 32
   pub kept : f .kept < 2 ^ 32
   pub sum : f .sum < 2 ^ 32
@@ -93,7 +93,7 @@ pub record Links (n buckets : ℕ) (w r : List ℕ) (m : ℕ) (f : Fields) : Typ
   pub parents : Parents n w r m
   pub says : Sayable n f
   pub inR : recordPlace m + RECORD ≤ length r
-  pub few : n < absent
+  pub few : n < NOWHERE
   pub small : m + 1 < 2 ^ 32
 
 -- the row stands in R, and on its chains; the rows before it, and what is after it, are as they were

@@ -7,8 +7,8 @@ use lib.Dec.{eqb}
 use lib.ListN.{length}
 use Rattle.spec.specs.Lists.{if, same}
 use Rattle.spec.specs.Search.{Found, nowhere, found, Rec}
-use Rattle.spec.specs.Entries.{absent}
 use Rattle.layout.specs.Fields.{newestAt}
+use Rattle.layout.specs.Marks.{NOWHERE}
 use Rattle.layout.specs.Parts.{bucketPlace}
 use Rattle.layout.specs.Records.{RECORD, recordPlace, startAt, toAt, linkAt, sumAt, energyAt, endOf, keptOf}
 use Rattle.state.specs.Cells.{stackAt}
@@ -25,7 +25,7 @@ pathAt r q i = addrs q (endOf r i) (endOf r (suc i) - endOf r i)
 
 unfoldable pub foundAt : List ℕ → List ℕ → ℕ → ℕ → Found
 foundAt r s room i =
-    if (eqb (toAt r i) absent) nowhere (found (toAt r i) (stackAt s (9 * (room - keptOf r (suc i))) (keptOf r (suc i) - keptOf r i)))
+    if (eqb (toAt r i) NOWHERE) nowhere (found (toAt r i) (stackAt s (9 * (room - keptOf r (suc i))) (keptOf r (suc i) - keptOf r i)))
 
 unfoldable pub recAt : List ℕ → List ℕ → List ℕ → ℕ → ℕ → Rec
 recAt r q s room i = record { start = startAt r i; to = foundAt r s room i; path = pathAt r q i; energy = energyAt r i }

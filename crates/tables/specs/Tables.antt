@@ -6,8 +6,8 @@ use lib.Dec.{eqb}
 use lib.ListN.{length, take, drop}
 use Rattle.spec.specs.Lists.{if}
 use Rattle.spec.specs.Search.{Found, nowhere, found, Rec}
-use Rattle.spec.specs.Entries.{absent}
 use Rattle.layout.specs.Fields.{firstFoundAt, lastFoundAt, newestAt}
+use Rattle.layout.specs.Marks.{NOWHERE}
 use Rattle.layout.specs.Parts.{bucketPlace}
 use Rattle.layout.specs.Records.{recordPlace, R-FREE, toAt, endOf, keptOf}
 use Rattle.state.specs.Cells.{stackAt, State}
@@ -35,7 +35,7 @@ recs k m c = recsOf (m .r) (m .q) (m .s) (k .s) (c .records)
 
 -- record i leads nowhere and keeps nothing, or to an address up to n, with a state among the kept cells
 pub data Goes (n room : ℕ) (r s : List ℕ) (i : ℕ) : Type 0 where
-  leads-nowhere : toAt r i ≡ absent → keptOf r (suc i) ≡ keptOf r i → Goes n room r s i
+  leads-nowhere : toAt r i ≡ NOWHERE → keptOf r (suc i) ≡ keptOf r i → Goes n room r s i
   leads : toAt r i ≤ n → State s (9 * (room - keptOf r (suc i))) (keptOf r (suc i) - keptOf r i) → Goes n room r s i
 
 -- the counts are within the rooms, and the rooms within the buffers
@@ -52,7 +52,7 @@ pub record Within (k : Rooms) (m : Mem) (c : Counts) : Type 0 where
 
 -- all that holds of the records
 pub record Tables (n buckets : ℕ) (k : Rooms) (m : Mem) (c : Counts) : Type 0 where
-  pub few : n < absent
+  pub few : n < NOWHERE
   pub within : Within k m c
   pub rows : (i : ℕ) → i < c .records → Row (m .r) (m .q) i
   pub goes : (i : ℕ) → i < c .records → Goes n (k .s) (m .r) (m .s) i
@@ -85,14 +85,14 @@ pub record NoLinks (n buckets : ℕ) (w : List ℕ) : Type 0 where
 -- ---- a record more
 
 abbrev pub newFound : List ℕ → Entry → Found
-newFound s e = if (eqb (e .to) absent) nowhere (found (e .to) (stackAt s (9 * e .from) (e .cells)))
+newFound s e = if (eqb (e .to) NOWHERE) nowhere (found (e .to) (stackAt s (9 * e .from) (e .cells)))
 
 abbrev pub newRec : List ℕ → Entry → List ℕ → Rec
 newRec s e path = record { start = e .start; to = newFound s e; path = path; energy = e .energy }
 
 -- there is no destination and nothing to keep, or a state stands in S
 pub data Enters (n : ℕ) (s : List ℕ) (e : Entry) : Type 0 where
-  enters-nowhere : e .to ≡ absent → e .cells ≡ 0 → Enters n s e
+  enters-nowhere : e .to ≡ NOWHERE → e .cells ≡ 0 → Enters n s e
   enters : e .to ≤ n → State s (9 * e .from) (e .cells) → Enters n s e
 
 -- what can be recorded: a path, and an entry
@@ -107,7 +107,7 @@ pub record Ready (p : List ℕ) (np n buckets : ℕ) (k : Rooms) (m : Mem) (c : 
 
 -- the entry of a path that leads nowhere
 abbrev pub noEntry : ℕ → ℕ → Entry
-noEntry start energy = record { start = start; to = absent; from = 0; cells = 0; energy = energy }
+noEntry start energy = record { start = start; to = NOWHERE; from = 0; cells = 0; energy = energy }
 
 -- and there is room for it
 pub record Adds (p : List ℕ) (np n buckets : ℕ) (k : Rooms) (m : Mem) (c : Counts) (e : Entry) (sum : ℕ) : Type 0 where

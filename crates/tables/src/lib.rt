@@ -30,7 +30,7 @@ pub struct Counts {
     pub rows: usize,
 }
 
-// What is to be recorded: the turn's start, the destination or `MISSING`, the place and the length in S, in cells, of the state to keep, and the energy so far.
+// What is to be recorded: the turn's start, the destination or `NOWHERE`, the place and the length in S, in cells, of the state to keep, and the energy so far.
 pub struct Entry {
     pub start: usize,
     pub to: usize,

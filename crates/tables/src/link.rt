@@ -1,7 +1,7 @@
 // A new record's row in R, and the links that lead to it: from its bucket, and from the found parents of its destination.
 // "rows in order of insertion, searched"; and of the record's number: "It is kept in the R row from the moment of recording".
 use crate::record::bucket_of;
-use layout::MISSING;
+use layout::NOWHERE;
 use layout::field::FIRST_FOUND;
 use layout::field::LAST_FOUND;
 use layout::part::BUCKET;
@@ -24,7 +24,7 @@ ghost use Rattle.lent.specs.Bytes.{Stored};
 ghost use Rattle.layout.specs.Records.{RECORD, recordPlace, R-NEXT};
 ghost use Rattle.tables.specs.Links.{saysBytes, linkBytes, rowBytes, Joins, Joined, Links, Linked};
 
-// What a record's row says: its turn's start, its destination or `MISSING`, the ends of its path in Q and of its kept cells in S, its path's sum, and
+// What a record's row says: its turn's start, its destination or `NOWHERE`, the ends of its path in Q and of its kept cells in S, its path's sum, and
 // its number.
 pub struct Fields {
     pub start: usize,
@@ -89,7 +89,7 @@ pub fn link_record(w: &mut [u8], r: &mut [u8], n: usize, buckets: usize, m: usiz
     let head = get32(w, at);
     put_row(r, m, f, head);
     put32(w, at, m + 1);
-    if f.to == MISSING {
+    if f.to == NOWHERE {
         return;
     }
     link_parent(w, r, n, f.to, m)

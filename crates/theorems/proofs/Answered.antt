@@ -14,7 +14,7 @@ use Rattle.spec.specs.Stacks.{Ran, run}
 use Rattle.spec.specs.Search.{Node, node, nodes, Rec, St, is-nowhere, dests}
 use Rattle.spec.specs.Ending.{Final, all-are, merged, ended, entries-of, finals}
 use Rattle.spec.specs.Rooms.{Lent}
-use Rattle.spec.specs.Entries.{Map, head, block-entries, record-entry, entries, joined, bytes}
+use Rattle.spec.specs.Entries.{wide-code, Map, head, block-entries, record-entry, entries, joined, bytes}
 use Rattle.spec.specs.Answer.{answered, prepared, searched, mapped, answer}
 use Rattle.laws.proofs.Branch.{both}
 use Rattle.laws.proofs.Lists.{Rising, one-more, rising-from}
@@ -171,17 +171,17 @@ module _ (r : Rules) (l : Lent) (limit choice : ℕ) (code : List ℕ) (a : Map)
 
 -- ---- the bytes of an answer
 
-bytes-long : (m : Map) → length (bytes m) ≡ 18 + (length (joined (block-entries m)) + length (joined (map (record-entry (m .numbered)) (m .recs))))
+bytes-long : (m : Map) → length (bytes m) ≡ 18 + (length (joined (block-entries m)) + length (joined (map (record-entry (wide-code (m .size)) (m .numbered)) (m .recs))))
 unfolding bytes entries
-bytes-long m = ap (λ (bs : List ℕ). length (head m ++ bs)) (gather-append (λ (e : List ℕ). e) (block-entries m) (map (record-entry (m .numbered)) (m .recs))) ∙ simp length-append (omega arith)
+bytes-long m = ap (λ (bs : List ℕ). length (head m ++ bs)) (gather-append (λ (e : List ℕ). e) (block-entries m) (map (record-entry (wide-code (m .size)) (m .numbered)) (m .recs))) ∙ simp length-append (omega arith)
 
 -- the head alone has 18 bytes, so that what the exported entry counts is no refusal's number
 pub answered-long : (m : Map) → 18 ≤ length (bytes m)
 answered-long m = omega (arith, bytes-long m)
 
-records-long : (rs : List Rec) → length (joined (map (record-entry true) rs)) ≡ length (joined (map (record-entry false) rs)) + 4 * length rs
-records-long [] = refl
-records-long (x ∷ rs) = let h = records-long rs in simp length-append (omega arith)
+records-long : (wide : Bool) (rs : List Rec) → length (joined (map (record-entry wide true) rs)) ≡ length (joined (map (record-entry wide false) rs)) + 4 * length rs
+records-long wide [] = refl
+records-long wide (x ∷ rs) = let h = records-long wide rs in simp length-append (omega arith)
 
 -- Document 02, No. 5: "where kind 9 is written the output need grows by 4 bytes a record".
 pub numbers-written : (r : Rules) (choice : ℕ) → ¬ (choice ≡ 0) → (code : List ℕ) (s : St)
@@ -189,6 +189,6 @@ pub numbers-written : (r : Rules) (choice : ℕ) → ¬ (choice ≡ 0) → (code
 unfolding mapped
 numbers-written r choice ne code s =
     let m = mapped r 0 code s in
-    let plain : length (bytes (mapped r choice code s)) ≡ 18 + (length (joined (block-entries m)) + length (joined (map (record-entry false) (s .recs)))) =
+    let plain : length (bytes (mapped r choice code s)) ≡ 18 + (length (joined (block-entries m)) + length (joined (map (record-entry (wide-code (length code)) false) (s .recs)))) =
     bytes-long (mapped r choice code s) ∙ rw (ne-eqb choice 0 ne) in
-    bytes-long m ∙ rw (records-long (s .recs)) (omega arith)
+    bytes-long m ∙ rw (records-long (wide-code (length code)) (s .recs)) (omega arith)

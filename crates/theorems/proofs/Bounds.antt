@@ -13,7 +13,7 @@ use Rattle.spec.specs.Blocks.{Kind, terminate, jump, jumpi, dynamic-jump, dynam
 use Rattle.spec.specs.Search.{Node, Rec, is-nowhere, dest, dests}
 use Rattle.spec.specs.Ending.{Final, final, all-are, merged, ended, entries-of, finals}
 use Rattle.spec.specs.Rooms.{Lent, longest}
-use Rattle.spec.specs.Entries.{Map, record-entry, block-entries, entries, joined, bytes}
+use Rattle.spec.specs.Entries.{wide-code, Map, record-entry, block-entries, entries, joined, bytes}
 use Rattle.spec.specs.Answer.{answered, prepared, searched, mapped, answer}
 use Rattle.spec.specs.Inspector.{unpruned}
 use Rattle.laws.proofs.Branch.{both}
@@ -107,23 +107,23 @@ path-few : (p : List ℕ) → length p ≤ length (gather (little 2) p)
 path-few [] = omega arith
 path-few (a ∷ p) = omega (arith, path-few p)
 
-recs-few : (b : Bool) (recs : List Rec) → length recs ≤ length (joined (map (record-entry b) recs))
-recs-few b [] = omega arith
-recs-few false (r ∷ recs) = simp length-append (omega (arith, recs-few false recs))
-recs-few true (r ∷ recs) = simp length-append (omega (arith, recs-few true recs))
+recs-few : (wide b : Bool) (recs : List Rec) → length recs ≤ length (joined (map (record-entry wide b) recs))
+recs-few wide b [] = omega arith
+recs-few wide false (r ∷ recs) = simp length-append (omega (arith, recs-few wide false recs))
+recs-few wide true (r ∷ recs) = simp length-append (omega (arith, recs-few wide true recs))
 
 bytes-few : (m : Map) → length (m .recs) ≤ length (bytes m)
 unfolding bytes entries
 bytes-few m =
-    rw (gather-append (λ (e : List ℕ). e) (block-entries m) (map (record-entry (m .numbered)) (m .recs))) (simp length-append (omega (arith, recs-few (m .numbered) (m .recs))))
+    rw (gather-append (λ (e : List ℕ). e) (block-entries m) (map (record-entry (wide-code (m .size)) (m .numbered)) (m .recs))) (simp length-append (omega (arith, recs-few (wide-code (m .size)) (m .numbered) (m .recs))))
 
-record-long : (b : Bool) (r : Rec) → length (r .path) ≤ length (record-entry b r)
-record-long false r = omega (arith, path-few (r .path))
-record-long true r = omega (arith, path-few (r .path))
+record-long : (wide b : Bool) (r : Rec) → length (r .path) ≤ length (record-entry wide b r)
+record-long wide false r = omega (arith, path-few (r .path))
+record-long wide true r = omega (arith, path-few (r .path))
 
 bytes-long : (m : Map) (r : Rec) → In r (m .recs) → length (r .path) ≤ length (bytes m)
 unfolding bytes entries
-bytes-long m r i = omega (arith, record-long (m .numbered) r, in-joined {xs = entries m} (there (in-right (block-entries m) (map-in (record-entry (m .numbered)) i))))
+bytes-long m r i = omega (arith, record-long (wide-code (m .size)) (m .numbered) r, in-joined {xs = entries m} (there (in-right (block-entries m) (map-in (record-entry (wide-code (m .size)) (m .numbered)) i))))
 
 -- numbers that rise below n are at most n
 rising-few : {low n : ℕ} (ns : List ℕ) → Rising low ns → ((t : ℕ) → In t ns → t < n) → low ≤ n → low + length ns ≤ n

@@ -6,7 +6,7 @@ use lib.ListN.{take, replicate}
 use Rattle.spec.specs.Lists.{if, number}
 use Rattle.spec.specs.Opcodes.{row}
 use Rattle.spec.specs.Forms.{sort}
-use Rattle.spec.specs.Reader.{pieces, sevens, first-bad, addresses, items, ways, finals-in, recs-in, read}
+use Rattle.spec.specs.Reader.{pieces, sevens, first-bad, addresses, items, ways, finals-in, recs-in, reading, read}
 use Rattle.spec.specs.Eights.{as-eights, over}
 use Rattle.spec.specs.Counting.{distinct}
 use Rattle.spec.specs.Follow.{FollowOutcome, starting, move, counted, follow-from, follow-call, follows-as, counts-after, work-after}
@@ -59,5 +59,5 @@ due (c ∷ cs) room n = n ∷ over (as-eights (c ∷ cs)) (replicate room 7) ∷
 
 pub followed-cases : map (λ (c : Case). given (follow-call (c .stored) (c .code) (c .log) (replicate (c .room) 7)) (c .room)) cases
     ≡ map (λ (c : Case). due (c .counts) (c .room) (c .number-is ∷ [])) cases
-unfolding read pieces sevens first-bad addresses items ways finals-in recs-in number sort if row distinct starting move counted follow-from
+unfolding read reading pieces sevens first-bad addresses items ways finals-in recs-in number sort if row distinct starting move counted follow-from
 followed-cases = refl

@@ -19,7 +19,7 @@ use Rattle.spec.specs.Search.{Found, nowhere, found, Rec}
 use Rattle.spec.specs.Ending.{Final}
 use Rattle.spec.specs.Rooms.{longest, work-need}
 use Rattle.spec.specs.Entries.{Map}
-use Rattle.spec.specs.Forms.{announced, entry, behind, sort}
+use Rattle.spec.specs.Forms.{wide-in, announced, entry, behind, sort}
 use Rattle.spec.specs.BadEntries.{Refused}
 use Rattle.spec.specs.Reader.{Reading, holds, bad, Piece, pieces, first, first-bad, Item, a-head, a-block, a-way, a-record, no-item, item-of, items, ways, finals-in, recs-in, held, verdict as reads, read, told}
 use Rattle.spec.specs.Inspector.{fault-to, PathEntry, shows, path-entries, Inspection, refused, bad-entry, not-right, accepted, or-later, first-wrong, looks-at, inspect, numberOf, valueOf, exported}
@@ -61,12 +61,12 @@ shows-listed b at on is h (a-way t p) = ap {B = List Rec} (λ (l : List Rec). re
 shows-listed b at on is h (a-record n r) = ap {B = List Rec} (λ (l : List Rec). r ∷ l) (h b)
 shows-listed b at on is h no-item = h b
 
-entries-listed : {at : ℕ} {rest : List ℕ} {ps : List Piece} → Split at rest ps → (b : ℕ) → recs-of (path-entries b ps) ≡ listed b (items ps)
+entries-listed : (wide : Bool) {at : ℕ} {rest : List ℕ} {ps : List Piece} → Split at rest ps → (b : ℕ) → recs-of (path-entries wide b ps) ≡ listed b (items wide ps)
 unfolding path-entries items
-entries-listed done b = refl
-entries-listed (cut-off n c) b = refl
-entries-listed (more {at} {rest} {ps} w s) b =
-    shows-listed b at (λ a. path-entries a ps) (items ps) (λ a. entries-listed s a) (item-of (sort (entry rest .kind)) (entry rest .body))
+entries-listed wide done b = refl
+entries-listed wide (cut-off n c) b = refl
+entries-listed wide (more {at} {rest} {ps} w s) b =
+    shows-listed b at (λ a. path-entries wide a ps) (items wide ps) (λ a. entries-listed wide s a) (item-of (sort wide (entry rest .kind)) (entry rest .body))
 
 -- a 7 as an entry of the block at b
 abbrev owned : ℕ → Rec → Rec
@@ -118,22 +118,22 @@ finals-owning (no-item ∷ is) f i r j = finals-owning is f i r j
 
 module _ (bs : List ℕ) (m : Map) (e : read bs ≡ holds m) where
   map-owning : Owning (m .blocks)
-  map-owning = subst Owning (read-blocks bs m e) (finals-owning (items (pieces bs 0 0)))
+  map-owning = subst Owning (read-blocks bs m e) (finals-owning (items (wide-in bs) (pieces bs 0 0)))
 
   -- The path entries of accepted bytes, as they stand in them, are the map's.
-  pub entries-are : recs-of (path-entries 0 (pieces bs 0 0)) ≡ paths-of m
-  entries-are = entries-listed (split bs) 0 ∙ ap (listed 0) (read-items bs m e .same) ∙ listed-blocks 0 (m .blocks) (m .numbered) (m .recs) map-owning
+  pub entries-are : recs-of (path-entries (wide-in bs) 0 (pieces bs 0 0)) ≡ paths-of m
+  entries-are = entries-listed (wide-in bs) (split bs) 0 ∙ ap (listed 0) (read-items bs m e .same) ∙ listed-blocks 0 (m .blocks) (m .numbered) (m .recs) map-owning
 
 -- ---- where they stand
 
 -- the bytes have the path entry at its offset: a 7, or a record
 pub data StandsAt (bs : List ℕ) (e : PathEntry) : Type 0 where
-  as-way : item-of (sort (entry (drop (e .offset) bs) .kind)) (entry (drop (e .offset) bs) .body) ≡ a-way (e .entry .to) (e .entry .path) → StandsAt bs e
-  as-record : {numbered : Bool} → item-of (sort (entry (drop (e .offset) bs) .kind)) (entry (drop (e .offset) bs) .body) ≡ a-record numbered (e .entry) → StandsAt bs e
+  as-way : item-of (sort (wide-in bs) (entry (drop (e .offset) bs) .kind)) (entry (drop (e .offset) bs) .body) ≡ a-way (e .entry .to) (e .entry .path) → StandsAt bs e
+  as-record : {numbered : Bool} → item-of (sort (wide-in bs) (entry (drop (e .offset) bs) .kind)) (entry (drop (e .offset) bs) .body) ≡ a-record numbered (e .entry) → StandsAt bs e
 
 module _ (bs : List ℕ) where
   shows-stands : (b at : ℕ) (on : ℕ → List PathEntry) → ((a : ℕ) (e : PathEntry) → In e (on a) → StandsAt bs e) → (it : Item)
-      → item-of (sort (entry (drop at bs) .kind)) (entry (drop at bs) .body) ≡ it → (e : PathEntry) → In e (shows b at on it) → StandsAt bs e
+      → item-of (sort (wide-in bs) (entry (drop at bs) .kind)) (entry (drop at bs) .body) ≡ it → (e : PathEntry) → In e (shows b at on it) → StandsAt bs e
   shows-stands b at on h (a-head s n m k) q e i = h b e i
   shows-stands b at on h (a-block c n) q e i = h (c .start) e i
   shows-stands b at on h (a-way t p) q e here = as-way q
@@ -142,17 +142,17 @@ module _ (bs : List ℕ) where
   shows-stands b at on h (a-record n r) q e (there i) = h b e i
   shows-stands b at on h no-item q e i = h b e i
 
-  split-stands : {at : ℕ} {rest : List ℕ} {ps : List Piece} → Split at rest ps → drop at bs ≡ rest → (b : ℕ) (e : PathEntry) → In e (path-entries b ps) → StandsAt bs e
+  split-stands : {at : ℕ} {rest : List ℕ} {ps : List Piece} → Split at rest ps → drop at bs ≡ rest → (b : ℕ) (e : PathEntry) → In e (path-entries (wide-in bs) b ps) → StandsAt bs e
   unfolding path-entries
   split-stands done q b e i = elim i [ ]
   split-stands (cut-off n c) q b e i = elim i [ ]
   split-stands (more {at} {rest} {ps} w s) q b e i =
       let next : drop (at + (6 + announced rest)) bs ≡ behind rest = sym (drop-drop (6 + announced rest) at bs) ∙ ap (drop (6 + announced rest)) q in
-      shows-stands b at (λ a. path-entries a ps) (λ a d j. split-stands s next a d j) (item-of (sort (entry rest .kind)) (entry rest .body))
-      (ap (λ (l : List ℕ). item-of (sort (entry l .kind)) (entry l .body)) q) e i
+      shows-stands b at (λ a. path-entries (wide-in bs) a ps) (λ a d j. split-stands s next a d j) (item-of (sort (wide-in bs) (entry rest .kind)) (entry rest .body))
+      (ap (λ (l : List ℕ). item-of (sort (wide-in bs) (entry l .kind)) (entry l .body)) q) e i
 
   -- Each stands in the bytes at its offset,
-  pub entry-stands : (e : PathEntry) → In e (path-entries 0 (pieces bs 0 0)) → StandsAt bs e
+  pub entry-stands : (e : PathEntry) → In e (path-entries (wide-in bs) 0 (pieces bs 0 0)) → StandsAt bs e
   entry-stands e i = split-stands (split bs) refl 0 e i
 
 abbrev offsets : List PathEntry → List ℕ
@@ -165,15 +165,15 @@ shows-rise b at on h (a-way t p) = one-more (le-refl at) (h b)
 shows-rise b at on h (a-record n r) = one-more (le-refl at) (h b)
 shows-rise b at on h no-item = rising-from (omega arith) (h b)
 
-split-rise : {at : ℕ} {rest : List ℕ} {ps : List Piece} → Split at rest ps → (b : ℕ) → Rising at (offsets (path-entries b ps))
+split-rise : (wide : Bool) {at : ℕ} {rest : List ℕ} {ps : List Piece} → Split at rest ps → (b : ℕ) → Rising at (offsets (path-entries wide b ps))
 unfolding path-entries
-split-rise done b = none-left
-split-rise (cut-off n c) b = none-left
-split-rise (more {at} {rest} {ps} w s) b = shows-rise b at (λ a. path-entries a ps) (λ a. rising-from (omega arith) (split-rise s a)) (item-of (sort (entry rest .kind)) (entry rest .body))
+split-rise wide done b = none-left
+split-rise wide (cut-off n c) b = none-left
+split-rise wide (more {at} {rest} {ps} w s) b = shows-rise b at (λ a. path-entries wide a ps) (λ a. rising-from (omega arith) (split-rise wide s a)) (item-of (sort wide (entry rest .kind)) (entry rest .body))
 
 -- and the offsets rise: the first that is not right is that with the lowest offset.
-pub entries-rise : (bs : List ℕ) → Rising 0 (offsets (path-entries 0 (pieces bs 0 0)))
-entries-rise bs = split-rise (split bs) 0
+pub entries-rise : (bs : List ℕ) → Rising 0 (offsets (path-entries (wide-in bs) 0 (pieces bs 0 0)))
+entries-rise bs = split-rise (wide-in bs) (split bs) 0
 
 -- ---- the first that is not right
 
@@ -263,7 +263,7 @@ module _ (rules : Rules) (ok : Lawful (rules .row)) where
   module _ (code bs : List ℕ) (work : ℕ) where
     -- the path entries of the map's bytes
     abbrev pub the-entries : List PathEntry
-    the-entries = path-entries 0 (pieces bs 0 0)
+    the-entries = path-entries (wide-in bs) 0 (pieces bs 0 0)
 
     -- 1, 13 and 3 do not apply
     pub record Taken : Type 0 where
@@ -276,7 +276,7 @@ module _ (rules : Rules) (ok : Lawful (rules .row)) where
       code-over : longest < length code → Verdict (refused 1)
       mode-over : length code ≤ longest → 1 < rules .mode → Verdict (refused 13)
       work-short : length code ≤ longest → rules .mode ≤ 1 → work < work-need (length code) → Verdict (refused 3)
-      entry-bad : {offset : ℕ} → Taken → Refused bs offset → Verdict (bad-entry offset)
+      entry-bad : {offset : ℕ} → Taken → Refused (wide-in bs) bs offset → Verdict (bad-entry offset)
       path-wrong : {m : Map} {offset place : ℕ} → Taken → read bs ≡ holds m → FirstWrong code m the-entries offset place → Verdict (not-right offset place)
       all-right : {m : Map} → Taken → read bs ≡ holds m → ((r : Rec) → In r (paths-of m) → RightEntry code m r) → Verdict accepted
 

@@ -15,7 +15,7 @@ use Rattle.spec.specs.Search.{parents, record-nowhere, record-found, arrive, fo
 use Rattle.spec.specs.Entries.{Map, entries, bytes}
 use Rattle.spec.specs.Answer.{prepared, searched, mapped}
 use Rattle.spec.specs.Forms.{sort}
-use Rattle.spec.specs.Reader.{pieces, sevens, first-bad, addresses, items, ways, finals-in, recs-in, numbered-in, read}
+use Rattle.spec.specs.Reader.{pieces, sevens, first-bad, addresses, items, ways, finals-in, recs-in, numbered-in, reading, read}
 use Rattle.spec.specs.Inspector.{first-failing, looked, fault, path-entries, Inspection, refused, bad-entry, not-right, accepted, first-wrong, inspect, exported, place-after, work-after, unpruned}
 use Rattle.theorems.proofs.MapSample.{hex}
 
@@ -111,7 +111,7 @@ cases =
     ∷
     call 0 832 (with-blocks ++ hex 18 0x0c0000000800070007000200000007000000 ++ hex 1 0x00) (bad-entry 71)
     ∷
-    record { mode = 2; code = replicate 24577 0; bytes-in = []; work = 0; says = refused 1 }
+    record { mode = 2; code = replicate 49153 0; bytes-in = []; work = 0; says = refused 1 }
     ∷
     []
 
@@ -119,7 +119,7 @@ abbrev inspect-in : ℕ → List ℕ → List ℕ → ℕ → Inspection
 inspect-in m = inspect (in-mode m)
 
 pub cases-hold : map (λ (c : Case). inspect-in (c .mode) (c .code) (c .bytes-in) (c .work)) cases ≡ map (λ (c : Case). c .says) cases
-unfolding if row walk read-stack does act trim through closing number sort pieces sevens first-bad addresses items ways finals-in recs-in numbered-in read first-failing looked fault path-entries first-wrong inspect
+unfolding if row walk read-stack does act trim through closing number sort pieces sevens first-bad addresses items ways finals-in recs-in numbered-in reading read first-failing looked fault path-entries first-wrong inspect
 cases-hold = refl
 
 -- what is handed over, and left, of one that is not right: 17 and the offset; the place in 8 bytes, and not where they are not there; W wiped
@@ -142,5 +142,5 @@ run = searched (in-mode 0) 500000 branching
 
 pub pruning-matters : map (λ (m : Map). inspect (in-mode 0) branching (bytes m) 1344) (unpruned (in-mode 0) 1 branching run ∷ unpruned (in-mode 0) 0 branching run ∷ mapped (in-mode 0) 1 branching run ∷ mapped (in-mode 0) 0 branching run ∷ [])
     ≡ accepted ∷ accepted ∷ not-right 91 1 ∷ not-right 95 1 ∷ []
-unfolding if row walk instructions cuts blocks read-stack does act trim run-block through compose sweep spread closure parents record-nowhere record-found arrive follow tries level turn round rounds search entries bytes prepared searched mapped unpruned closing number sort pieces sevens first-bad addresses items ways finals-in recs-in numbered-in read first-failing looked fault path-entries first-wrong inspect
+unfolding if row walk instructions cuts blocks read-stack does act trim run-block through compose sweep spread closure parents record-nowhere record-found arrive follow tries level turn round rounds search entries bytes prepared searched mapped unpruned closing number sort pieces sevens first-bad addresses items ways finals-in recs-in numbered-in reading read first-failing looked fault path-entries first-wrong inspect
 pruning-matters = refl

@@ -31,6 +31,7 @@ pub mod Older
 pub mod Refusals
 pub mod Demand3
 pub mod Answered
+pub mod InitCode
 pub mod PathTruth
 pub mod PathDeep
 pub mod Exits

@@ -8,8 +8,8 @@ use lib.Dec.{eqb, leb}
 use borrow.Author.Tests.{leb-true}
 use Rattle.spec.specs.Ending.{Final}
 use Rattle.spec.specs.Entries.{Map}
-use Rattle.spec.specs.Forms.{TERMINATE, JUMP, JUMPI, DYNAMIC-JUMP, DYNAMIC-JUMPI, Ends, Sort, HEAD, WAY, RECORD, UNKNOWN, BLOCK, sort, dynamic, owes, start-in}
-use Rattle.spec.specs.Reader.{Reading, holds, bad, Piece, whole, cut, pieces, formed, Place, first, blocks, records, next, met, taken, first-bad, Item, a-head, a-block, a-way, a-record, no-item, item-of, items, finals-in, recs-in, numbered-in, held, verdict, read}
+use Rattle.spec.specs.Forms.{wide-in, TERMINATE, JUMP, JUMPI, DYNAMIC-JUMP, DYNAMIC-JUMPI, Ends, Sort, HEAD, WAY, RECORD, UNKNOWN, BLOCK, sort, dynamic, owes, start-in}
+use Rattle.spec.specs.Reader.{Reading, holds, bad, Piece, whole, cut, pieces, formed, Place, first, blocks, records, next, met, taken, first-bad, Item, a-head, a-block, a-way, a-record, no-item, item-of, items, finals-in, recs-in, numbered-in, held, verdict, reading, read}
 use Rattle.laws.proofs.Branch.{both}
 use Rattle.laws.proofs.Lists.{Rising, none-left, one-more}
 use Rattle.theorems.proofs.Answered.{finals-at}
@@ -18,15 +18,16 @@ use Rattle.theorems.proofs.ReaderBack.{none-bad}
 
 -- ---- an entry behind which nothing is bad may come, and nothing is bad from the place behind it
 
-pub record Goes (ps : List Piece) (o : Option Place) : Type 0 where
-  pub place : Place
-  pub is : o ≡ some place
-  pub good : first-bad ps place ≡ none
+module _ (wide : Bool) where
+  pub record Goes (ps : List Piece) (o : Option Place) : Type 0 where
+    pub place : Place
+    pub is : o ≡ some place
+    pub good : first-bad wide ps place ≡ none
 
-pub goes : (at : ℕ) (ok : Bool) (ps : List Piece) (o : Option Place) → taken at ok (λ q. first-bad ps q) o ≡ none → Goes ps o
-goes at ok ps none e = never (cc)
-goes at ok ps (some q) e =
-    both (λ (r : Option ℕ). r ≡ none → Goes ps (some q)) ok (λ _ g. record { place = q; is = refl; good = g }) (λ _ (g : some at ≡ none). never (cc)) e
+  pub goes : (at : ℕ) (ok : Bool) (ps : List Piece) (o : Option Place) → taken at ok (λ q. first-bad wide ps q) o ≡ none → Goes ps o
+  goes at ok ps none e = never (cc)
+  goes at ok ps (some q) e =
+      both (λ (r : Option ℕ). r ≡ none → Goes ps (some q)) ok (λ _ g. record { place = q; is = refl; good = g }) (λ _ (g : some at ≡ none). never (cc)) e
 
 -- ---- the starts rise
 
@@ -70,16 +71,17 @@ module _ (body : List ℕ) (is : List Item) where
       (λ _ g. let same : q ≡ records by = cc in subst (λ (r : Place). Later r (finals-in is)) same h) (λ _ (g : none ≡ some q). never (cc)) e
   later-next UNKNOWN p q e h = never (cc)
 
-later : (ps : List Piece) (p : Place) → first-bad ps p ≡ none → Later p (finals-in (items ps))
-unfolding first-bad items finals-in
-later [] first e = never (cc)
-later [] (blocks low d) e = none-left
-later [] (records by) e = refl
-later (cut at ∷ ps) p e = never (cc)
-later (whole at x ∷ ps) p e =
-    let s = sort (x .kind) in
-    let g = goes at (formed s (x .body) && met (owes s (x .body)) ps) ps (next s (start-in (x .body)) p) e in
-    later-next (x .body) (items ps) s p (g .place) (g .is) (later ps (g .place) (g .good))
+module _ (wide : Bool) where
+  later : (ps : List Piece) (p : Place) → first-bad wide ps p ≡ none → Later p (finals-in (items wide ps))
+  unfolding first-bad items finals-in
+  later [] first e = never (cc)
+  later [] (blocks low d) e = none-left
+  later [] (records by) e = refl
+  later (cut at ∷ ps) p e = never (cc)
+  later (whole at x ∷ ps) p e =
+      let s = sort wide (x .kind) in
+      let g = goes wide at (formed s (x .body) && met wide (owes s (x .body)) ps) ps (next s (start-in (x .body)) p) e in
+      later-next (x .body) (items wide ps) s p (g .place) (g .is) (later ps (g .place) (g .good))
 
 abbrev blocks-in : Reading → List Final
 blocks-in (holds m) = m .blocks
@@ -99,10 +101,10 @@ held-blocks (no-item ∷ is) m e = never (cc)
 
 module _ (b : List ℕ) (m : Map) (e : read b ≡ holds m) where
   -- the blocks are those of the items
-  pub read-blocks : finals-in (items (pieces b 0 0)) ≡ m .blocks
-  unfolding read
-  read-blocks = held-blocks (items (pieces b 0 0)) m (sym (ap (verdict (pieces b 0 0)) (none-bad b m e)) ∙ e)
+  pub read-blocks : finals-in (items (wide-in b) (pieces b 0 0)) ≡ m .blocks
+  unfolding read reading
+  read-blocks = held-blocks (items (wide-in b) (pieces b 0 0)) m (sym (ap (verdict (wide-in b) (pieces b 0 0)) (none-bad b m e)) ∙ e)
 
   -- the starts of the blocks rise
   pub read-rises : Rising 0 (finals-at (m .blocks))
-  read-rises = subst (λ (fs : List Final). Rising 0 (finals-at fs)) read-blocks (later (pieces b 0 0) first (none-bad b m e))
+  read-rises = subst (λ (fs : List Final). Rising 0 (finals-at fs)) read-blocks (later (wide-in b) (pieces b 0 0) first (none-bad b m e))

@@ -1,14 +1,16 @@
 -- Document 02, "No. 2": "Reading what was written gives it back", of every answered map. Assumes nothing.
 use Prim.Native.Nat.{ℕ, _≤_, _<_}
 use native.Mathlib.Omega.{arith}
-use mathlib.Core.Path.{_≡_, ap}
+use mathlib.Core.Path.{_≡_, refl, sym, ap, subst}
+use mathlib.Core.Bool.{Bool, true, false}
 use mathlib.Core.List.{List}
+use borrow.Author.Tests.{ltb-false}
 use Rattle.spec.specs.Opcodes.{Rules}
 use Rattle.spec.specs.Blocks.{Kind, terminate, jump, jumpi, dynamic-jump, dynamic-jumpi}
 use Rattle.spec.specs.Search.{Found, nowhere, found, Rec, dest}
 use Rattle.spec.specs.Ending.{Final}
 use Rattle.spec.specs.Rooms.{Lent, longest}
-use Rattle.spec.specs.Entries.{Map, bytes}
+use Rattle.spec.specs.Entries.{wide-code, absent, Map, bytes}
 use Rattle.spec.specs.Answer.{answered, answer}
 use Rattle.spec.specs.Reader.{holds, read, plain}
 use Rattle.laws.proofs.Members.{In, here}
@@ -27,14 +29,19 @@ module _ (n : ℕ) (small : n ≤ longest) where
   sides-fit dynamic-jump w = tt
   sides-fit (dynamic-jumpi f) w = omega arith
 
-  found-fits : (x : Found) → ((t : ℕ) → In t (dest x) → t < n) → FoundFits x
-  found-fits nowhere h = tt
-  found-fits (found t s) h = let l = h t here in (omega arith, λ e. omega arith)
+  -- an address in the code is never the number of a missing destination: in a code of at most 24,576 bytes it lies below 0x8000, in a longer one below 0xFFFF
+  not-missing : (t : ℕ) → t < n → (wide : Bool) → wide-code n ≡ wide → t ≡ absent wide → ⊥
+  not-missing t l true w e = omega arith
+  not-missing t l false w e = let short : n ≤ 24576 = ltb-false _ _ w in omega arith
 
-  rec-fits : (r : Rec) → RecBounded n r → RecFits r
+  found-fits : (x : Found) → ((t : ℕ) → In t (dest x) → t < n) → FoundFits (wide-code n) x
+  found-fits nowhere h = tt
+  found-fits (found t s) h = let l = h t here in (omega arith, not-missing t l (wide-code n) refl)
+
+  rec-fits : (r : Rec) → RecBounded n r → RecFits (wide-code n) r
   rec-fits r b = record { start = omega (arith, b .start); to = found-fits (r .to) (b .to); path = λ a i. omega (arith, b .path a i); long = b .long; number = omega (arith, b .number) }
 
-  final-fits : (f : Final) → BlockBounded n f → FinalFits f
+  final-fits : (f : Final) → BlockBounded n f → FinalFits (wide-code n) f
   final-fits f b = record {
     id = b .id;
     start = omega (arith, b .start);
@@ -53,8 +60,8 @@ bounded-fits n m b = record {
   block-count = omega (arith, b .block-count, b .size-fits);
   record-count = omega (arith, b .record-count);
   rising = b .rising;
-  finals = λ f i. final-fits n (b .size-fits) f (b .blocks f i);
-  recs = λ r i. rec-fits n (b .size-fits) r (b .recs r i);
+  finals = λ f i. subst (λ (k : ℕ). FinalFits (wide-code k) f) (sym (b .size)) (final-fits n (b .size-fits) f (b .blocks f i));
+  recs = λ r i. subst (λ (k : ℕ). RecFits (wide-code k) r) (sym (b .size)) (rec-fits n (b .size-fits) r (b .recs r i));
 }
 
 -- ---- every answer

@@ -5,12 +5,12 @@ use mathlib.Core.Path.{_≡_, refl}
 use mathlib.Core.Bool.{true, false}
 use mathlib.Core.List.{List, [], _∷_, _++_, map}
 use Rattle.spec.specs.Lists.{if, number}
-use Rattle.spec.specs.Blocks.{terminate, jump, block}
+use Rattle.spec.specs.Blocks.{terminate, jump, dynamic-jump, block}
 use Rattle.spec.specs.Stacks.{entry}
-use Rattle.spec.specs.Search.{found}
-use Rattle.spec.specs.Entries.{Map}
+use Rattle.spec.specs.Search.{nowhere, found}
+use Rattle.spec.specs.Entries.{Map, entries, bytes as written-bytes}
 use Rattle.spec.specs.Forms.{sort}
-use Rattle.spec.specs.Reader.{Reading, holds, bad, pieces, sevens, first-bad, addresses, items, ways, finals-in, recs-in, numbered-in, read}
+use Rattle.spec.specs.Reader.{Reading, holds, bad, pieces, sevens, first-bad, addresses, items, ways, finals-in, recs-in, numbered-in, reading, read}
 
 -- n bytes, as the hexadecimal number that they spell
 abbrev hex : ℕ → ℕ → List ℕ
@@ -129,6 +129,81 @@ cases =
     ∷ case (with-blocks ++ hex 18 0x0c0000000800070005000300000007000000) 53 ∷ case (with-blocks ++ hex 12 0x060000000800070005000200) 53
     ∷ []
 
+-- a code of 24,577 bytes: its head; a record of kind 11, of kind 12; a 10 to 5, and to none
+abbrev wide-head : List ℕ
+wide-head = hex 18 0x0c0000000100016003000100000002000000
+
+-- the head of a code of 24,576 bytes
+abbrev border-head : List ℕ
+border-head = hex 18 0x0c0000000100006003000100000002000000
+
+abbrev border-map : Map
+border-map = record { size = 24576; energy = the-map .energy; blocks = the-map .blocks; recs = the-map .recs; numbered = false }
+
+abbrev wide-before-7 : List ℕ
+wide-before-7 = wide-head ++ block-0 ++ block-5
+
+abbrev eleven : List ℕ
+eleven = hex 18 0x0c0000000b00070005000200000007000000
+
+abbrev twelve : List ℕ
+twelve = hex 22 0x100000000c0007000500020000000200000007000000
+
+abbrev ten : ℕ → List ℕ
+ten t = hex 6 0x0a0000000a00 ++ (t % 256 ∷ t / 256 ∷ []) ++ hex 8 0x0200000007000000
+
+abbrev wide-map : Map
+wide-map = record { size = 24577; energy = the-map .energy; blocks = the-map .blocks; recs = the-map .recs; numbered = false }
+
+abbrev wide-numbered : Map
+wide-numbered = record { size = 24577; energy = the-map .energy; blocks = the-map .blocks; recs = numbered-map .recs; numbered = true }
+
+abbrev wide-ways : Map
+wide-ways = record {
+  size = 24577;
+  energy = the-map .energy;
+  blocks =
+      record { block = block 0 0 4 (jump 7); entries = [] }
+      ∷ record { block = block 5 5 6 (terminate true); entries = [] }
+      ∷ record {
+        block = block 7 7 8 dynamic-jump;
+        entries =
+            record { start = 7; to = found 0x8000 entry; path = 7 ∷ 0 ∷ []; energy = 0 }
+            ∷ record { start = 7; to = nowhere; path = 7 ∷ 0 ∷ []; energy = 0 }
+            ∷ [];
+      }
+      ∷ [];
+  recs = the-map .recs;
+  numbered = false;
+}
+
+abbrev wide-cases : List Case
+wide-cases =
+    record { bytes = wide-before-7 ++ block-7 ++ eleven; says = holds wide-map }
+    ∷ record { bytes = wide-before-7 ++ block-7 ++ twelve; says = holds wide-numbered }
+    ∷ record { bytes = wide-before-7 ++ dynamic-7 2 ++ ten 0x8000 ++ ten 0xFFFF ++ eleven; says = holds wide-ways }
+    ∷ record { bytes = border-head ++ block-0 ++ block-5 ++ block-7 ++ the-record; says = holds border-map }
+    ∷
+    -- a kind of the other family, either way; it is no whole 7 of the block before it
+    case (wide-before-7 ++ block-7 ++ the-record) 53 ∷ case (with-blocks ++ eleven) 53 ∷ case (border-head ++ block-0 ++ block-5 ++ block-7 ++ eleven) 53
+    ∷ case (wide-before-7 ++ dynamic-7 1 ++ seven ++ eleven) 41 ∷ case (wide-before-7 ++ dynamic-7 0 ++ seven ++ eleven) 55
+    ∷ case (before-7 ++ dynamic-7 0 ++ ten 5 ++ the-record) 55
+    ∷
+    -- after an 11 a 12, and after a 12 an 11
+    case (wide-before-7 ++ block-7 ++ eleven ++ twelve) 71 ∷ case (wide-before-7 ++ block-7 ++ twelve ++ eleven) 75
+    ∷ []
+
+-- what is written of them
+pub wide-written : map written-bytes (wide-map ∷ wide-numbered ∷ wide-ways ∷ border-map ∷ [])
+    ≡ (wide-before-7 ++ block-7 ++ eleven) ∷ (wide-before-7 ++ block-7 ++ twelve) ∷ (wide-before-7 ++ dynamic-7 2 ++ ten 0x8000 ++ ten 0xFFFF ++ eleven)
+    ∷ (border-head ++ block-0 ++ block-5 ++ block-7 ++ the-record) ∷ []
+unfolding entries written-bytes if
+wide-written = refl
+
+pub wide-read : map (λ (c : Case). read (c .bytes)) wide-cases ≡ map (λ (c : Case). c .says) wide-cases
+unfolding read reading pieces sevens first-bad addresses items ways finals-in recs-in numbered-in number sort if
+wide-read = refl
+
 pub read-cases : map (λ (c : Case). read (c .bytes)) cases ≡ map (λ (c : Case). c .says) cases
-unfolding read pieces sevens first-bad addresses items ways finals-in recs-in numbered-in number sort if
+unfolding read reading pieces sevens first-bad addresses items ways finals-in recs-in numbered-in number sort if
 read-cases = refl

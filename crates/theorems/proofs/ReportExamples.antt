@@ -6,7 +6,7 @@ use mathlib.Core.Option.{some}
 use lib.ListN.{replicate, take}
 use Rattle.spec.specs.Lists.{if, number}
 use Rattle.spec.specs.Forms.{sort}
-use Rattle.spec.specs.Reader.{pieces, sevens, first-bad, addresses, items, ways, finals-in, recs-in, read}
+use Rattle.spec.specs.Reader.{pieces, sevens, first-bad, addresses, items, ways, finals-in, recs-in, reading, read}
 use Rattle.spec.specs.Eights.{as-eights}
 use Rattle.spec.specs.Counting.{distinct}
 use Rattle.spec.specs.Report.{totals-of, join, gcd-in, sums, report-bytes, new-report, totals-in, ReportOutcome, reported, bad-map, no-fit, renewed, report-add, report-join, feed}
@@ -56,11 +56,11 @@ expected =
     ∷ []
 
 pub calls : outcomes ≡ expected
-unfolding read pieces sevens first-bad addresses items ways finals-in recs-in number sort if totals-of join gcd-in sums report-bytes totals-in renewed distinct
+unfolding read reading pieces sevens first-bad addresses items ways finals-in recs-in number sort if totals-of join gcd-in sums report-bytes totals-in renewed distinct
 calls = refl
 
 -- a folder; one with a file that holds no map; two of four dynamic blocks unresolved
 pub folders : feed new-report (the-map ∷ unresolved-map ∷ one-way-map ∷ two-ways-map ∷ []) ∷ feed new-report (the-map ∷ take 70 the-map ∷ []) ∷ feed four (unresolved-map ∷ []) ∷ []
     ≡ some four ∷ some one ∷ some (as-eights (5 ∷ 5 ∷ 6 ∷ 0 ∷ 4 ∷ 0 ∷ 2 ∷ 1 ∷ 1 ∷ 5 ∷ 0 ∷ 2 ∷ 10 ∷ 1 ∷ 2 ∷ [])) ∷ []
-unfolding read pieces sevens first-bad addresses items ways finals-in recs-in number sort if totals-of join gcd-in sums report-bytes totals-in renewed distinct feed
+unfolding read reading pieces sevens first-bad addresses items ways finals-in recs-in number sort if totals-of join gcd-in sums report-bytes totals-in renewed distinct feed
 folders = refl

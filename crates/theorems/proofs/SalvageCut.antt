@@ -2,7 +2,7 @@
 -- Assumes nothing.
 use Prim.Native.Nat.{ℕ, _+_, _<_}
 use native.Mathlib.Omega.{arith}
-use mathlib.Core.Path.{_≡_, refl, sym, ap, subst, _∙_}
+use mathlib.Core.Path.{_≡_, refl, sym, ap, ap₂, subst, _∙_}
 use mathlib.Core.Bool.{Bool}
 use mathlib.Core.List.{List, [], _∷_, _++_, map, append-assoc, append-nil}
 use lib.ListN.{length, take, drop, length-append, length-drop, take-append-drop}
@@ -13,7 +13,7 @@ use Rattle.spec.specs.Ending.{Final}
 use Rattle.spec.specs.Rooms.{Lent}
 use Rattle.spec.specs.Answer.{answered, answer}
 use Rattle.spec.specs.Entries.{bytes, Map, joined}
-use Rattle.spec.specs.Forms.{Entry, sort}
+use Rattle.spec.specs.Forms.{wide-in, Entry, sort}
 use Rattle.spec.specs.Reader.{Reading, holds, bad, Piece, whole, cut, pieces, first, Item, a-record, item-of, items, read, plain}
 use Rattle.spec.specs.Salvage.{first-map, Salvaged, salvage}
 use Rattle.theorems.proofs.Counts.{Lawful}
@@ -23,16 +23,17 @@ use Rattle.theorems.proofs.ReaderItems.{way-of, block-items, items-of}
 use Rattle.theorems.proofs.ReaderBack.{none-bad, read-items}
 use Rattle.theorems.proofs.ReaderBad.{refused-exactly}
 use Rattle.theorems.proofs.ReaderAnswered.{read-answered}
-use Rattle.theorems.proofs.SalvageEnds.{entry-same, whole-still, shifted, NoCut, split-append, no-cuts, NoSeven}
+use Rattle.theorems.proofs.SalvageEnds.{family-same, headed-long, entry-same, whole-still, shifted, NoCut, split-append, no-cuts, NoSeven}
 use Rattle.theorems.proofs.SalvageLaws.{ReadsWhole, Salvages, all-copied, stops-here, salvages, first-and-left, AllWhole, heads-first, salvages-all, salvages-once}
 
 -- ---- a map's items are not the beginning of another's
 
-items-append : (ps qs : List Piece) → items (ps ++ qs) ≡ items ps ++ items qs
-unfolding items
-items-append [] qs = refl
-items-append (cut at ∷ ps) qs = items-append ps qs
-items-append (whole at e ∷ ps) qs = ap {B = List Item} (λ (l : List Item). item-of (sort (e .kind)) (e .body) ∷ l) (items-append ps qs)
+module _ (wide : Bool) where
+  items-append : (ps qs : List Piece) → items wide (ps ++ qs) ≡ items wide ps ++ items wide qs
+  unfolding items
+  items-append [] qs = refl
+  items-append (cut at ∷ ps) qs = items-append ps qs
+  items-append (whole at e ∷ ps) qs = ap {B = List Item} (λ (l : List Item). item-of (sort wide (e .kind)) (e .body) ∷ l) (items-append ps qs)
 
 module _ (ts : List Item) where
   records-end : (c d : Bool) (rs ss : List Rec) → length rs ≡ length ss → map (a-record c) rs ≡ map (a-record d) ss ++ ts → ts ≡ []
@@ -69,23 +70,26 @@ no-cut-right [] qs n = n
 no-cut-right (cut at ∷ ps) qs n = absurd n
 no-cut-right (whole at e ∷ ps) qs n = no-cut-right ps qs n
 
-none-there : {at : ℕ} {b : List ℕ} {qs : List Piece} → Split at b qs → NoCut qs → items qs ≡ [] → b ≡ []
+none-there : (wide : Bool) {at : ℕ} {b : List ℕ} {qs : List Piece} → Split at b qs → NoCut qs → items wide qs ≡ [] → b ≡ []
 unfolding items
-none-there done n e = refl
-none-there (cut-off h c) n e = absurd n
-none-there (more w s) n e = never (cc)
+none-there wide done n e = refl
+none-there wide (cut-off h c) n e = absurd n
+none-there wide (more w s) n e = never (cc)
 
 -- No accepted map is a proper beginning of another.
 pub no-longer : (b tail : List ℕ) → ReadsWhole b → ReadsWhole (b ++ tail) → tail ≡ []
 no-longer b tail v w =
     let k = shifted (split tail) (length b) in
     let placed : Split (0 + length b) tail (k .0) = moved (omega arith) refl (k .1) in
-    let whole-b = no-cuts (pieces b 0 0) first (none-bad b (v .0) (v .1)) in
-    let whole-all = no-cuts (pieces (b ++ tail) 0 0) first (none-bad (b ++ tail) (w .0) (w .1)) in
+    let whole-b = no-cuts (wide-in b) (pieces b 0 0) first (none-bad b (v .0) (v .1)) in
+    let whole-all = no-cuts (wide-in (b ++ tail)) (pieces (b ++ tail) 0 0) first (none-bad (b ++ tail) (w .0) (w .1)) in
     let all : pieces (b ++ tail) 0 0 ≡ pieces b 0 0 ++ k .0 = split-once (split-append (split b) whole-b tail placed) (split (b ++ tail)) in
-    let same : items-of (w .0) ≡ items-of (v .0) ++ items (k .0) =
-    sym (read-items (b ++ tail) (w .0) (w .1) .same) ∙ ap items all ∙ items-append (pieces b 0 0) (k .0) ∙ ap (λ (l : List Item). l ++ items (k .0)) (read-items b (v .0) (v .1) .same) in
-    none-there (k .1) (no-cut-right (pieces b 0 0) (k .0) (subst NoCut all whole-all)) (ends-there (w .0) (v .0) (items (k .0)) same)
+    let wide = wide-in b in
+    let family : wide-in (b ++ tail) ≡ wide = family-same b tail (omega (arith, headed-long b (v .0) (v .1))) in
+    let same : items-of (w .0) ≡ items-of (v .0) ++ items wide (k .0) =
+    sym (read-items (b ++ tail) (w .0) (w .1) .same) ∙ ap₂ items family all ∙ items-append wide (pieces b 0 0) (k .0)
+    ∙ ap (λ (l : List Item). l ++ items wide (k .0)) (read-items b (v .0) (v .1) .same) in
+    none-there wide (k .1) (no-cut-right (pieces b 0 0) (k .0) (subst NoCut all whole-all)) (ends-there (w .0) (v .0) (items wide (k .0)) same)
   where
     ends-there : (n m : Map) (ts : List Item) → items-of n ≡ items-of m ++ ts → ts ≡ []
     ends-there n m ts e =
@@ -105,11 +109,11 @@ cut-refused b w k h v =
     omega (arith, ap length none-left, length-append left (drop k b), length-drop k b)
 
 cut-no-seven : (b : List ℕ) → ReadsWhole b → (k : ℕ) → NoSeven (take k b)
-cut-no-seven b w k v missing q =
+cut-no-seven b w k v wide missing q =
     let tail = drop k b in
     let at-b : NoSeven b = subst NoSeven (append-nil b) (heads-first b w []) in
     let at-both : NoSeven (take k b ++ tail) = subst NoSeven (sym (take-append-drop k b)) at-b in
-    at-both (whole-still (take k b) tail v) missing (ap (λ (e : Entry). sort (e .kind)) (entry-same (take k b) tail v) ∙ q)
+    at-both (whole-still (take k b) tail v) wide missing (ap (λ (e : Entry). sort wide (e .kind)) (entry-same (take k b) tail v) ∙ q)
 
 -- nothing of it is
 left-over : (b : List ℕ) → (ReadsWhole (first-map b) → ⊥) → (at : ℕ) → (o : ℕ) × Salvages at b (record { maps = []; rest = b; offset = o })

@@ -5,7 +5,7 @@ use mathlib.Core.List.{List, [], _∷_, _++_, map}
 use lib.ListN.{length, take, drop, replicate}
 use Rattle.spec.specs.Lists.{if, number}
 use Rattle.spec.specs.Forms.{sort}
-use Rattle.spec.specs.Reader.{pieces, sevens, first-bad, addresses, items, ways, finals-in, recs-in, read}
+use Rattle.spec.specs.Reader.{pieces, sevens, first-bad, addresses, items, ways, finals-in, recs-in, reading, read}
 use Rattle.spec.specs.Eights.{as-eights}
 use Rattle.spec.specs.Salvage.{Salvaged, ends, first-map, salvage-in, salvage, copied, salvages-as, out-after, printed-after}
 use Rattle.theorems.proofs.MapSample.{hex, the-map, before-7, the-record, seven, dynamic-7, two-ways-map}
@@ -50,7 +50,7 @@ cases =
     case (take 60 the-map ++ the-map) 0 0 131 53 ∷ []
 
 pub salvaged-cases : map (λ (c : Case). says (salvage (c .archive))) cases ≡ map (λ (c : Case). c .numbers) cases
-unfolding read pieces sevens first-bad addresses items ways finals-in recs-in number sort if ends first-map salvage-in
+unfolding read reading pieces sevens first-bad addresses items ways finals-in recs-in number sort if ends first-map salvage-in
 salvaged-cases = refl
 
 -- the buffers: what is copied and printed, and the other bytes; 18 where either is short
@@ -58,10 +58,10 @@ abbrev damaged : List ℕ
 damaged = the-map ++ take 60 the-map
 
 pub called : salvages-as damaged (replicate 72 7) (replicate 33 7) ∷ salvages-as damaged (replicate 70 7) (replicate 32 7) ∷ salvages-as damaged (replicate 71 7) (replicate 31 7) ∷ [] ≡ 0 ∷ 18 ∷ 18 ∷ []
-unfolding read pieces sevens first-bad addresses items ways finals-in recs-in number sort if ends first-map salvage-in
+unfolding read reading pieces sevens first-bad addresses items ways finals-in recs-in number sort if ends first-map salvage-in
 called = refl
 
 pub buffers : out-after damaged (replicate 72 7) (replicate 33 7) ∷ printed-after damaged (replicate 72 7) (replicate 33 7) ∷ out-after damaged (replicate 72 7) [] ∷ []
     ≡ (the-map ++ 7 ∷ []) ∷ (as-eights (1 ∷ 71 ∷ 60 ∷ 124 ∷ []) ++ 7 ∷ []) ∷ replicate 72 7 ∷ []
-unfolding read pieces sevens first-bad addresses items ways finals-in recs-in number sort if ends first-map salvage-in
+unfolding read reading pieces sevens first-bad addresses items ways finals-in recs-in number sort if ends first-map salvage-in
 buffers = refl

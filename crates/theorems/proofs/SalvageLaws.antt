@@ -9,9 +9,10 @@ use lib.Dec.{leb}
 use lib.ListN.{length, take, drop, length-append, length-drop}
 use lib.Seq.{drop-append-seam}
 use borrow.Author.Tests.{le-leb, lt-leb}
+use Rattle.spec.specs.Lists.{if}
 use Rattle.spec.specs.Entries.{Map, joined}
-use Rattle.spec.specs.Forms.{Entry, sort}
-use Rattle.spec.specs.Reader.{Reading, holds, bad, pieces, first-bad, read}
+use Rattle.spec.specs.Forms.{wide-in, Entry, entry, Sort, HEAD, sort}
+use Rattle.spec.specs.Reader.{Reading, holds, bad, pieces, first-bad, reading, read}
 use Rattle.spec.specs.BadEntries.{Refused}
 use Rattle.spec.specs.Eights.{over}
 use Rattle.spec.specs.Salvage.{map-end, first-map, Salvaged, judged, salvage-in, salvage, copied, printed, has-room, salvages-as, out-after, printed-after}
@@ -21,6 +22,7 @@ use Rattle.theorems.proofs.ReaderPlaces.{never}
 use Rattle.theorems.proofs.ReaderSplit.{split}
 use Rattle.theorems.proofs.ReaderBad.{headed, refused-exactly}
 use Rattle.theorems.proofs.ReaderBack.{none-bad}
+use Rattle.theorems.proofs.ReaderItems.{by-kind}
 use Rattle.theorems.proofs.SalvageEnds.{whole-first, entry-same, NoSeven, first-map-is}
 
 -- bytes that read whole
@@ -32,12 +34,12 @@ ReadsWhole b = (m : Map) × (read b ≡ holds m)
 -- The bytes b, standing at `at`: each map is the first of what is left and reads whole, up to the end or to the first that does not.
 pub data Salvages : ℕ → List ℕ → Salvaged → Type 0 where
   all-copied : {at : ℕ} → Salvages at [] (record { maps = []; rest = []; offset = at })
-  stops-here : {at o : ℕ} {b : List ℕ} → 0 < length b → Refused (first-map b) o → Salvages at b (record { maps = []; rest = b; offset = at + o })
+  stops-here : {at o : ℕ} {b : List ℕ} → 0 < length b → Refused (wide-in (first-map b)) (first-map b) o → Salvages at b (record { maps = []; rest = b; offset = at + o })
   one-copied : {at : ℕ} {b : List ℕ} {s : Salvaged} → ReadsWhole (first-map b) → Salvages (at + length (first-map b)) (drop (length (first-map b)) b) s
       → Salvages at b (record { maps = first-map b ∷ s .maps; rest = s .rest; offset = s .offset })
 
 none-read : (m : Map) → read [] ≡ holds m → ⊥
-unfolding read pieces first-bad
+unfolding read reading pieces first-bad
 none-read m e = never (cc)
 
 -- what reads whole has a byte
@@ -79,7 +81,7 @@ first-part (suc k) (x ∷ xs) = ap {B = List ℕ} (λ (l : List ℕ). x ∷ l) (
 -- the first map, and what is left
 pub first-and-left : (b : List ℕ) → first-map b ++ drop (length (first-map b)) b ≡ b
 unfolding first-map
-first-and-left b = first-part (map-end (length b) (pieces b 0 0)) b
+first-and-left b = first-part (map-end (wide-in b) (length b) (pieces b 0 0)) b
 
 parts : {at : ℕ} {b : List ℕ} {s : Salvaged} → Salvages at b s → copied s ++ s .rest ≡ b
 parts all-copied = refl
@@ -110,7 +112,7 @@ copied-whole b c i = copies-whole (salvages b) c i
 -- Bytes with a salvage that stands at `at`: nothing is dropped, or what is dropped begins with a map that the reader refuses, at its first bad entry.
 pub data Stops (at : ℕ) (b : List ℕ) (s : Salvaged) : Type 0 where
   at-the-end : s .rest ≡ [] → s .offset ≡ at + length b → Stops at b s
-  at-a-bad-one : {o : ℕ} → 0 < length (s .rest) → Refused (first-map (s .rest)) o → s .offset ≡ at + length (copied s) + o → Stops at b s
+  at-a-bad-one : {o : ℕ} → 0 < length (s .rest) → Refused (wide-in (first-map (s .rest))) (first-map (s .rest)) o → s .offset ≡ at + length (copied s) + o → Stops at b s
 
 stops : {at : ℕ} {b : List ℕ} {s : Salvaged} → Salvages at b s → Stops at b s
 stops all-copied = at-the-end refl (omega arith)
@@ -127,14 +129,22 @@ stops {at} {b} (one-copied {s} w k) = further (stops k)
 pub salvage-stops : (b : List ℕ) → Stops 0 b (salvage b)
 salvage-stops b = stops (salvages b)
 
--- ---- maps that read whole are copied, whatever stands behind them but a 7
+-- ---- maps that read whole are copied, whatever stands behind them but a 7 or a 10
 
--- no 7 begins a map
+-- a head is one in either family
+head-either : (wide other : Bool) (k : ℕ) → sort wide k ≡ HEAD → sort other k ≡ HEAD
+unfolding sort if
+head-either wide other =
+    by-kind wide (λ (k : ℕ) (s : Sort). s ≡ HEAD → sort other k ≡ HEAD) (λ _. refl) (λ e. never (cc)) (λ e. never (cc)) (λ e. never (cc)) (λ e. never (cc)) (λ e. never (cc))
+    (λ e. never (cc)) (λ e. never (cc)) (λ e. never (cc)) (λ k e. never (cc))
+
+-- neither begins a map
 pub heads-first : (b : List ℕ) → ReadsWhole b → (tail : List ℕ) → NoSeven (b ++ tail)
-heads-first b k tail w missing q =
-    let g = headed (split b) (none-bad b (k .0) (k .1)) in
-    let same = ap (λ (e : Entry). sort (e .kind)) (entry-same b tail (whole-first (split b) (g .is))) in
-    never (let z = g .head in cc)
+heads-first b k tail w wide missing q =
+    let g = headed (wide-in b) (split b) (none-bad b (k .0) (k .1)) in
+    let same = ap (λ (e : Entry). sort wide (e .kind)) (entry-same b tail (whole-first (split b) (g .is))) in
+    let first = head-either (wide-in b) wide (entry b .kind) (g .head) in
+    never (cc)
 
 abbrev pub AllWhole : List (List ℕ) → Type 0
 AllWhole bs = (b : List ℕ) → In b bs → ReadsWhole b
@@ -165,10 +175,10 @@ no-first : ReadsWhole (first-map []) → ⊥
 unfolding first-map pieces
 no-first w = none-read (w .0) (w .1)
 
-not-both : {A : Type 0} {b : List ℕ} {o : ℕ} → Refused b o → ReadsWhole b → A
+not-both : {A : Type 0} {b : List ℕ} {o : ℕ} → Refused (wide-in b) b o → ReadsWhole b → A
 not-both {b} {o} r w = never (let e = refused-exactly b o .1 r in let f = w .1 in cc)
 
-refused-once : {b : List ℕ} {o q : ℕ} → Refused b o → Refused b q → o ≡ q
+refused-once : {b : List ℕ} {o q : ℕ} → Refused (wide-in b) b o → Refused (wide-in b) b q → o ≡ q
 refused-once {b} {o} {q} r t = let e = refused-exactly b o .1 r in let f = refused-exactly b q .1 t in cc
 
 pub salvages-once : {at : ℕ} {b : List ℕ} {s t : Salvaged} → Salvages at b s → Salvages at b t → s ≡ t
@@ -183,7 +193,7 @@ salvages-once (one-copied w k) (stops-here h r) = not-both r w
 salvages-once (one-copied {b} w k) (one-copied v l) =
     ap (λ (s : Salvaged). record { maps = first-map b ∷ s .maps; rest = s .rest; offset = s .offset }) (salvages-once k l)
 
--- ---- an archive in windows: what was copied of one stays copied, whatever follows but a 7, and what it left is salvaged with what follows
+-- ---- an archive in windows: what was copied of one stays copied, whatever follows but a 7 or a 10, and what it left is salvaged with what follows
 
 -- the same bytes, standing further on
 shift : (k : ℕ) {at : ℕ} {b : List ℕ} {s : Salvaged} → Salvages at b s → Salvages (k + at) b (record { maps = s .maps; rest = s .rest; offset = k + s .offset })
@@ -210,7 +220,7 @@ windows w more n =
 pub undamaged : (bs : List (List ℕ)) → AllWhole bs → salvage (joined bs) ≡ record { maps = bs; rest = []; offset = length (joined bs) }
 undamaged bs h =
     let s : Salvaged = record { maps = bs ++ []; rest = []; offset = 0 + length (joined bs) } in
-    let all : Salvages 0 (joined bs ++ []) s = salvages-all bs h [] (λ w missing q. omega arith) 0 all-copied in
+    let all : Salvages 0 (joined bs ++ []) s = salvages-all bs h [] (λ w wide missing q. omega arith) 0 all-copied in
     let same : salvage (joined bs) ≡ s = salvages-once (salvages (joined bs)) (subst (λ (l : List ℕ). Salvages 0 l s) (append-nil (joined bs)) all) in
     same ∙ ap₂ (λ (l : List (List ℕ)) (o : ℕ). record { maps = l; rest = []; offset = o }) (append-nil bs) (zero-add (length (joined bs)))
 

@@ -1,6 +1,8 @@
 //! The families of codes that are held against each other, by name.
 
+use codes::contract::Style;
 use codes::corners::CORNERS;
+use codes::init;
 use codes::random::{Random, jumpy, mutant, noise};
 use codes::solidity::{self, Shape};
 use codes::woven;
@@ -8,15 +10,15 @@ use codes::woven;
 /// A family of codes that a seed spells out.
 pub struct Family {
     pub name: &'static str,
-    /// Of a hundred codes that a light family is asked for, those that this one is asked for.
+    /// Of a thousand codes that a light family is asked for, those that this one is asked for.
     pub share: u64,
     pub next: fn(&mut Random) -> Vec<u8>,
 }
 
-pub const FAMILIES: [Family; 11] = [
+pub const FAMILIES: [Family; 13] = [
     Family {
         name: "noise",
-        share: 100,
+        share: 1000,
         next: |random| {
             let length = random.between(1, 60);
             noise(random, length)
@@ -24,7 +26,7 @@ pub const FAMILIES: [Family; 11] = [
     },
     Family {
         name: "jumpy",
-        share: 100,
+        share: 1000,
         next: |random| {
             let length = random.between(3, 40);
             jumpy(random, length)
@@ -32,7 +34,7 @@ pub const FAMILIES: [Family; 11] = [
     },
     Family {
         name: "jumpy-long",
-        share: 100,
+        share: 1000,
         next: |random| {
             let length = random.between(40, 250);
             jumpy(random, length)
@@ -40,7 +42,7 @@ pub const FAMILIES: [Family; 11] = [
     },
     Family {
         name: "mutants",
-        share: 50,
+        share: 500,
         next: |random| {
             let corner = random.pick(&CORNERS);
             let corner = codes::from_hex(corner).expect("the corners are hexadecimal");
@@ -49,7 +51,7 @@ pub const FAMILIES: [Family; 11] = [
     },
     Family {
         name: "woven",
-        share: 20,
+        share: 200,
         next: |random| {
             let (blocks, steps) = (random.between(2, 6), random.between(1, 4));
             woven::code(random, blocks, steps)
@@ -57,7 +59,7 @@ pub const FAMILIES: [Family; 11] = [
     },
     Family {
         name: "woven-long",
-        share: 10,
+        share: 100,
         next: |random| {
             let (blocks, steps) = (random.between(5, 16), random.between(1, 5));
             woven::code(random, blocks, steps)
@@ -65,7 +67,7 @@ pub const FAMILIES: [Family; 11] = [
     },
     Family {
         name: "calls-small",
-        share: 100,
+        share: 1000,
         next: |random| {
             let shape = Shape::small(random);
             solidity::code(random, shape)
@@ -73,7 +75,7 @@ pub const FAMILIES: [Family; 11] = [
     },
     Family {
         name: "calls-middle",
-        share: 50,
+        share: 500,
         next: |random| {
             let shape = Shape::middle(random);
             solidity::code(random, shape)
@@ -81,7 +83,7 @@ pub const FAMILIES: [Family; 11] = [
     },
     Family {
         name: "calls-large",
-        share: 2,
+        share: 20,
         next: |random| {
             let shape = Shape::large(random);
             solidity::code(random, shape)
@@ -89,7 +91,7 @@ pub const FAMILIES: [Family; 11] = [
     },
     Family {
         name: "zeros",
-        share: 50,
+        share: 500,
         next: |random| {
             let zeros = random.between(1, 4);
             let shape = Shape::middle(random);
@@ -98,7 +100,7 @@ pub const FAMILIES: [Family; 11] = [
     },
     Family {
         name: "clz",
-        share: 50,
+        share: 500,
         next: |random| {
             let shape = Shape::small(random);
             let code = match random.below(3) {
@@ -109,7 +111,40 @@ pub const FAMILIES: [Family; 11] = [
             with_clz(random, code)
         },
     },
+    Family {
+        name: "far",
+        share: 10,
+        next: |random| {
+            let length = long(random);
+            init::far(random, length)
+        },
+    },
+    Family {
+        name: "init",
+        share: 1,
+        next: |random| {
+            let length = long(random);
+            match random.below(10) {
+                0 => init::contract(random, length, Style::Calls),
+                1..=4 => init::deployer(random, length),
+                _ => init::contract(random, length, Style::Plain),
+            }
+        },
+    },
 ];
+
+/// The length of a code that is longer than what is deployed, at its borders at times: "code over 24,576 bytes" and at
+/// most 49,152; or of one that is just not.
+pub fn long(random: &mut Random) -> usize {
+    let (border, longest) = (model::LONGEST_DEPLOYED, model::LONGEST_CODE);
+    match random.below(10) {
+        0 => border,
+        1 => border + 1,
+        2 => longest - 1,
+        3 => longest,
+        _ => random.between(border + 1, longest),
+    }
+}
 
 /// The code with CLZ in the place of some of its instructions.
 fn with_clz(random: &mut Random, mut code: Vec<u8>) -> Vec<u8> {

@@ -34,7 +34,7 @@ fn main() -> ExitCode {
     for (at, family) in FAMILIES.iter().enumerate() {
         let mut random = Random::new(seed.wrapping_mul(1000).wrapping_add(at as u64));
         show(&mut all, family.name, |tally| {
-            for _ in 0..count * family.share / 100 {
+            for _ in 0..count * family.share / 1000 {
                 tally.add(&(family.next)(&mut random));
             }
         });

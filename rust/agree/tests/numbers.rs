@@ -43,7 +43,7 @@ fn on_seeded_codes() {
     let mut held = Held::default();
     for (at, family) in FAMILIES.iter().enumerate() {
         let mut random = Random::new(5000 + at as u64);
-        for _ in 0..25_000 * family.share / 100 {
+        for _ in 0..25_000 * family.share / 1000 {
             held.add(&(family.next)(&mut random));
         }
     }

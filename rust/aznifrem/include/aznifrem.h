@@ -9,10 +9,12 @@
 extern "C" {
 #endif
 
-#define AZNIFREM_LONGEST_CODE 24576u
+/* The longest code that is mapped, init code; and the longest that is deployed. */
+#define AZNIFREM_LONGEST_CODE 49152u
+#define AZNIFREM_LONGEST_DEPLOYED 24576u
 #define AZNIFREM_HIGHEST_LIMIT 500000u
 
-/* The choices: records with their numbers, of kind 9, or without, of kind 8. */
+/* The choices: records with their numbers, of kind 9 or 12, or without, of kind 8 or 11. */
 #define AZNIFREM_NUMBERED 0
 #define AZNIFREM_WITHOUT_NUMBERS 1 /* so is any other number */
 
@@ -22,6 +24,9 @@ extern "C" {
 
 /* Bytes that w must have for a code of n bytes. */
 #define AZNIFREM_WORK(n) (64u * (size_t)(n) + 256u)
+
+/* A missing destination in the answer of a code of n bytes: in a longer code 0x8000 may be an address. */
+#define AZNIFREM_NOWHERE(n) ((n) > AZNIFREM_LONGEST_DEPLOYED ? 0xffffu : 0x8000u)
 
 /* What a call gives instead of an answer. 1 to 3 and 13 touch nothing. */
 #define AZNIFREM_CODE_TOO_LONG 1
@@ -55,7 +60,7 @@ extern "C" {
  * ones are.
  *
  * The answer is a row of entries: length of body (4 bytes), kind (2), body; little-endian.
- * Addresses are 2 bytes; a missing destination is 0x8000; counts, path lengths and energy are 4.
+ * Addresses are 2 bytes; a missing destination is AZNIFREM_NOWHERE(code_len); counts, path lengths and energy are 4.
  *   1 head          code length (2), block count (2), record count, energy
  *   2 Terminate     start, end, success (1)
  *   3 Jump          start, end, to
@@ -65,7 +70,8 @@ extern "C" {
  *   7 path of the dynamic block before it: to, path length, path
  *   8 record        start, to, path length, path; or, if choice is 0,
  *   9 record        start, to, energy used when it was made, path length, path
- * Order: head, blocks by start each with its 7s, records as found. */
+ * Order: head, blocks by start each with its 7s, records as found. Of a code of more than
+ * AZNIFREM_LONGEST_DEPLOYED bytes, as the head says, the kinds 7, 8 and 9 are 10, 11 and 12. */
 uint64_t aznifrem_map(uint64_t limit, uint64_t choice, uint64_t mode,
                       const uint8_t *code, size_t code_len,
                       uint8_t *w, size_t w_len, uint8_t *p, size_t p_len,
@@ -100,7 +106,8 @@ uint64_t aznifrem_json(uint64_t limit, uint64_t choice, uint64_t mode,
 
 /* Reads an answer back that was stored: gives 0 if the bytes hold one, else AZNIFREM_BAD_ENTRY and
  * 256 times the offset of the first bad entry; wrong counts of the head are looked at last and give
- * offset 0. Nothing is written. A map of length 0 still needs a pointer that is not NULL. */
+ * offset 0. A kind that is not for the code length of the head is bad as one that is not known. Nothing is
+ * written. A map of length 0 still needs a pointer that is not NULL. */
 uint64_t aznifrem_read(const uint8_t *map, size_t map_len);
 
 /* A report over stored maps: 15 numbers of 8 bytes, little-endian. All zero bytes are taken as

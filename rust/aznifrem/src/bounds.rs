@@ -1,7 +1,10 @@
 //! What a call is given at the most, and how it reaches the library.
 
-/// The longest code that is mapped, in bytes.
-pub const LONGEST_CODE: usize = 24_576;
+/// The longest code that is mapped, in bytes: the longest init code.
+pub const LONGEST_CODE: usize = 49_152;
+
+/// The longest code that is deployed, in bytes. The map of a longer one has other [`Kinds`](crate::Kinds).
+pub const LONGEST_DEPLOYED: usize = 24_576;
 
 /// The highest energy limit; at this one the map is evmole's.
 pub const HIGHEST_LIMIT: u64 = 500_000;

@@ -22,7 +22,7 @@ pub struct Lent<'a> {
     pub out: &'a mut [u8],
 }
 
-/// The library's own call, in mode 0 and with records of kind 8: the refusal's number, 1 to 9, or the bytes written to `out`, never
+/// The library's own call, in mode 0 and with records of kind 8 or 11: the refusal's number, 1 to 9, or the bytes written to `out`, never
 /// fewer than 18. Refusals 1 to 3 touch nothing; else the rooms W to Q are zero bytes afterwards,
 /// and `out` is touched by an answer alone, in the bytes written.
 ///
@@ -68,8 +68,8 @@ pub fn call_in(mode: u64, code: &[u8], limit: u64, lent: &mut Lent) -> u64 {
     call_by(1, mode, code, limit, lent)
 }
 
-/// The same with a choice: 0 asks for records with their numbers, of kind 9, any other number for
-/// records without, of kind 8.
+/// The same with a choice: 0 asks for records with their numbers, of kind 9 or 12, any other number for
+/// records without, of kind 8 or 11 ([`Kinds`](crate::Kinds)).
 ///
 /// ```
 /// use aznifrem::{Lent, call_by};

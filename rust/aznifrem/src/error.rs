@@ -3,8 +3,8 @@
 use std::error::Error as StdError;
 use std::fmt;
 
-use crate::bounds::{HIGHEST_LIMIT, LONGEST_CODE};
-use crate::kinds::{HEAD, NUMBERED, RECORD};
+use crate::bounds::{HIGHEST_LIMIT, LONGEST_CODE, LONGEST_DEPLOYED};
+use crate::kinds::{DYNAMIC_JUMPI, HEAD};
 use crate::room::Room;
 
 /// Why there is no map.
@@ -60,7 +60,7 @@ impl Error {
     /// The number of document 01's table, if this is one of its refusals.
     ///
     /// ```
-    /// let error = aznifrem::map(&[0; 24_577], 0).unwrap_err();
+    /// let error = aznifrem::map(&[0; 49_153], 0).unwrap_err();
     /// assert_eq!(error.number(), Some(1));
     /// ```
     pub fn number(&self) -> Option<u8> {
@@ -81,7 +81,7 @@ impl fmt::Display for Error {
         match self {
             Error::CodeTooLong { length } => write!(
                 f,
-                "the code has {length} bytes and at most {LONGEST_CODE} are mapped: give the deployed code, without constructor or other data"
+                "the code has {length} bytes and at most {LONGEST_CODE} are mapped: give init code or deployed code, without other data"
             ),
             Error::LimitTooHigh { limit } => write!(
                 f,
@@ -176,18 +176,20 @@ pub enum Fault {
     NoHead,
     /// No such kind of entry is known.
     UnknownKind(u16),
+    /// A path or a record of a kind that maps of codes of the head's length do not have.
+    OtherFamily(u16),
     /// It stands behind what must come after it, or what may not come before it: a second head, a
     /// block after a record, a record after one of the other kind; of this kind.
     OutOfOrder(u16),
-    /// An entry of kind 7 that follows neither a dynamic block nor another 7 of one.
-    Away,
+    /// A path, of kind 7 or 10, that follows neither a dynamic block nor another path of one.
+    Away(u16),
     /// Its body is longer or shorter than its kind says.
     Length(usize),
     /// The block's start is not above the one before.
     Start(usize),
     /// The byte that says whether a block ends in success is neither 0 nor 1.
     Success(u8),
-    /// A dynamic block that is not followed by as many entries of kind 7 as it says.
+    /// A dynamic block that is not followed by as many paths as it says.
     Entries {
         /// What it says.
         count: u32,
@@ -208,18 +210,23 @@ impl fmt::Display for Unreadable {
             Fault::Cut => f.write_str("is cut short"),
             Fault::NoHead => f.write_str("is no head, and a map begins with one"),
             Fault::UnknownKind(kind) => write!(f, "is of kind {kind}, which is not known"),
-            Fault::OutOfOrder(HEAD) => f.write_str("is a second head"),
-            Fault::OutOfOrder(kind @ (RECORD | NUMBERED)) => write!(
+            Fault::OtherFamily(kind) => write!(
                 f,
-                "is a record of kind {kind}, and those before it are of the other: a map has one of 8 and 9"
+                "is of kind {kind}, which is not for a code of the length that the head says: 7, 8 and 9 are for at most {LONGEST_DEPLOYED} bytes, and 10, 11 and 12 for more"
+            ),
+            Fault::OutOfOrder(HEAD) => f.write_str("is a second head"),
+            Fault::OutOfOrder(kind) if kind > DYNAMIC_JUMPI => write!(
+                f,
+                "is of kind {kind}, a record, and stands after records of another kind"
             ),
             Fault::OutOfOrder(kind) => write!(
                 f,
                 "is of kind {kind}, a block, and stands after a record: blocks come first"
             ),
-            Fault::Away => {
-                f.write_str("is of kind 7, a path of the dynamic block before it, and follows none")
-            }
+            Fault::Away(kind) => write!(
+                f,
+                "is of kind {kind}, a path of the dynamic block before it, and follows none"
+            ),
             Fault::Length(length) => {
                 write!(
                     f,
@@ -253,7 +260,7 @@ impl fmt::Display for Unwritable {
     fn fmt(&self, f: &mut fmt::Formatter) -> fmt::Result {
         write!(
             f,
-            "the address or count {} does not fit the entries of a map: keep addresses below 65536, and a dynamic jump's destination other than 32768",
+            "the address or count {} does not fit the entries of a map: keep addresses below 65536, and a dynamic jump's destination other than 32768, or 65535 if the code has more than {LONGEST_DEPLOYED} bytes",
             self.value
         )
     }

@@ -4,17 +4,16 @@ use std::fmt;
 
 use crate::error::{NotRelayed, Unreadable};
 use crate::exported;
+use crate::kinds::Kinds;
 use crate::map::Map;
 use crate::mode::Mode;
 
 /// "64 × code length + 256".
 const WORK: usize = 64;
 const WORK_MORE: usize = 256;
-/// The kind of a 7, where kinds stand behind an entry's offset, where a record's destination does, and what stands there for none.
-const FOUND: [u8; 2] = [7, 0];
+/// Where kinds stand behind an entry's offset, and where a record's destination does.
 const KIND: usize = 4;
 const TO: usize = 8;
-const NOWHERE: [u8; 2] = 0x8000_u16.to_le_bytes();
 
 /// The library's own call: 0 where every path entry with a destination is right; or 1, 13 or 3 as for
 /// a map, 12 and 256 times the offset of the first bad entry, 17 and 256 times the offset of the first
@@ -45,8 +44,8 @@ pub struct WrongPath {
 pub struct Inspected {
     /// The path entries that are not right, in order.
     pub wrong: Vec<WrongPath>,
-    /// Whether all were looked at. The entries behind a 7 that is not right are not: its destination is an edge of the map,
-    /// without which paths behind it would be another map's.
+    /// Whether all were looked at. The entries behind a dynamic block's path that is not right are not: its destination is an
+    /// edge of the map, without which paths behind it would be another map's.
     pub whole: bool,
 }
 
@@ -54,7 +53,7 @@ pub struct Inspected {
 #[derive(Clone, Debug, PartialEq, Eq)]
 #[non_exhaustive]
 pub enum NotInspected {
-    /// The code has more bytes than a contract may have.
+    /// The code has more bytes than init code may have.
     CodeTooLong {
         /// How many it has.
         length: usize,
@@ -72,7 +71,7 @@ impl fmt::Display for NotInspected {
                 let longest = crate::LONGEST_CODE;
                 write!(
                     f,
-                    "the code has {length} bytes; a contract has at most {longest}"
+                    "the code has {length} bytes; at most {longest} are inspected"
                 )
             }
             NotInspected::Unreadable(bad) => bad.fmt(f),
@@ -104,6 +103,7 @@ impl Inspected {
         }
         let held = Map::try_from_bytes(map).map_err(NotInspected::NotRelayed)?;
         held.map_err(NotInspected::Unreadable)?;
+        let kinds = Kinds::of_map(map);
         let mut left = map.to_vec();
         let mut w = vec![0; WORK * code.len() + WORK_MORE];
         let mut wrong = Vec::new();
@@ -122,14 +122,14 @@ impl Inspected {
             let offset = (given >> 8) as usize;
             let place = u64::from_le_bytes(place) as usize;
             wrong.push(WrongPath { offset, place });
-            if left[offset + KIND..offset + KIND + 2] == FOUND {
+            if left[offset + KIND..offset + KIND + 2] == kinds.path.to_le_bytes() {
                 return Ok(Inspected {
                     wrong,
                     whole: false,
                 });
             }
             // A record gives no edge: without its destination nothing is asked of it, and what is behind it is looked at.
-            left[offset + TO..offset + TO + 2].copy_from_slice(&NOWHERE);
+            left[offset + TO..offset + TO + 2].copy_from_slice(&kinds.nowhere.to_le_bytes());
         }
     }
 }

@@ -59,11 +59,12 @@ mod memory;
 #[cfg(not(target_arch = "x86_64"))]
 mod relay;
 
-pub use bounds::{HIGHEST_LIMIT, LONGEST_CODE, RELAYED};
+pub use bounds::{HIGHEST_LIMIT, LONGEST_CODE, LONGEST_DEPLOYED, RELAYED};
 pub use call::{Lent, call, call_by, call_in, call_json, call_json_by, call_json_in};
 pub use error::{Error, Fault, NotRelayed, Unreadable, Unwritable};
 pub use follow::{Counts, Followed, NotFollowed, follow};
 pub use inspect::{Inspected, NotInspected, WrongPath, inspect};
+pub use kinds::Kinds;
 pub use map::{Block, BlockType, DynamicJump, Map, Record};
 pub use mapper::Mapper;
 pub use mode::Mode;

@@ -6,9 +6,7 @@ use crate::entries::{Body, Entry, entries};
 use crate::error::{NotRelayed, Unreadable};
 use crate::exported;
 use crate::fault::fault;
-use crate::kinds::{
-    DYNAMIC_JUMP, DYNAMIC_JUMPI, FOUND, HEAD, JUMP, JUMPI, NOWHERE, NUMBERED, RECORD,
-};
+use crate::kinds::{DYNAMIC_JUMP, DYNAMIC_JUMPI, HEAD, JUMP, JUMPI, Kinds};
 use crate::map::{Block, BlockType, DynamicJump, Map, Record};
 
 /// The library's own reader: 0 if the bytes hold a map, else 12 and 256 times the offset of their
@@ -35,7 +33,7 @@ pub fn read(map: &[u8]) -> u64 {
 }
 
 impl Map {
-    /// Reads a map from the entries of document 01, by the library's reader. Whatever is accepted
+    /// Reads a map from the entries of documents 01 and 02, by the library's reader. Whatever is accepted
     /// is written again to the same bytes by [`Map::to_bytes`].
     ///
     /// ```
@@ -93,33 +91,33 @@ fn held(bytes: &[u8]) -> Map {
         records: Vec::new(),
         energy: 0,
     };
+    let kinds = Kinds::of_map(bytes);
     for Entry { kind, body, .. } in entries(bytes) {
-        match kind {
-            HEAD => (map.code_length, map.energy) = (body.address(0), body.count(8)),
-            FOUND => {
-                let block = map.blocks.last_entry();
-                let jump = way(body, 0, 2);
-                if let Some(mut block) = block {
-                    enter(&mut block.get_mut().btype, jump);
-                }
+        if kind == HEAD {
+            (map.code_length, map.energy) = (body.address(0), body.count(8));
+        } else if kind == kinds.path {
+            let jump = way(kinds, body, 0, 2);
+            if let Some(mut block) = map.blocks.last_entry() {
+                enter(&mut block.get_mut().btype, jump);
             }
-            RECORD => map.records.push(Record {
-                start: body.address(0),
-                jump: way(body, 2, 4),
-                energy: None,
-            }),
-            NUMBERED => map.records.push(Record {
-                start: body.address(0),
-                jump: way(body, 2, 8),
-                energy: Some(body.count(4)),
-            }),
-            _ => {
-                let block = block(kind, body);
-                map.blocks.insert(block.start, block);
-            }
+        } else if kinds.is_record(kind) {
+            map.records.push(record(kinds, kind, body));
+        } else {
+            let block = block(kind, body);
+            map.blocks.insert(block.start, block);
         }
     }
     map
+}
+
+/// With its number or without.
+fn record(kinds: Kinds, kind: u16, body: Body) -> Record {
+    let numbered = kind == kinds.numbered;
+    Record {
+        start: body.address(0),
+        jump: way(kinds, body, 2, if numbered { 8 } else { 4 }),
+        energy: numbered.then(|| body.count(4)),
+    }
 }
 
 fn block(kind: u16, body: Body) -> Block {
@@ -147,7 +145,7 @@ fn block(kind: u16, body: Body) -> Block {
     }
 }
 
-/// An entry of kind 7 is of the block before it.
+/// An entry of kind 7 or 10 is of the block before it.
 fn enter(btype: &mut BlockType, jump: DynamicJump) {
     if let BlockType::DynamicJump { to: jumps } | BlockType::DynamicJumpi { true_to: jumps, .. } =
         btype
@@ -157,10 +155,10 @@ fn enter(btype: &mut BlockType, jump: DynamicJump) {
 }
 
 /// The destination at a place, and the path whose length stands at another.
-fn way(body: Body, at: usize, length: usize) -> DynamicJump {
+fn way(kinds: Kinds, body: Body, at: usize, length: usize) -> DynamicJump {
     let to = body.address(at);
     DynamicJump {
         path: body.path(length + 4),
-        to: (to != NOWHERE).then_some(to),
+        to: (to != usize::from(kinds.nowhere)).then_some(to),
     }
 }

@@ -1,15 +1,14 @@
 //! Writing the entries of document 01.
 
 use crate::error::Unwritable;
-use crate::kinds::{
-    DYNAMIC_JUMP, DYNAMIC_JUMPI, FOUND, HEAD, JUMP, JUMPI, NOWHERE, NUMBERED, RECORD, TERMINATE,
-};
+use crate::kinds::{DYNAMIC_JUMP, DYNAMIC_JUMPI, HEAD, JUMP, JUMPI, Kinds, TERMINATE};
 use crate::map::{Block, BlockType, DynamicJump, Map};
 
 type Written = Result<(), Unwritable>;
 
 impl Map {
-    /// The entries of document 01 for this map; the records with their numbers, if each has its own.
+    /// The entries of document 01 for this map, of the [`Kinds`] of its code's length; the records with their numbers, if
+    /// each has its own.
     pub fn to_bytes(&self) -> Result<Vec<u8>, Unwritable> {
         map(self)
     }
@@ -17,6 +16,7 @@ impl Map {
 
 /// Head, blocks by start each with its paths, records as found.
 fn map(map: &Map) -> Result<Vec<u8>, Unwritable> {
+    let kinds = Kinds::of_code(map.code_length);
     let mut out = Vec::new();
     let mut head = Body::default();
     head.address(map.code_length)?;
@@ -25,17 +25,21 @@ fn map(map: &Map) -> Result<Vec<u8>, Unwritable> {
     head.0.extend(map.energy.to_le_bytes());
     entry(&mut out, HEAD, &head)?;
     for (start, found) in &map.blocks {
-        block(&mut out, *start, found)?;
+        block(&mut out, kinds, *start, found)?;
     }
     let numbered = map.records.iter().all(|record| record.energy.is_some());
     for record in &map.records {
         let mut body = Body::default();
         body.address(record.start)?;
-        body.destination(&record.jump)?;
+        body.destination(kinds, &record.jump)?;
         let number = record.energy.filter(|_| numbered);
         body.0.extend(number.into_iter().flat_map(u32::to_le_bytes));
         body.path(&record.jump)?;
-        let kind = if numbered { NUMBERED } else { RECORD };
+        let kind = if numbered {
+            kinds.numbered
+        } else {
+            kinds.record
+        };
         entry(&mut out, kind, &body)?;
     }
     Ok(out)
@@ -57,15 +61,16 @@ impl Body {
         Ok(())
     }
 
-    fn way(&mut self, jump: &DynamicJump) -> Written {
-        self.destination(jump)?;
+    fn way(&mut self, kinds: Kinds, jump: &DynamicJump) -> Written {
+        self.destination(kinds, jump)?;
         self.path(jump)
     }
 
-    fn destination(&mut self, jump: &DynamicJump) -> Written {
+    fn destination(&mut self, kinds: Kinds, jump: &DynamicJump) -> Written {
+        let nowhere = usize::from(kinds.nowhere);
         match jump.to {
-            Some(NOWHERE) => Err(Unwritable { value: NOWHERE }),
-            to => self.address(to.unwrap_or(NOWHERE)),
+            Some(value) if value == nowhere => Err(Unwritable { value }),
+            to => self.address(to.unwrap_or(nowhere)),
         }
     }
 
@@ -85,7 +90,7 @@ fn entry(out: &mut Vec<u8>, kind: u16, body: &Body) -> Written {
 }
 
 /// The block's key is its start, whatever the block says.
-fn block(out: &mut Vec<u8>, start: usize, block: &Block) -> Written {
+fn block(out: &mut Vec<u8>, kinds: Kinds, start: usize, block: &Block) -> Written {
     let mut body = Body::default();
     body.address(start)?;
     body.address(block.end)?;
@@ -116,8 +121,8 @@ fn block(out: &mut Vec<u8>, start: usize, block: &Block) -> Written {
     entry(out, kind, &body)?;
     for jump in block.btype.found() {
         let mut body = Body::default();
-        body.way(jump)?;
-        entry(out, FOUND, &body)?;
+        body.way(kinds, jump)?;
+        entry(out, kinds.path, &body)?;
     }
     Ok(())
 }

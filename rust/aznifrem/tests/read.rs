@@ -1,6 +1,6 @@
 //! Stored maps: what is written is read, what is accepted is written again, the rest has a place.
 
-use aznifrem::{Fault, HIGHEST_LIMIT, Map, Mapper, Unreadable};
+use aznifrem::{Fault, HIGHEST_LIMIT, LONGEST_DEPLOYED, Map, Mapper, Unreadable};
 use codes::random::{Random, jumpy};
 use codes::{from_hex, woven};
 
@@ -82,7 +82,7 @@ fn entries_stand_in_their_order() {
         fault(&[head(1, 1), record(), stop(0)]),
         (36, Fault::OutOfOrder(2))
     );
-    assert_eq!(fault(&[head(1, 0), stop(0), found()]), (29, Fault::Away));
+    assert_eq!(fault(&[head(1, 0), stop(0), found()]), (29, Fault::Away(7)));
     assert_eq!(
         fault(&[head(2, 0), stop(4), stop(4)]),
         (29, Fault::Start(4))
@@ -92,8 +92,8 @@ fn entries_stand_in_their_order() {
         (29, Fault::Start(3))
     );
     assert_eq!(
-        fault(&[head(0, 0), entry(10, &[])]),
-        (18, Fault::UnknownKind(10))
+        fault(&[head(0, 0), entry(13, &[])]),
+        (18, Fault::UnknownKind(13))
     );
     assert_eq!(
         fault(&[head(0, 0), entry(0, &[])]),
@@ -196,6 +196,10 @@ fn the_sentences_say_which_thing_is_bad() {
             &[head(1, 0), dynamic(0, 2), found()],
             "at byte 18 says 2 paths and is followed by 1;",
         ),
+        (
+            &[head(0, 2), record(), entry(9, &[0; 12])],
+            "at byte 36 is of kind 9, a record, and stands after records of another kind;",
+        ),
     ] {
         assert!(said(parts).contains(words), "{}", said(parts));
     }
@@ -213,8 +217,91 @@ fn a_map_that_does_not_fit_is_not_written() {
     };
     assert_eq!(with(Some(5), 0), Ok(bytes));
     assert_eq!(with(Some(0x8000), 0), Err(0x8000));
+    assert!(with(Some(0xffff), 0).is_ok());
     assert_eq!(with(Some(5), 65_536), Err(65_536));
     assert!(with(None, 0x8000).is_ok());
+    // Of a longer code the other number is missing.
+    let long = |to| {
+        let mut map = map.clone();
+        map.code_length = LONGEST_DEPLOYED + 1;
+        map.records[0].jump.to = Some(to);
+        map.to_bytes().map_err(|unwritable| unwritable.value)
+    };
+    assert!(long(0x8000).is_ok());
+    assert_eq!(long(0xffff), Err(0xffff));
+}
+
+/// The same map of a longer code: the head's length and the kinds.
+fn of_longer_code(parts: &[Vec<u8>]) -> Vec<Vec<u8>> {
+    let moved = |part: &Vec<u8>| {
+        let mut part = part.clone();
+        match part[4] {
+            1 => part[6..8].copy_from_slice(&24_577_u16.to_le_bytes()),
+            7..=9 => part[4] += 3,
+            _ => {}
+        }
+        part
+    };
+    parts.iter().map(moved).collect()
+}
+
+#[test]
+fn maps_of_both_families_are_read_and_written_again() {
+    let nowhere = |[low, high]: [u8; 2]| entry(7, &[low, high, 1, 0, 0, 0, 0, 0]);
+    for mark in [0x8000_u16, 0xffff] {
+        let path = nowhere(mark.to_le_bytes());
+        let first = [head(1, 1), dynamic(0, 2), found(), path, record()];
+        let second = of_longer_code(&first);
+        for (parts, missing) in [(&first[..], 0x8000), (&second, 0xffff)] {
+            let bytes = parts.concat();
+            let map = Map::from_bytes(&bytes).expect("it is good");
+            assert_eq!(
+                map.blocks[&0].btype.found()[1].to.is_none(),
+                mark == missing
+            );
+            assert_eq!(map.to_bytes().expect("it fits"), bytes);
+        }
+    }
+}
+
+#[test]
+fn a_kind_of_the_other_family_is_bad_at_its_offset() {
+    let parts = [head(1, 1), dynamic(0, 1), found(), record()];
+    let longer = of_longer_code(&parts);
+    let none = dynamic(0, 0);
+    for (own, other) in [(&parts[..], &longer[..]), (&longer, &parts)] {
+        let mixed = [
+            own[0].clone(),
+            own[1].clone(),
+            own[2].clone(),
+            other[3].clone(),
+        ];
+        let kind = other[3][4].into();
+        assert_eq!(fault(&mixed), (48, Fault::OtherFamily(kind)));
+        // Its path is none of the block's.
+        let mixed = [
+            own[0].clone(),
+            own[1].clone(),
+            other[2].clone(),
+            own[3].clone(),
+        ];
+        let missing = Fault::Entries { count: 1, there: 0 };
+        assert_eq!(fault(&mixed), (18, missing));
+        let mixed = [
+            own[0].clone(),
+            none.clone(),
+            other[2].clone(),
+            own[3].clone(),
+        ];
+        let kind = other[2][4].into();
+        assert_eq!(fault(&mixed), (32, Fault::OtherFamily(kind)));
+    }
+    let said = Map::from_bytes(&[&longer[..3], &parts[3..]].concat().concat());
+    let said = said.expect_err("it is bad").to_string();
+    assert!(
+        said.contains("at byte 48 is of kind 8, which is not for a code of the length that the head says: 7, 8 and 9 are for at most 24576 bytes"),
+        "{said}"
+    );
 }
 
 /// Some hundred answers, with paths and records.

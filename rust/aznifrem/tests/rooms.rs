@@ -110,8 +110,8 @@ fn refusals_keep_their_order_under_any_ceiling() {
         let refused = mapper.map(&vec![0; length], limit).map(|_| ());
         refused.expect_err("nothing may be lent").number()
     };
-    assert_eq!(number(&mut mapper, 24_577, 500_001), Some(1));
-    assert_eq!(number(&mut mapper, 24_576, 500_001), Some(2));
+    assert_eq!(number(&mut mapper, LONGEST_CODE + 1, 500_001), Some(1));
+    assert_eq!(number(&mut mapper, LONGEST_CODE, 500_001), Some(2));
     assert_eq!(number(&mut mapper, 0, 500_000), Some(3));
 }
 

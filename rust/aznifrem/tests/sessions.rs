@@ -1,6 +1,9 @@
 //! Document 01's sessions, through the binding.
 
-use aznifrem::{Block, BlockType, DynamicJump, Error, HIGHEST_LIMIT, Map, Mapper, Record, map};
+use aznifrem::{
+    Block, BlockType, DynamicJump, Error, HIGHEST_LIMIT, LONGEST_DEPLOYED, Map, Mapper, Record, map,
+};
+use codes::init::{both_marks, repeated, two_callers};
 use codes::{from_hex, to_hex};
 
 fn mapped(hex: &str, limit: u64) -> Map {
@@ -100,18 +103,38 @@ fn two_callers_are_found_in_their_order() {
 
 #[test]
 fn the_longest_code_is_taken_and_the_next_refused() {
-    let code = vec![0x5b; 24_577];
+    let code = vec![0x5b; 49_153];
     assert_eq!(
         map(&code[1..], HIGHEST_LIMIT)
-            .expect("24,576 bytes are taken")
+            .expect("49,152 bytes are taken")
             .code_length,
-        24_576
+        49_152
     );
-    let refused = map(&code, HIGHEST_LIMIT).expect_err("24,577 bytes are not");
-    assert_eq!(refused, Error::CodeTooLong { length: 24_577 });
+    let refused = map(&code, HIGHEST_LIMIT).expect_err("49,153 bytes are not");
+    assert_eq!(refused, Error::CodeTooLong { length: 49_153 });
     let refused = map(&[], 500_001).expect_err("the limit is too high");
     assert_eq!(refused, Error::LimitTooHigh { limit: 500_001 });
     assert_eq!(refused.number(), Some(2));
+}
+
+/// "Code over 24,576 bytes writes kinds 10, 11 and 12 in place of 7, 8 and 9, where a missing destination is 0xFFFF."
+#[test]
+fn longer_code_has_kinds_of_its_own_and_0x8000_as_a_destination() {
+    let whole = map(&both_marks(), HIGHEST_LIMIT).expect("it is taken");
+    let ends: Vec<Option<usize>> = whole.records.iter().map(|record| record.jump.to).collect();
+    assert_eq!(ends, [Some(0x8000), None]);
+    let back = from_hex("60056007565B005B56").expect("it is hexadecimal");
+    let mut codes = vec![both_marks(), two_callers()];
+    codes.extend([LONGEST_DEPLOYED, LONGEST_DEPLOYED + 1].map(|length| repeated(&back, length)));
+    for (choice, mut mapper) in [(1, Mapper::new()), (0, Mapper::new().numbered())] {
+        for code in &codes {
+            let expected = model::answer_by(choice, 0, &model::Lent::ALL, HIGHEST_LIMIT, code);
+            let got = mapper.entries(code, HIGHEST_LIMIT).expect("answered");
+            assert_eq!(got, expected.written(), "{} bytes", code.len());
+            let read = Map::from_bytes(got).expect("it was written");
+            assert_eq!(read.to_bytes().as_deref(), Ok(got));
+        }
+    }
 }
 
 #[test]

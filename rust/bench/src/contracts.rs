@@ -3,7 +3,7 @@
 use std::hint::black_box;
 use std::time::{Duration, Instant};
 
-use aznifrem::{HIGHEST_LIMIT, Mapper};
+use aznifrem::{HIGHEST_LIMIT, LONGEST_CODE, Mapper};
 use codes::Random;
 use codes::contract::{Style, sized};
 
@@ -20,7 +20,7 @@ pub struct Class {
     texted: bool,
 }
 
-pub const CLASSES: [Class; 6] = [
+pub const CLASSES: [Class; 7] = [
     Class {
         name: "1k",
         bytes: 1_000,
@@ -43,6 +43,12 @@ pub const CLASSES: [Class; 6] = [
         name: "24k of calls",
         bytes: 24_576,
         style: Style::Calls,
+        texted: false,
+    },
+    Class {
+        name: "48k, init code",
+        bytes: LONGEST_CODE,
+        style: Style::Plain,
         texted: false,
     },
     Class {

@@ -29,7 +29,7 @@ const fn case(family: &'static str, size: usize) -> Case {
     Case { family, size }
 }
 
-pub const CASES: [Case; 12] = [
+pub const CASES: [Case; 14] = [
     case("diamonds", 8),
     case("diamonds", 12),
     case("diamonds", 15),
@@ -40,6 +40,9 @@ pub const CASES: [Case; 12] = [
     case("doubling", 14),
     case("doubling", 20),
     case("row of calls", 3_000),
+    // Of 48,000 bytes.
+    case("fan", 3_200),
+    case("row of calls", 6_000),
     case("sharing", 8),
     case("sharing", 12),
 ];

@@ -3,7 +3,7 @@
 use std::io::Write;
 use std::path::{Path, PathBuf};
 
-use aznifrem::{Inspected, LONGEST_CODE, Mode, WrongPath};
+use aznifrem::{Inspected, Kinds, LONGEST_CODE, Mode, WrongPath};
 
 use crate::input::{self, Form};
 use crate::names::shown;
@@ -105,10 +105,13 @@ fn inspected(
 fn sentence(map: &[u8], wrong: &WrongPath) -> String {
     let WrongPath { offset, place } = *wrong;
     let two = |at: usize| usize::from(u16::from_le_bytes([map[at], map[at + 1]]));
-    let (kind, to, path) = match two(offset + 4) {
-        7 => ("the path", offset + 6, offset + 12),
-        8 => ("the record", offset + 8, offset + 14),
-        _ => ("the record", offset + 8, offset + 18),
+    let (kind, kinds) = (two(offset + 4), Kinds::of_map(map));
+    let (kind, to, path) = if kind == kinds.path.into() {
+        ("the path", offset + 6, offset + 12)
+    } else if kind == kinds.record.into() {
+        ("the record", offset + 8, offset + 14)
+    } else {
+        ("the record", offset + 8, offset + 18)
     };
     let count = two(path - 4) + (two(path - 2) << 16);
     let to = two(to);

@@ -105,7 +105,7 @@ pub const COMMAND: Command = Command {
         },
     ],
     notes: &[
-        "A contract is a file of deployed code (at most 24,576 bytes), as hexadecimal digits, with or without 0x and line breaks, or as the bytes themselves. Which of the two it is shows by its content; say --hex or --binary where it does not: other text, and what begins with a byte order mark, is a contract with --binary alone. In folders of contracts, files and folders that begin with a dot, files that end in .map, refused.jsonl, unfinished.txt and links to folders are passed over.",
+        "A contract is a file of deployed code or of init code (at most 49,152 bytes), as hexadecimal digits, with or without 0x and line breaks, or as the bytes themselves. Which of the two it is shows by its content; say --hex or --binary where it does not: other text, and what begins with a byte order mark, is a contract with --binary alone. In folders of contracts, files and folders that begin with a dot, files that end in .map, refused.jsonl, unfinished.txt and links to folders are passed over.",
         "In a PATTERN ? is any letter, * any letters, and ** also goes across the / of folders. One that has a / is held to the whole path beneath the folder, another to the file's own name.",
         "Progress is a bar on a terminal, elsewhere a line every half minute. A run that is cut short, as by Ctrl-C, leaves no half file; unfinished.txt stays in the folder then, so that diff, report, limit and archive do not take it for a night.",
     ],

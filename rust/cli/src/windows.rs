@@ -6,22 +6,20 @@
 //! rest is salvaged as if it stood alone, if no 7 stands behind it; a 7 that the call has seen whole and
 //! not taken stands in place of a head, which is argued and tested here and not in the theorem). So a
 //! window's maps are kept once the entry behind them is known to be no 7, or a 7 that was seen whole, and
-//! the next window begins at that entry. What a window refuses may be whole in the archive, where the
+//! the next window begins at that entry. In a map of longer code a 10 is what a 7 is elsewhere; behind the
+//! maps either is taken for a 7, whichever the last map's is. What a window refuses may be whole in the archive, where the
 //! window's end has cut it: it is refused for good where no byte behind the window can change that
 //! ([`settled`]); else the window moves on, or grows if it holds no whole map.
 
 use std::io::{self, Read};
 
-use aznifrem::Salvaged;
+use aznifrem::{Kinds, Salvaged};
 
 /// Bytes that are read at a time, unless a map is larger.
 pub const WINDOW: usize = 16 << 20;
 
 const HEADER: usize = 6;
 pub const HEAD: u16 = 1;
-const SEVEN: u16 = 7;
-const RECORD: u16 = 8;
-const NUMBERED: u16 = 9;
 /// Bytes of a head, with its header.
 const HEAD_BYTES: usize = 18;
 
@@ -116,7 +114,7 @@ impl<'a, R: Read> Held<'a, R> {
             self.fill(at + HEADER)?;
         }
         Ok(match entry(&self.bytes, at) {
-            Some((SEVEN, end)) => end <= judged,
+            Some((kind, end)) if is_path(kind) => end <= judged,
             Some(_) => true,
             // The archive ends there: it is judged once more, and as a whole.
             None => false,
@@ -128,6 +126,11 @@ impl<'a, R: Read> Held<'a, R> {
         let skipped = io::copy(self.input, &mut io::sink());
         skipped.map_err(|error| unreadable(self.name, &error))
     }
+}
+
+/// Whether a kind is a 7's, of either family.
+fn is_path(kind: u16) -> bool {
+    [Kinds::FIRST.path, Kinds::SECOND.path].contains(&kind)
 }
 
 /// Kind and end of the entry at a place, if its header is there; the end may lie beyond the bytes.
@@ -142,33 +145,35 @@ pub fn entry(bytes: &[u8], at: usize) -> Option<(u16, usize)> {
 /// the window. An entry is bad by itself, by those before it, or by the run of 7s behind it; a head also
 /// by its counts, and then it must be known where its map ends.
 fn settled(window: &[u8], start: usize, bad: usize) -> bool {
+    // Of a head that is not whole, or is none, this says nothing, and then `bad` is `start`.
+    let kinds = Kinds::of_map(&window[start..]);
     match entry(window, bad) {
         None => false,
         Some((HEAD, end)) if bad == start && end - start == HEAD_BYTES => {
-            end <= window.len() && counts_met(window, start)
+            end <= window.len() && counts_met(kinds, window, start)
         }
         Some(_) if bad == start => true,
-        Some((kind, end)) if ill(kind, end - bad - HEADER, &window[bad + HEADER..]) => true,
-        Some((_, end)) => end <= window.len() && run_ends(window, end),
+        Some((kind, end)) if ill(kinds, kind, end - bad - HEADER, &window[bad + HEADER..]) => true,
+        Some((_, end)) => end <= window.len() && run_ends(kinds, window, end),
     }
 }
 
 /// Whether an entry behind a head is bad by its kind and its length, however much of it is there. A 7 is
 /// not asked: whole, it counts for its block.
-fn ill(kind: u16, length: usize, body: &[u8]) -> bool {
+fn ill(kinds: Kinds, kind: u16, length: usize, body: &[u8]) -> bool {
     match kind {
         2 => length != 5,
         3 => length != 6,
         4 | 5 => length != 8,
         6 => length != 10,
-        SEVEN => false,
-        RECORD => match body.first_chunk() {
+        _ if kind == kinds.path => false,
+        _ if kind == kinds.record => match body.first_chunk() {
             Some([_, _, _, _, a, b, c, d]) => {
                 length != 8 + 2 * u32::from_le_bytes([*a, *b, *c, *d]) as usize
             }
             None => length < 8,
         },
-        NUMBERED => match body.first_chunk() {
+        _ if kind == kinds.numbered => match body.first_chunk() {
             Some([_, _, _, _, _, _, _, _, a, b, c, d]) => {
                 length != 12 + 2 * u32::from_le_bytes([*a, *b, *c, *d]) as usize
             }
@@ -179,9 +184,9 @@ fn ill(kind: u16, length: usize, body: &[u8]) -> bool {
 }
 
 /// Whether a run of 7s that may begin here is over within the window.
-fn run_ends(window: &[u8], mut at: usize) -> bool {
+fn run_ends(kinds: Kinds, window: &[u8], mut at: usize) -> bool {
     while let Some((kind, end)) = entry(window, at) {
-        if kind != SEVEN {
+        if kind != kinds.path {
             return true;
         }
         if end > window.len() {
@@ -194,7 +199,7 @@ fn run_ends(window: &[u8], mut at: usize) -> bool {
 
 /// Whether the window holds as many blocks and records as the head at `start` says. A map that is refused
 /// for its counts alone ends with a record, so that no 7 behind it is of it.
-fn counts_met(window: &[u8], start: usize) -> bool {
+fn counts_met(kinds: Kinds, window: &[u8], start: usize) -> bool {
     let body = &window[start + HEADER..];
     let mut blocks = u64::from(u16::from_le_bytes([body[2], body[3]]));
     let mut records = u64::from(u32::from_le_bytes([body[4], body[5], body[6], body[7]]));
@@ -203,7 +208,7 @@ fn counts_met(window: &[u8], start: usize) -> bool {
         match entry(window, at) {
             Some((kind, end)) if end <= window.len() => {
                 blocks = blocks.saturating_sub(u64::from((2..=6).contains(&kind)));
-                records = records.saturating_sub(u64::from((RECORD..=NUMBERED).contains(&kind)));
+                records = records.saturating_sub(u64::from(kinds.is_record(kind)));
                 at = end;
             }
             _ => return false,
@@ -242,6 +247,20 @@ mod tests {
         entry(8, &[7, 0, 5, 0, 2, 0, 0, 0, 7, 0, 0, 0])
     }
 
+    /// The same entries of a map of longer code: its head says 24,577 bytes, and its kinds are others.
+    fn longer(entries: &[Vec<u8>]) -> Vec<u8> {
+        let moved = |entry: &Vec<u8>| {
+            let mut entry = entry.clone();
+            match entry[4] {
+                1 => entry[6..8].copy_from_slice(&24_577_u16.to_le_bytes()),
+                7..=9 => entry[4] += 3,
+                _ => {}
+            }
+            entry
+        };
+        entries.iter().flat_map(moved).collect()
+    }
+
     /// What is told and what is copied.
     type Given = (Salvaged, Vec<u8>);
 
@@ -275,13 +294,19 @@ mod tests {
         }
     }
 
-    /// Maps that end in every way: behind a head, a block, a 7, a record.
+    /// Maps that end in every way: behind a head, a block, a 7, a record; and of longer code.
     fn maps() -> Vec<Vec<u8>> {
+        let (sevens, records) = (
+            [head(2, 0), stop(0), dynamic(7, 2), seven(), seven()],
+            [head(2, 1), dynamic(0, 1), seven(), stop(9), record()],
+        );
         vec![
             head(0, 0),
             [head(1, 0), stop(0)].concat(),
-            [head(2, 0), stop(0), dynamic(7, 2), seven(), seven()].concat(),
-            [head(2, 1), dynamic(0, 1), seven(), stop(9), record()].concat(),
+            longer(&sevens),
+            sevens.concat(),
+            longer(&records),
+            records.concat(),
         ]
     }
 
@@ -293,7 +318,8 @@ mod tests {
         (0..all.len()).step_by(5).for_each(|cut| same(&all[..cut]));
         // Behind each map an entry that is no head, whole and cut; then more maps.
         for map in &maps {
-            for behind in [seven(), record(), stop(3), vec![9; 9]] {
+            let ten = longer(&[seven()]);
+            for behind in [seven(), ten, record(), stop(3), vec![9; 9]] {
                 same(&[&map[..], &behind].concat());
                 same(&[&map[..], &behind[..7], &all].concat());
                 same(&[&map[..], &behind, &all].concat());
@@ -305,15 +331,28 @@ mod tests {
     fn a_refusal_is_told_at_its_place_in_windows_too() {
         let all = maps().concat();
         // Counts too large and too small, a 7 too few and too many, a start that does not rise.
-        let bad: [Vec<u8>; 5] = [
-            [head(3, 0), stop(0), stop(2)].concat(),
-            [head(1, 1), stop(0), stop(2), record()].concat(),
-            [head(1, 0), dynamic(0, 2), seven()].concat(),
-            [head(1, 0), dynamic(0, 1), seven(), seven()].concat(),
-            [head(2, 0), stop(4), stop(4)].concat(),
+        let bad: [&[Vec<u8>]; 5] = [
+            &[head(3, 0), stop(0), stop(2)],
+            &[head(1, 1), stop(0), stop(2), record()],
+            &[head(1, 0), dynamic(0, 2), seven()],
+            &[head(1, 0), dynamic(0, 1), seven(), seven()],
+            &[head(2, 0), stop(4), stop(4)],
         ];
         for bad in bad {
-            same(&[&all[..], &bad].concat());
+            for bad in [bad.concat(), longer(bad)] {
+                same(&[&all[..], &bad].concat());
+                same(&[&all[..], &bad, &all].concat());
+            }
+        }
+        // A path and a record of the other family.
+        let (first, second) = (head(1, 1), longer(&[head(1, 1)]));
+        for (head, seven, record) in [
+            (&first, longer(&[seven()]), record()),
+            (&first, seven(), longer(&[record()])),
+            (&second, seven(), longer(&[record()])),
+            (&second, longer(&[seven()]), record()),
+        ] {
+            let bad = [&head[..], &dynamic(0, 1), &seven, &record].concat();
             same(&[&all[..], &bad, &all].concat());
         }
     }
@@ -383,6 +422,17 @@ mod tests {
         assert!(kept > 0 && kept < all.len(), "{kept}");
     }
 
+    /// The whole map, of longer code.
+    fn of_longer_code(map: Vec<u8>) -> Vec<u8> {
+        let mut entries = Vec::new();
+        let mut at = 0;
+        while let Some((_, end)) = super::entry(&map, at) {
+            entries.push(map[at..end].to_vec());
+            at = end;
+        }
+        longer(&entries)
+    }
+
     /// Numbers that look random, the same at every run.
     struct Random(u64);
 
@@ -412,18 +462,24 @@ mod tests {
                 }
             }
             (0..records).for_each(|_| map.extend(record()));
-            map
+            if self.below(2) == 0 {
+                map
+            } else {
+                of_longer_code(map)
+            }
         }
 
         /// An entry, good or bad behind the others.
         fn entry(&mut self, start: u8) -> Vec<u8> {
             match self.below(12) {
-                0 | 1 => head(self.small(), self.small()),
+                0 => head(self.small(), self.small()),
+                1 => longer(&[head(self.small(), self.small())]),
                 2 | 3 => stop(start),
                 4 | 5 => dynamic(start, self.small()),
-                6..=8 => seven(),
+                6 | 7 => seven(),
+                8 => longer(&[seven()]),
                 9 => record(),
-                10 => entry(7, &[5; 11]),
+                10 => entry(7 + 3 * self.small().min(1), &[5; 11]),
                 _ => (0..self.below(9)).map(|_| self.below(9) as u8).collect(),
             }
         }

@@ -86,7 +86,7 @@ fn the_blocks_are_printed_as_json() {
 fn json_is_stored_beside_the_map() {
     let here = folder("json-stored");
     put(&here, "code/deep/a.hex", RETURN);
-    put(&here, "code/b.hex", "00".repeat(24_577));
+    put(&here, "code/b.hex", "00".repeat(49_153));
     let (exit, out, said) = all(&run(&here, &["--json", "--to", "page", "code"]));
     assert_eq!((exit, out.as_str()), (1, ""));
     assert!(said.contains("refused 1"), "{said}");
@@ -121,7 +121,7 @@ fn a_folder_of_both_forms_is_mapped_in_order() {
 #[test]
 fn what_is_refused_or_unreadable_has_a_line_and_the_rest_is_mapped() {
     let here = folder("refused");
-    put(&here, "code/long.hex", "00".repeat(24_577));
+    put(&here, "code/long.hex", "00".repeat(49_153));
     put(&here, "code/good.hex", "00");
     put(&here, "code/text.txt", "no contract");
     let (exit, out, said) = all(&run(&here, &["code", "missing"]));
@@ -129,7 +129,7 @@ fn what_is_refused_or_unreadable_has_a_line_and_the_rest_is_mapped() {
     assert_eq!(out.lines().count(), 3);
     let said: Vec<&str> = said.lines().collect();
     assert_eq!(said.len(), 3, "{said:?}");
-    assert!(said[0].starts_with("code/long.hex: refused 1: the code has 24577 bytes"));
+    assert!(said[0].starts_with("code/long.hex: refused 1: the code has 49153 bytes"));
     assert!(said[1].starts_with("code/text.txt: is text, but not hexadecimal"));
     assert!(said[2].starts_with("missing: cannot be read"));
 }

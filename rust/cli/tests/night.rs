@@ -14,10 +14,10 @@ use std::time::{Duration, Instant};
 use common::{Late, all, folder, pipe, put, run};
 
 const RETURN: &str = "60056007565b005b56";
-const TOO_LONG: &str = "the code has 24577 bytes and at most 24576 are mapped: give the deployed code, without constructor or other data";
+const TOO_LONG: &str = "the code has 49153 bytes and at most 49152 are mapped: give init code or deployed code, without other data";
 
 fn too_long() -> String {
-    "00".repeat(24_577)
+    "00".repeat(49_153)
 }
 
 fn text(path: PathBuf) -> String {

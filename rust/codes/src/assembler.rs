@@ -48,6 +48,13 @@ impl Assembler {
         self.code.extend(bytes);
     }
 
+    /// This byte up to a place, if the code does not reach it yet.
+    pub fn fill(&mut self, to: usize, byte: u8) {
+        if self.code.len() < to {
+            self.code.resize(to, byte);
+        }
+    }
+
     /// PUSHk of a number, in the fewest bytes.
     pub fn push(&mut self, value: u64) {
         let width = (8 - value.leading_zeros() as usize / 8).max(1);

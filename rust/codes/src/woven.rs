@@ -20,6 +20,33 @@ pub fn code(random: &mut Random, blocks: usize, steps: usize) -> Vec<u8> {
     asm.finish()
 }
 
+/// The same in a code of a given length, with blocks far from each other: at these places, which rise, or behind the
+/// block before where that reaches further.
+pub fn spread(random: &mut Random, places: &[usize], steps: usize, length: usize) -> Vec<u8> {
+    let mut asm = Assembler::new(2);
+    let labels: Vec<Label> = places.iter().map(|_| asm.label()).collect();
+    for _ in 0..random.between(1, 4) {
+        asm.push_label(random.pick(&labels));
+    }
+    if random.percent(50) {
+        asm.op(0x30);
+        asm.jump_if(random.pick(&labels));
+    }
+    asm.jump(random.pick(&labels));
+    for (label, place) in labels.iter().zip(places) {
+        asm.fill(*place, random.pick(&[0x00, 0x00, 0xfe]));
+        asm.land(*label);
+        for _ in 0..random.between(0, steps) {
+            step(random, &mut asm, &labels);
+        }
+        end(random, &mut asm, &labels);
+    }
+    asm.fill(length, 0x00);
+    let mut code = asm.finish();
+    code.truncate(length);
+    code
+}
+
 fn step(random: &mut Random, asm: &mut Assembler, labels: &[Label]) {
     match random.below(20) {
         0..=6 => asm.push_label(random.pick(labels)),

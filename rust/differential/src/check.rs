@@ -24,7 +24,7 @@ pub enum Verdict {
     Same,
     /// It needs more than `agree::ENOUGH`: its refusal was held against the model's.
     TooHeavy,
-    /// It has more than 24,576 bytes: its refusals were held against the model's, and are 1.
+    /// It has more than 49,152 bytes: its refusals were held against the model's, and are 1.
     TooLong,
 }
 

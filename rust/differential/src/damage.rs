@@ -1,9 +1,10 @@
 //! Stored maps with something wrong in them: whole entries moved and changed, and bytes.
 
 use codes::Random;
+use model::Family;
 
 const HEADER: usize = 6;
-const KINDS: [u16; 14] = [0, 1, 2, 3, 4, 5, 6, 7, 8, 9, 10, 12, 256, 65535];
+const KINDS: [u16; 16] = [0, 1, 2, 3, 4, 5, 6, 7, 8, 9, 10, 11, 12, 13, 256, 65535];
 
 /// The entries of a whole map: kind and body.
 #[derive(Clone)]
@@ -30,11 +31,19 @@ impl Parts {
         self.0.iter().flat_map(entry).collect()
     }
 
+    /// That of the code length that the head says.
+    fn family(&self) -> Family {
+        let head = self.0.first().and_then(|(_, body)| body.first_chunk());
+        Family::of(head.map_or(0, |two| u16::from_le_bytes(*two).into()))
+    }
+
     /// The head says the counts of the entries that are there, so that they hide nothing else.
     fn recount(&mut self) {
-        let count = |test: fn(u16) -> bool| self.0.iter().filter(|(kind, _)| test(*kind)).count();
-        let blocks = (count(|kind| (2..=6).contains(&kind)) as u16).to_le_bytes();
-        let records = (count(|kind| (8..=9).contains(&kind)) as u32).to_le_bytes();
+        let family = self.family();
+        let count =
+            |test: &dyn Fn(u16) -> bool| self.0.iter().filter(|(kind, _)| test(*kind)).count();
+        let blocks = (count(&|kind| (2..=6).contains(&kind)) as u16).to_le_bytes();
+        let records = (count(&|kind| family.is_record(kind.into())) as u32).to_le_bytes();
         if let Some((1, head)) = self.0.first_mut()
             && head.len() >= 8
         {
@@ -47,7 +56,10 @@ impl Parts {
 /// A whole map with no record: what its 7s say no record says again.
 pub fn without_records(map: &[u8]) -> Vec<u8> {
     let mut parts = Parts::of(map);
-    parts.0.retain(|(kind, _)| !(8..=9).contains(kind));
+    let family = parts.family();
+    parts
+        .0
+        .retain(|(kind, _)| !family.is_record((*kind).into()));
     parts.recount();
     parts.bytes()
 }
@@ -55,10 +67,11 @@ pub fn without_records(map: &[u8]) -> Vec<u8> {
 /// A whole map in which all 7s of a block have the destination of its first.
 pub fn one_destination(map: &[u8]) -> Vec<u8> {
     let mut parts = Parts::of(map);
+    let family = parts.family();
     let mut first = None;
     for (kind, body) in &mut parts.0 {
         match body.first_chunk_mut::<2>() {
-            Some(to) if *kind == 7 => *to = *first.get_or_insert(*to),
+            Some(to) if *kind == family.seven => *to = *first.get_or_insert(*to),
             _ => first = None,
         }
     }
@@ -115,29 +128,43 @@ fn change_entries(random: &mut Random, parts: &mut Parts, other: &Parts) {
             parts.0.insert(to, entry);
         }
         5 => parts.0[at].0 = random.pick(&KINDS),
+        // The last entry often is a record behind others.
+        9 => {
+            let at = random.pick(&[at, count - 1]);
+            other_kind(random, &mut parts.0, at);
+        }
         6 => parts.0[at].1.push(random.pick(&[0, 1, 7, 255])),
         7 => drop(parts.0[at].1.pop()),
         8 => parts
             .0
             .insert(to, (random.pick(&KINDS), vec![0; random.below(13)])),
-        9 => other_record(&mut parts.0, at),
         _ => change_number(random, &mut parts.0[at].1),
     }
 }
 
-/// Behind the first record from an entry on the same as one of the other kind: with a number, or without.
-fn other_record(parts: &mut Vec<(u16, Vec<u8>)>, at: usize) {
-    let is_record = |(kind, _): &(u16, Vec<u8>)| matches!(kind, 8 | 9);
-    let Some(at) = (at..parts.len()).find(|at| is_record(&parts[*at])) else {
-        return;
-    };
-    let (kind, mut body) = parts[at].clone();
-    if kind == 8 && body.len() >= 4 {
-        body.splice(4..4, [1, 0, 0, 0]);
-    } else if kind == 9 && body.len() >= 8 {
-        body.drain(4..8);
+/// A record with a number or without, as it was not; else of the other family: the entry's kind, or the length that the
+/// head says.
+fn other_kind(random: &mut Random, parts: &mut [(u16, Vec<u8>)], at: usize) {
+    let (kind, body) = &mut parts[at];
+    match *kind {
+        8 | 11 if random.percent(50) && body.len() >= 4 => {
+            *kind += 1;
+            body.splice(4..4, [random.byte(), 0, 0, 0]);
+        }
+        9 | 12 if random.percent(50) && body.len() >= 8 => {
+            *kind -= 1;
+            body.drain(4..8);
+        }
+        7..=9 => *kind += 3,
+        10..=12 => *kind -= 3,
+        _ => {
+            if let Some(two) = parts[0].1.first_chunk_mut() {
+                *two = random
+                    .pick(&[24_576_u16, 24_577, 49_152, 65_535])
+                    .to_le_bytes();
+            }
+        }
     }
-    parts.insert(at + 1, (17 - kind, body));
 }
 
 /// A byte, or a number of two bytes, made one more or less, or anything.
@@ -155,7 +182,7 @@ fn change_number(random: &mut Random, body: &mut [u8]) {
         _ => {
             let at = at & !1;
             let value = random
-                .pick(&[0x8000, 0, 1, 0xffff, 24_576_u16])
+                .pick(&[0x8000, 0, 1, 0xffff, 24_576_u16, 24_577])
                 .to_le_bytes();
             let end = body.len().min(at + 2);
             body[at..end].copy_from_slice(&value[..end - at]);

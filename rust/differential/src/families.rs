@@ -1,10 +1,10 @@
-//! The families of codes, by name: those of `agree`, and contracts, damaged ones, worst cases
-//! and codes that are too long.
+//! The families of codes, by name: those of `agree`, and contracts, damaged ones, worst cases, more
+//! init code, and codes that are too long.
 
 use codes::Random;
 use codes::contract::{Style, sized};
 use codes::random::{jumpy, mutant};
-use codes::worst;
+use codes::{init, worst};
 
 /// A family of codes that a seed spells out.
 #[derive(Clone, Copy)]
@@ -15,10 +15,12 @@ pub struct Family {
     pub next: fn(&mut Random) -> Vec<u8>,
 }
 
-const LONGEST: usize = model::LONGEST_CODE;
+/// The longest code that is deployed, and the longest that deploys it.
+const LONGEST: usize = model::LONGEST_DEPLOYED;
+const LONGEST_INIT: usize = model::LONGEST_CODE;
 
 /// Those of `agree`, in their order; then these.
-const MORE: [Family; 7] = [
+const MORE: [Family; 8] = [
     Family {
         name: "damaged",
         share: 100,
@@ -60,6 +62,17 @@ const MORE: [Family; 7] = [
         next: worst_case,
     },
     Family {
+        name: "init-damaged",
+        share: 3,
+        next: |random| {
+            let length = agree::families::long(random);
+            let code = init::far(random, length);
+            let mut code = mutant(random, &code);
+            code.truncate(LONGEST_INIT);
+            code
+        },
+    },
+    Family {
         name: "too-long",
         share: 3,
         next: too_long,
@@ -77,7 +90,7 @@ pub const FAMILIES: [Family; AGREED + MORE.len()] = {
             let family = &agree::families::FAMILIES[at];
             Family {
                 name: family.name,
-                share: family.share * 10,
+                share: family.share,
                 next: family.next,
             }
         } else {
@@ -122,9 +135,9 @@ fn worst_case(random: &mut Random) -> Vec<u8> {
 /// Too long by a byte, by up to some hundred, or about as long as two bytes can say.
 fn too_long(random: &mut Random) -> Vec<u8> {
     let length = match random.below(4) {
-        0 => LONGEST + 1,
+        0 => LONGEST_INIT + 1,
         1 => random.between(65_535, 65_537),
-        _ => random.between(LONGEST + 2, 25_000),
+        _ => random.between(LONGEST_INIT + 2, 50_000),
     };
     jumpy(random, length)
 }

@@ -2,7 +2,7 @@
 
 use codes::contract::{Style, sized};
 use codes::random::jumpy;
-use codes::{Random, from_hex, woven};
+use codes::{Random, from_hex, init, woven};
 use model::inspect::{PathEntry, path_entries};
 use model::{HIGHEST_LIMIT, Inspected, entries, inspect, unpruned_by};
 
@@ -127,6 +127,11 @@ fn maps(random: &mut Random) -> Vec<(u64, Vec<u8>, Vec<u8>)> {
     }
     let bytes = random.between(200, 900);
     all.push(sized(random, bytes, Style::Plain));
+    all.push(init::both_marks());
+    for _ in 0..2 {
+        let length = agree::families::long(random);
+        all.push(init::far(random, length));
+    }
     let mapped = all.into_iter().filter_map(|code| {
         let mode = random.below(2) as u64;
         let map = unpruned_by(random.below(2) as u64, mode == 1, HIGHEST_LIMIT, &code).ok()?;
@@ -178,8 +183,8 @@ fn call(random: &mut Random, maps: &[(u64, Vec<u8>, Vec<u8>)]) -> Inspecting {
 fn change(random: &mut Random, map: &mut [u8], path: &PathEntry, length: usize) {
     let body = path.offset + 6;
     let (to, addresses) = match path.kind {
-        7 => (body, body + 6),
-        8 => (body + 2, body + 8),
+        7 | 10 => (body, body + 6),
+        8 | 11 => (body + 2, body + 8),
         _ => (body + 2, body + 12),
     };
     let at = match random.below(4) {

@@ -2,7 +2,7 @@
 
 use codes::contract::{Style, sized};
 use codes::random::jumpy;
-use codes::{Random, from_hex, woven};
+use codes::{Random, from_hex, init, woven};
 use model::follow::destinations;
 use model::ops::row;
 use model::{Block, Held, NotFollowed, answer, follow_bytes};
@@ -227,6 +227,11 @@ fn maps(random: &mut Random) -> Vec<(Vec<u8>, Vec<u8>)> {
     }
     let bytes = random.between(200, 900);
     all.push(sized(random, bytes, Style::Plain));
+    all.push(init::two_callers());
+    for _ in 0..4 {
+        let length = agree::families::long(random);
+        all.push(init::far(random, length));
+    }
     let mapped = all.into_iter().filter_map(|code| {
         let answer = answer(&agree::ENOUGH, model::HIGHEST_LIMIT, &code);
         (answer.number() == 0).then(|| (answer.written().to_vec(), code))

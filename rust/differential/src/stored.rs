@@ -5,7 +5,7 @@ use std::collections::BTreeMap;
 use aznifrem::{Block, BlockType, DynamicJump, Fault, Map, Record};
 use codes::contract::{Style, sized};
 use codes::random::jumpy;
-use codes::{Random, from_hex, woven};
+use codes::{Random, from_hex, init, worst, woven};
 use model::{Bad, Held, Kind, Refused, answer_by};
 
 use crate::damage::damaged;
@@ -78,7 +78,7 @@ pub fn run(reader: Reader, count: u64, seed: u64) -> Maps {
     maps
 }
 
-/// Some fifty answers of the model, with dynamic jumps, paths and records.
+/// Some ninety answers of the model, with dynamic jumps, paths and records, a fifth of them of longer code.
 pub fn answers(random: &mut Random) -> Vec<Vec<u8>> {
     let corners = codes::corners::CORNERS;
     let mut codes: Vec<Vec<u8>> = Vec::new();
@@ -90,6 +90,17 @@ pub fn answers(random: &mut Random) -> Vec<Vec<u8>> {
     }
     let bytes = random.between(200, 900);
     codes.push(sized(random, bytes, Style::Plain));
+    // With several records each.
+    for _ in 0..6 {
+        codes.push(worst::fan(random.between(2, 6)));
+        codes.push(worst::row(random.between(2, 5)));
+    }
+    // Of both families.
+    codes.push(init::two_callers());
+    for _ in 0..8 {
+        let length = agree::families::long(random);
+        codes.push(init::far(random, length));
+    }
     let mut answers = Vec::new();
     for code in codes {
         for limit in [model::HIGHEST_LIMIT, random.below(4) as u64] {
@@ -152,13 +163,13 @@ fn named(fault: Fault) -> Bad {
         Fault::Empty | Fault::NoHead => Bad::Head,
         Fault::Counts => Bad::Counts,
         Fault::Start(_) => Bad::Start,
-        Fault::UnknownKind(_) => Bad::Kind,
-        Fault::Away => Bad::Away,
+        Fault::UnknownKind(_) | Fault::OtherFamily(_) => Bad::Kind,
+        Fault::Away(_) => Bad::Away,
         Fault::Success(_) => Bad::Success,
         Fault::Entries { .. } => Bad::Sevens,
         Fault::Cut => Bad::Cut,
         Fault::Length(_) => Bad::Length,
-        Fault::OutOfOrder(8 | 9) => Bad::Other,
+        Fault::OutOfOrder(8 | 9 | 11 | 12) => Bad::Other,
         _ => Bad::Order,
     }
 }

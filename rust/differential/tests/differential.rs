@@ -3,7 +3,7 @@
 use std::collections::BTreeSet;
 use std::time::Duration;
 
-use aznifrem::{HIGHEST_LIMIT, Lent, call};
+use aznifrem::{HIGHEST_LIMIT, LONGEST_DEPLOYED, Lent, call};
 use codes::{Random, exhaustive};
 use differential::{
     Checker, ChoicePort, FAMILIES, JsonPort, ModePort, Port, Tally, Verdict, fenced_call,
@@ -75,8 +75,8 @@ fn the_library_on_codes_that_are_too_long() {
 fn the_codes_that_are_too_long_have_every_telling_length() {
     let lengths: BTreeSet<usize> = too_long_codes(200).map(|(_, code)| code.len()).collect();
     let (little, much): (Vec<usize>, Vec<usize>) =
-        lengths.into_iter().partition(|length| *length <= 25_000);
-    assert!(little[0] == 24_577 && little.len() > 50, "{little:?}");
+        lengths.into_iter().partition(|length| *length <= 50_000);
+    assert!(little[0] == 49_153 && little.len() > 50, "{little:?}");
     assert_eq!(much, [65_535, 65_536, 65_537]);
 }
 
@@ -395,7 +395,7 @@ fn another_refusal_is_found() {
     finds(port, "number", 12);
 }
 
-/// A fault that codes of up to 24,576 bytes do not show.
+/// A fault that codes of up to 49,152 bytes do not show.
 fn finds_in_too_long(port: Port, kind: &str) {
     let checker = Checker {
         port,
@@ -446,6 +446,96 @@ fn a_room_that_is_touched_because_the_code_is_too_long_is_found() {
         number
     };
     finds_in_too_long(port, "lent bytes");
+}
+
+/// A fault that shorter codes do not show.
+fn finds_in_init_code(port: Port, kind: &str) {
+    let checker = Checker {
+        port,
+        ..Checker::LIBRARY
+    };
+    let far = FAMILIES.iter().find(|family| family.name == "far");
+    let next = far.expect("there is such a family").next;
+    let mut codes = (0..400).map(|seed| (seed, next(&mut Random::new(seed))));
+    let found = codes.find_map(|(seed, code)| checker.check(&code, seed).err());
+    assert_eq!(found.map(|found| found.kind), Some(kind));
+}
+
+/// The entries that hold a path become those of the other family; of marks only those that are asked for.
+fn other_family(bytes: &mut [u8], marks: bool, kinds: bool) {
+    let found: Vec<(u8, usize)> = (7..=12)
+        .flat_map(|kind| entries(bytes, kind).into_iter().map(move |at| (kind, at)))
+        .collect();
+    for (kind, at) in found {
+        let to = at + if matches!(kind, 7 | 10) { 6 } else { 8 };
+        let (old, new, moved) = if kind < 10 {
+            (0x8000_u16, 0xffff_u16, kind + 3)
+        } else {
+            (0xffff, 0x8000, kind - 3)
+        };
+        if marks && bytes[to..to + 2] == old.to_le_bytes() {
+            bytes[to..to + 2].copy_from_slice(&new.to_le_bytes());
+        }
+        if kinds {
+            bytes[at + 4] = moved;
+        }
+    }
+}
+
+#[test]
+fn a_length_that_is_refused_as_before_is_found() {
+    let port = |code: &[u8], limit, rooms: &mut Lent| {
+        if code.len() > LONGEST_DEPLOYED {
+            return 1;
+        }
+        honest(code, limit, rooms)
+    };
+    finds_in_init_code(port, "number");
+}
+
+#[test]
+fn the_first_family_in_the_map_of_longer_code_is_found() {
+    let kinds = |code: &[u8], limit, rooms: &mut Lent| {
+        bent(code, limit, rooms, |bytes| {
+            if code_length(bytes) > LONGEST_DEPLOYED {
+                other_family(bytes, false, true);
+            }
+        })
+    };
+    finds_in_init_code(kinds, "bytes");
+    let marks = |code: &[u8], limit, rooms: &mut Lent| {
+        bent(code, limit, rooms, |bytes| {
+            if code_length(bytes) > LONGEST_DEPLOYED {
+                other_family(bytes, true, false);
+            }
+        })
+    };
+    finds_in_init_code(marks, "bytes");
+}
+
+#[test]
+fn a_border_that_is_one_off_is_found() {
+    let port = |code: &[u8], limit, rooms: &mut Lent| {
+        bent(code, limit, rooms, |bytes| {
+            if code_length(bytes) == LONGEST_DEPLOYED {
+                other_family(bytes, true, true);
+            }
+        })
+    };
+    finds_in_init_code(port, "bytes");
+    let port = |code: &[u8], limit, rooms: &mut Lent| {
+        bent(code, limit, rooms, |bytes| {
+            if code_length(bytes) == LONGEST_DEPLOYED + 1 {
+                other_family(bytes, true, true);
+            }
+        })
+    };
+    finds_in_init_code(port, "bytes");
+}
+
+/// What the head says.
+fn code_length(bytes: &[u8]) -> usize {
+    usize::from(u16::from_le_bytes([bytes[6], bytes[7]]))
 }
 
 #[test]

@@ -16,6 +16,15 @@ fn the_library_reads_as_the_model_does_and_everything_bad_is_met() {
     }
 }
 
+/// The bytes with another code length in their head.
+fn said_to_be(map: &[u8], code_length: u16) -> Vec<u8> {
+    let mut map = map.to_vec();
+    if let Some(two) = map.get_mut(6..8) {
+        two.copy_from_slice(&code_length.to_le_bytes());
+    }
+    map
+}
+
 /// Whether a reader that is wrong is told from the library's.
 fn is_found(reader: Reader) -> bool {
     read_maps(reader, 1_000, 3).different > 0
@@ -34,6 +43,9 @@ fn readers_that_are_wrong_are_found() {
         0 => 0,
         number => number + 1,
     }));
+    // The head's code length is not looked at: every map is of the first family, or of the second.
+    assert!(is_found(|map| read(&said_to_be(map, 9))));
+    assert!(is_found(|map| read(&said_to_be(map, 30_000))));
     // The head's counts are not looked at.
     assert!(is_found(|map| match read(map) {
         12 if map.starts_with(&[12, 0, 0, 0, 1, 0]) => 0,

@@ -4,7 +4,8 @@ use agree::ENOUGH;
 use agree::families::{self, Family};
 use codes::Random;
 use codes::corners::CORNERS;
-use model::{HIGHEST_LIMIT, LONGEST_CODE, Lent, Map};
+use codes::init;
+use model::{HIGHEST_LIMIT, LONGEST_CODE, LONGEST_DEPLOYED, Lent, Map};
 use std::collections::HashSet;
 use std::ops::RangeInclusive;
 
@@ -79,6 +80,7 @@ pub fn lines() -> Vec<Line> {
     let mut lines = Vec::new();
     lines.extend(sessions());
     lines.extend(before_the_search());
+    lines.extend(init_code());
     lines.extend(corners());
     for code in room_codes() {
         lines.extend(rooms(&code));
@@ -164,6 +166,22 @@ fn before_the_search() -> Vec<Line> {
     }
     lines
 }
+
+/// Both sides of both borders, and 0x8000 as a real destination beside a missing one (document 02, No. 10).
+fn init_code() -> Vec<Line> {
+    let mut codes = vec![init::both_marks(), init::two_callers()];
+    for length in [LONGEST_DEPLOYED, LONGEST_DEPLOYED + 1, LONGEST_CODE] {
+        let mut code = hex(NOWHERE);
+        code.resize(length, 0);
+        codes.push(code);
+    }
+    codes.push(vec![0; LONGEST_CODE + 1]);
+    let line = |code: &Vec<u8>| Line::new(HIGHEST_LIMIT, &PLENTY, code);
+    codes.iter().map(line).collect()
+}
+
+/// A JUMPI to which one caller gives a destination and another none, before any STOPs.
+const NOWHERE: &str = "600e6008565b60085b6001905700005b600035600856";
 
 /// Every corner, in the program's rooms and in plenty. Some use more energy than a prover can go
 /// through: those at low limits only (rust/model's tests have them at the highest).

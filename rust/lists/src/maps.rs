@@ -7,10 +7,10 @@ use model::{Kind, entries};
 use std::collections::HashSet;
 use std::ops::RangeInclusive;
 
-/// `code blocks`: the entries of kinds 2 to 7 in order, made from the Rust's answer.
+/// `code blocks`: the entries of the blocks in order, each with its paths, made from the Rust's answer.
 pub fn text(code: &[u8]) -> String {
     let mut blocks = Vec::new();
-    entries::blocks(&mut blocks, &agree::rust_blocks(code));
+    entries::blocks(&mut blocks, code.len(), &agree::rust_blocks(code));
     format!("{} {}", digits(code), digits(&blocks))
 }
 

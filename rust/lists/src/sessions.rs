@@ -8,18 +8,19 @@ use agree::{Verdict, compare};
 use codes::Random;
 use codes::contract::{Style, sized};
 use codes::corners::{CORNERS, recorded_both_ways};
-use model::{HIGHEST_LIMIT, LONGEST_CODE, Lent};
+use codes::init;
+use model::{HIGHEST_LIMIT, LONGEST_CODE, LONGEST_DEPLOYED, Lent};
 use std::collections::HashSet;
 
 /// The lengths of the program's own buffers: no case lends more.
 const BUFFERS: Lent = Lent {
-    w: 1_573_120,
+    w: 3_145_984,
     p: 65_536,
     s: 524_288,
     t: 262_144,
     r: 262_144,
     q: 262_144,
-    out: 524_288,
+    out: 1_048_576,
 };
 /// The bytes of a unit of W, P, S, T, R, Q and the output.
 const UNITS: [u64; 7] = [64, 2, 9, 32, 32, 2, 1];
@@ -77,10 +78,11 @@ pub fn lines() -> Vec<Line> {
     let around = around_the_needs();
     assert!(around.len() >= 1000, "cases around the needs");
     let mut lines = longest();
+    lines.extend(both_families());
     lines.extend(corners());
     lines.extend(orders());
     lines.extend(rust.iter().map(|code| roomy(code)));
-    lines.extend(answers::lines());
+    lines.extend(answers::lines().into_iter().filter(short));
     lines.extend(around);
     lines.iter_mut().for_each(fit);
     let mut seen = HashSet::new();
@@ -88,6 +90,11 @@ pub fn lines() -> Vec<Line> {
     let length: usize = lines.iter().map(|line| case(line).len() + 1).sum();
     assert!(length <= INPUT, "the program reads {INPUT} bytes of cases");
     lines
+}
+
+/// Whether a case is short enough to stand among thousands: the code is, or it repeats a piece.
+fn short(line: &Line) -> bool {
+    case(line).len() <= 10_000
 }
 
 fn in_buffers(limit: u64, code: &[u8]) -> Line {
@@ -113,7 +120,7 @@ fn fit(line: &mut Line) {
     }
 }
 
-/// "24,576 bytes taken, 24,577 refused 1. Limit 500,001 refused 2", with codes of one piece.
+/// Document 01's "Limit 500,001 refused 2" and document 02's "1 now means over 49,152", with codes of one piece.
 fn longest() -> Vec<Line> {
     let mut lines = Vec::new();
     for text in [
@@ -127,7 +134,7 @@ fn longest() -> Vec<Line> {
         "6000575b",
     ] {
         let piece = answers::hex(text);
-        let mut code: Vec<u8> = piece.iter().copied().cycle().take(LONGEST_CODE).collect();
+        let mut code = init::repeated(&piece, LONGEST_CODE);
         lines.push(in_buffers(HIGHEST_LIMIT, &code));
         lines.push(in_buffers(HIGHEST_LIMIT + 1, &code));
         lines.push(in_buffers(0, &code));
@@ -136,6 +143,19 @@ fn longest() -> Vec<Line> {
         lines.push(in_buffers(HIGHEST_LIMIT, &code));
         lines.push(in_buffers(HIGHEST_LIMIT + 1, &code));
     }
+    lines
+}
+
+/// Both sides of the length at which the kinds become others, and 0x8000 as a real destination beside a missing one.
+fn both_families() -> Vec<Line> {
+    let mut lines = Vec::new();
+    for text in ["00", "5b", "60056007565b005b56", "6000575b"] {
+        let piece = answers::hex(text);
+        for length in [LONGEST_DEPLOYED, LONGEST_DEPLOYED + 1] {
+            lines.push(in_buffers(HIGHEST_LIMIT, &init::repeated(&piece, length)));
+        }
+    }
+    lines.push(in_buffers(HIGHEST_LIMIT, &init::both_marks()));
     lines
 }
 
@@ -198,8 +218,8 @@ fn some_of(all: u64) -> Vec<u64> {
 /// Longer codes than those of `tests/rust.list`, which the program answers too.
 const LONGER: [(&str, usize); 3] = [("woven-long", 20), ("calls-middle", 30), ("calls-large", 8)];
 
-/// Bytes of whole contracts, up to the longest that is taken.
-const CONTRACTS: [usize; 4] = [1000, 6000, 12_000, LONGEST_CODE];
+/// Bytes of whole contracts, up to the longest that is deployed.
+const CONTRACTS: [usize; 4] = [1000, 6000, 12_000, LONGEST_DEPLOYED];
 
 /// Codes whose map at the highest limit is the unchanged Rust's, block by block.
 fn rust_codes() -> Vec<Vec<u8>> {

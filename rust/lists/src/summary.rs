@@ -38,7 +38,7 @@ pub fn of_maps(codes: &[Vec<u8>]) -> String {
     for code in codes {
         let blocks = agree::rust_blocks(code);
         let mut bytes = Vec::new();
-        model::entries::blocks(&mut bytes, &blocks);
+        model::entries::blocks(&mut bytes, code.len(), &blocks);
         count_kinds(&bytes, &mut kinds);
         nowhere += usize::from(blocks.iter().any(|block| leads_nowhere(&block.kind)));
         pruned += usize::from(model::blocks::blocks(code).len() > blocks.len());

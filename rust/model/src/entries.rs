@@ -1,20 +1,21 @@
 //! "Output entries: length of body (4 bytes), kind (2), body; little-endian."
 
 use crate::blocks::{Block, Entry, Kind};
+use crate::family::Family;
 use crate::map::Map;
 use crate::search::Record;
 
-const NOWHERE: u16 = 0x8000;
 const HEADER: usize = 6;
 
-/// The whole output: head, blocks by start each with its entries, records as found; one that has its number is of kind 9.
+/// The whole output: head, blocks by start each with its entries, records as found; one that has its number is of another kind.
 pub fn write(code_length: usize, map: &Map) -> Vec<u8> {
+    let family = Family::of(code_length);
     let mut out = Vec::new();
     entry(&mut out, 1, &head(code_length, map));
-    blocks(&mut out, &map.blocks);
+    blocks(&mut out, code_length, &map.blocks);
     for record in &map.records {
         let mut body = address(record.start).to_vec();
-        body.extend(destination(record.to));
+        body.extend(destination(family, record.to));
         body.extend(
             record
                 .energy
@@ -22,7 +23,11 @@ pub fn write(code_length: usize, map: &Map) -> Vec<u8> {
                 .flat_map(|energy| count(energy as usize)),
         );
         body.extend(path(&record.path));
-        entry(&mut out, if record.energy.is_some() { 9 } else { 8 }, &body);
+        let kind = match record.energy {
+            Some(_) => family.numbered,
+            None => family.record,
+        };
+        entry(&mut out, kind, &body);
     }
     out
 }
@@ -49,13 +54,14 @@ fn of_entries(entries: &[Entry]) -> usize {
         .sum()
 }
 
-/// The entries of kind 2 to 7.
-pub fn blocks(out: &mut Vec<u8>, blocks: &[Block]) {
+/// The entries of the blocks, each with its paths.
+pub fn blocks(out: &mut Vec<u8>, code_length: usize, blocks: &[Block]) {
+    let family = Family::of(code_length);
     for block in blocks {
         let (kind, body, entries) = described(block);
         entry(out, kind, &body);
         for found in entries {
-            entry(out, 7, &way(found.to, &found.path));
+            entry(out, family.seven, &way(family, found));
         }
     }
 }
@@ -94,14 +100,14 @@ fn described(block: &Block) -> (u16, Vec<u8>, &[Entry]) {
 }
 
 /// "To, path length, path".
-fn way(to: Option<usize>, blocks: &[usize]) -> Vec<u8> {
-    let mut body = destination(to).to_vec();
-    body.extend(path(blocks));
+fn way(family: Family, found: &Entry) -> Vec<u8> {
+    let mut body = destination(family, found.to).to_vec();
+    body.extend(path(&found.path));
     body
 }
 
-fn destination(to: Option<usize>) -> [u8; 2] {
-    to.map_or(NOWHERE.to_le_bytes(), address)
+fn destination(family: Family, to: Option<usize>) -> [u8; 2] {
+    to.map_or(family.nowhere.to_le_bytes(), address)
 }
 
 fn path(blocks: &[usize]) -> Vec<u8> {

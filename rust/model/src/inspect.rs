@@ -3,6 +3,7 @@
 
 use crate::blocks::{Block, find};
 use crate::bounds::LONGEST_CODE;
+use crate::family::Family;
 use crate::follow::destinations;
 use crate::ops::{self, row};
 use crate::reader::{Held, read};
@@ -10,7 +11,6 @@ use crate::rooms::work;
 use crate::stack::{Stack, Symbol, run};
 
 const HEADER: usize = 6;
-const NOWHERE: usize = 0x8000;
 
 /// What a call says.
 #[derive(Clone, Copy, Debug, PartialEq, Eq)]
@@ -53,6 +53,8 @@ pub struct PathEntry {
 pub fn path_entries(map: &[u8]) -> Vec<PathEntry> {
     let two = |at: usize| usize::from(u16::from_le_bytes([map[at], map[at + 1]]));
     let four = |at: usize| two(at) + (two(at + 2) << 16);
+    // The head's code length says the family.
+    let family = Family::of(if map.is_empty() { 0 } else { two(HEADER) });
     let (mut at, mut owner, mut found) = (0, 0, Vec::new());
     while at < map.len() {
         let (kind, body) = (two(at + 4), at + HEADER);
@@ -65,12 +67,16 @@ pub fn path_entries(map: &[u8]) -> Vec<PathEntry> {
                 owner = two(body);
                 None
             }
-            7 => Some((owner, two(body), addresses(body + 2))),
-            8 => Some((two(body), two(body + 2), addresses(body + 4))),
-            9 => Some((two(body), two(body + 2), addresses(body + 8))),
+            _ if family.is_seven(kind) => Some((owner, body, addresses(body + 2))),
+            _ if family.is_record(kind) => {
+                let length = if family.is_numbered(kind) { 8 } else { 4 };
+                Some((two(body), body + 2, addresses(body + length)))
+            }
             _ => None,
         };
-        if let Some((start, to, path)) = entry.filter(|(_, to, _)| *to != NOWHERE) {
+        if let Some((start, to, path)) = entry
+            && let Some(to) = family.destination(two(to))
+        {
             found.push(PathEntry {
                 offset: at,
                 kind,

@@ -7,6 +7,7 @@ pub mod blocks;
 mod bounds;
 mod call;
 pub mod entries;
+pub mod family;
 pub mod follow;
 pub mod inspect;
 mod map;
@@ -20,8 +21,9 @@ pub mod search;
 pub mod stack;
 
 pub use blocks::{Block, Entry, Kind};
-pub use bounds::{HIGHEST_LIMIT, LONGEST_CODE};
+pub use bounds::{HIGHEST_LIMIT, LONGEST_CODE, LONGEST_DEPLOYED};
 pub use call::{map, map_by, map_in, unpruned_by};
+pub use family::Family;
 pub use follow::{Followed, NotFollowed, follow_bytes};
 pub use inspect::{Inspected, inspect};
 pub use map::Map;

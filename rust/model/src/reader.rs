@@ -1,11 +1,12 @@
 //! Document 02, No. 2, as a plain program, written from its text: the map that bytes hold, or the
 //! first bad entry. Every entry is held against each thing of the list; the lowest offset counts.
+//! "The reader refuses a map with a kind of the family that is not its code length's" (No. 10).
 
 use crate::blocks::{Block, Entry, Kind};
+use crate::family::Family;
 use crate::search::Record;
 
 const HEADER: usize = 6;
-const NOWHERE: usize = 0x8000;
 
 /// What the bytes hold.
 #[derive(Clone, Debug, PartialEq, Eq)]
@@ -36,7 +37,7 @@ pub enum Bad {
     Other,
     /// "A block start not above the one before".
     Start,
-    /// "Unknown kinds".
+    /// "Unknown kinds"; "12 covers the wrong family".
     Kind,
     /// "Kind 7 away from a dynamic block".
     Away,
@@ -73,22 +74,26 @@ pub fn read(bytes: &[u8]) -> Result<Held, Refused> {
     if pieces.is_empty() {
         return Err(refused(0, vec![Bad::Head]));
     }
+    // If the first is no head, or not a whole one, it is bad, and the family of what is behind it is of no matter.
+    let code_length = pieces[0].number(0, 2);
+    let family = Family::of(code_length);
     for at in 0..pieces.len() {
         let bad: Vec<Bad> = Bad::ALL
             .into_iter()
-            .filter(|bad| is_bad(*bad, &pieces, at))
+            .filter(|bad| is_bad(*bad, family, &pieces, at))
             .collect();
         if !bad.is_empty() {
             return Err(refused(pieces[at].offset, bad));
         }
     }
     // "Wrong head counts are looked at last and give offset 0."
-    let (head, blocks, records) = (&pieces[0], blocks(&pieces), records(&pieces));
+    let (head, blocks) = (&pieces[0], blocks(family, &pieces));
+    let records = records(family, &pieces);
     if (head.number(2, 2), head.number(4, 4)) != (blocks.len(), records.len()) {
         return Err(refused(0, vec![Bad::Counts]));
     }
     Ok(Held {
-        code_length: head.number(0, 2),
+        code_length,
         blocks,
         records,
         energy: head.number(8, 4) as u64,
@@ -142,33 +147,30 @@ impl Piece<'_> {
         (2..=6).contains(&self.kind)
     }
 
-    pub(crate) fn is_record(&self) -> bool {
-        (8..=9).contains(&self.kind)
-    }
-
     fn is_dynamic(&self) -> bool {
         (5..=6).contains(&self.kind)
     }
 
-    /// The length that its kind says; for 7, 8 and 9 "by the path length that it announces".
-    fn length(&self) -> Option<usize> {
+    /// The length that its kind says; for those with a path "by the path length that it announces".
+    fn length(&self, family: Family) -> Option<usize> {
         match self.kind {
             1 => Some(12),
             2 => Some(5),
             3 => Some(6),
             4 | 5 => Some(8),
             6 => Some(10),
-            7 => Some(6 + 2 * self.number(2, 4)),
-            8 => Some(8 + 2 * self.number(4, 4)),
-            9 => Some(12 + 2 * self.number(8, 4)),
+            kind if family.is_seven(kind) => Some(6 + 2 * self.number(2, 4)),
+            kind if family.is_numbered(kind) => Some(12 + 2 * self.number(8, 4)),
+            kind if family.is_record(kind) => Some(8 + 2 * self.number(4, 4)),
             _ => None,
         }
     }
 }
 
 /// Whether a thing is bad of an entry. Of a cut one nothing is known but that it is cut.
-fn is_bad(bad: Bad, pieces: &[Piece], at: usize) -> bool {
+fn is_bad(bad: Bad, family: Family, pieces: &[Piece], at: usize) -> bool {
     let (piece, before, behind) = (&pieces[at], &pieces[..at], &pieces[at + 1..]);
+    let is_record = |piece: &Piece| family.is_record(piece.kind);
     if !piece.whole {
         return bad == Bad::Cut;
     }
@@ -176,25 +178,25 @@ fn is_bad(bad: Bad, pieces: &[Piece], at: usize) -> bool {
         Bad::Head => at == 0 && piece.kind != 1,
         Bad::Counts | Bad::Cut => false,
         Bad::Order => {
-            (at > 0 && piece.kind == 1) || (piece.is_block() && before.iter().any(Piece::is_record))
+            (at > 0 && piece.kind == 1) || (piece.is_block() && before.iter().any(is_record))
         }
         Bad::Other => {
-            let other = |e: &Piece| e.is_record() && e.kind != piece.kind;
-            piece.is_record() && before.iter().any(other)
+            let other = |e: &Piece| is_record(e) && e.kind != piece.kind;
+            is_record(piece) && before.iter().any(other)
         }
         Bad::Start => {
             let last = before.iter().rev().find(|e| e.is_block());
             piece.is_block() && last.is_some_and(|last| piece.number(0, 2) <= last.number(0, 2))
         }
-        Bad::Kind => piece.length().is_none(),
+        Bad::Kind => piece.length(family).is_none(),
         Bad::Away => {
-            let first = before.iter().rev().find(|e| e.kind != 7);
-            piece.kind == 7 && !first.is_some_and(Piece::is_dynamic)
+            let first = before.iter().rev().find(|e| !family.is_seven(e.kind));
+            family.is_seven(piece.kind) && !first.is_some_and(Piece::is_dynamic)
         }
         Bad::Success => piece.kind == 2 && piece.number(4, 1) > 1,
-        Bad::Sevens => piece.is_dynamic() && count(piece) != whole_sevens(behind),
+        Bad::Sevens => piece.is_dynamic() && count(piece) != whole_sevens(family, behind),
         Bad::Length => piece
-            .length()
+            .length(family)
             .is_some_and(|length| length != piece.body.len()),
     }
 }
@@ -208,19 +210,19 @@ fn count(piece: &Piece) -> usize {
 }
 
 /// "Only whole 7s count": those of the run that begins here.
-fn whole_sevens(behind: &[Piece]) -> usize {
-    let seven = |piece: &&Piece| piece.whole && piece.kind == 7;
+pub(crate) fn whole_sevens(family: Family, behind: &[Piece]) -> usize {
+    let seven = |piece: &&Piece| piece.whole && family.is_seven(piece.kind);
     behind.iter().take_while(seven).count()
 }
 
 /// The blocks, each with the 7s behind it.
-fn blocks(pieces: &[Piece]) -> Vec<Block> {
+fn blocks(family: Family, pieces: &[Piece]) -> Vec<Block> {
     let mut blocks = Vec::new();
     for (at, piece) in pieces.iter().enumerate().filter(|(_, e)| e.is_block()) {
-        let sevens = whole_sevens(&pieces[at + 1..]);
+        let sevens = whole_sevens(family, &pieces[at + 1..]);
         let entries = pieces[at + 1..][..sevens].iter();
         let entries = entries.map(|seven| Entry {
-            to: destination(seven.number(0, 2)),
+            to: family.destination(seven.number(0, 2)),
             path: path(seven, 6),
         });
         let kind = match piece.kind {
@@ -251,20 +253,16 @@ fn blocks(pieces: &[Piece]) -> Vec<Block> {
     blocks
 }
 
-fn records(pieces: &[Piece]) -> Vec<Record> {
-    let records = pieces.iter().filter(|piece| piece.is_record());
+fn records(family: Family, pieces: &[Piece]) -> Vec<Record> {
+    let records = pieces.iter().filter(|piece| family.is_record(piece.kind));
+    let numbered = |piece: &Piece| family.is_numbered(piece.kind);
     let record = |piece: &Piece| Record {
         start: piece.number(0, 2),
-        to: destination(piece.number(2, 2)),
-        path: path(piece, if piece.kind == 9 { 12 } else { 8 }),
-        energy: (piece.kind == 9).then(|| piece.number(4, 4) as u64),
+        to: family.destination(piece.number(2, 2)),
+        path: path(piece, if numbered(piece) { 12 } else { 8 }),
+        energy: numbered(piece).then(|| piece.number(4, 4) as u64),
     };
     records.map(record).collect()
-}
-
-/// "A missing destination is 0x8000."
-fn destination(to: usize) -> Option<usize> {
-    (to != NOWHERE).then_some(to)
 }
 
 /// The addresses from a place of the body to its end.

@@ -1,7 +1,8 @@
 //! Document 02, No. 14, as a plain program, written from its text: of an archive of stored maps, what is
 //! copied and what is dropped.
 
-use crate::reader::{Piece, pieces, read};
+use crate::family::Family;
+use crate::reader::{Piece, pieces, read, whole_sevens};
 
 /// "Prints how many maps and bytes it copied, how many bytes it dropped and the offset of the first bad
 /// entry, or the input's length."
@@ -42,9 +43,10 @@ pub fn salvage(archive: &[u8]) -> Salvaged {
 fn end(rest: &[u8]) -> usize {
     let pieces = pieces(rest);
     let (head, entries) = pieces.split_first().expect("there is a byte");
+    let family = Family::of(head.number(0, 2));
     let (blocks, records) = (head.number(2, 2), head.number(4, 4));
     let block = |piece: &&Piece| piece.whole && piece.is_block();
-    let record = |piece: &&Piece| piece.whole && piece.is_record();
+    let record = |piece: &&Piece| piece.whole && family.is_record(piece.kind);
     let nth = |count: usize, of: &dyn Fn(&&Piece) -> bool| {
         let mut places = (0..entries.len()).filter(|at| of(&&entries[*at]));
         // So many entries end with the last that counts; none, if none is wanted.
@@ -58,8 +60,7 @@ fn end(rest: &[u8]) -> usize {
     };
     let mut count = blocks.max(records);
     if count > 0 && entries[count - 1].is_block() {
-        let seven = |piece: &&Piece| piece.whole && piece.kind == 7;
-        count += entries[count..].iter().take_while(seven).count();
+        count += whole_sevens(family, &entries[count..]);
     }
     entries.get(count).map_or(rest.len(), |next| next.offset)
 }

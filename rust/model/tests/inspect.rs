@@ -2,7 +2,7 @@
 //! (`InspectorExamples`).
 
 use codes::from_hex;
-use model::{HIGHEST_LIMIT, Inspected, entries, inspect, map_by, unpruned_by};
+use model::{HIGHEST_LIMIT, Inspected, LONGEST_CODE, entries, inspect, map_by, unpruned_by};
 
 const RETURN: &str = "60056007565b005b56";
 const BLOCKS: &str = "0c0000000100090003000100000002000000060000000300000004000700050000000200050006000106000000030007000800\
@@ -63,7 +63,10 @@ fn a_record_is_right_or_names_its_place() {
 #[test]
 fn the_refusals_come_in_their_order() {
     let code = from_hex(RETURN).expect("digits");
-    assert_eq!(inspect(2, &[0; 24_577], &[], 0), Inspected::Refused(1));
+    assert_eq!(
+        inspect(2, &[0; LONGEST_CODE + 1], &[], 0),
+        Inspected::Refused(1)
+    );
     assert_eq!(inspect(2, &code, &[], 831), Inspected::Refused(13));
     assert_eq!(inspect(1, &code, &[], 831), Inspected::Refused(3));
     assert_eq!(inspect(1, &code, &[], 832), Inspected::BadEntry(0));

@@ -29,7 +29,7 @@ const WRITTEN: usize = 5;
 /// Whole contracts, beside the families that the model is held against the Rust on.
 const CONTRACTS: Family = Family {
     name: "contracts",
-    share: 20,
+    share: 200,
     next: |random| {
         let bytes = random.between(200, 4_000);
         sized(random, bytes, Style::Plain)
@@ -107,7 +107,7 @@ pub fn trials_in(known_zero: bool, source: Source, records: u64, seed: u64) -> T
     let mut seeds = Random::new(seed);
     while tally.records < records && tally.codes < records.saturating_mul(CODES) {
         for family in FAMILIES.iter().chain([&CONTRACTS]) {
-            for _ in 0..family.share.div_ceil(10) {
+            for _ in 0..family.share.div_ceil(100) {
                 let seed = seeds.word();
                 let code = (family.next)(&mut Random::new(seed));
                 tally.add(source, &code, seed, family.name);

@@ -1,4 +1,4 @@
--- `add_numbered`: an item of the kind 9. Assumes nothing.
+-- `add_numbered`: an item of the family's kind. Assumes nothing.
 use borrow.Author.Needs.{needs}
 use Rattle.entries.proofs.Paths.{numbered-put}
 use Rattle.entries.proofs.row.add_numbered.Statement.{statement}
@@ -33,8 +33,6 @@ add-numbered-spec =
     (λ c. search needs)
     (λ c κs. search needs)
     (λ c κs. search needs)
-    (λ c. search needs)
-    (λ c. search needs)
     (λ c κs. search needs)
     (λ c κs. search needs)
     (λ c. search needs)

@@ -1,4 +1,4 @@
--- `add_plain`: an item of the kind 8. Assumes nothing.
+-- `add_plain`: an item of the family's kind. Assumes nothing.
 use borrow.Author.Needs.{needs}
 use Rattle.entries.proofs.Paths.{plain-put}
 use Rattle.entries.proofs.row.add_plain.Statement.{statement}

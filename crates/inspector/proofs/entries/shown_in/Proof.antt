@@ -4,47 +4,14 @@ use borrow.Author.Needs.{needs}
 use Rattle.inspector.proofs.entries.shown_in.Statement.{statement}
 use Rattle.inspector.proofs.entries.shown_in.Tie as tie
 
-enum-known-e : tie.Need-enum-known-e
-enum-known-e c = search needs
-
 returns : tie.Need-returns
 returns c = search way-none
 
-enum-known-e-2 : tie.Need-enum-known-e-2
-enum-known-e-2 c = search needs
-
 returns-2 : tie.Need-returns-2
-returns-2 c = search record-none
-
-enum-known-e-3 : tie.Need-enum-known-e-3
-enum-known-e-3 c = search needs
-
-enum-known-e-4 : tie.Need-enum-known-e-4
-enum-known-e-4 c = search needs
-
-enum-known-e-5 : tie.Need-enum-known-e-5
-enum-known-e-5 c = search needs
-
-enum-known-e-6 : tie.Need-enum-known-e-6
-enum-known-e-6 c = search needs
-
-enum-known-e-7 : tie.Need-enum-known-e-7
-enum-known-e-7 c = search needs
-
-enum-told : tie.Need-enum-told
-enum-told c = search needs
-
-enum-told-2 : tie.Need-enum-told-2
-enum-told-2 c = search needs
-
-enum-told-3 : tie.Need-enum-told-3
-enum-told-3 c = search needs
-
-enum-told-4 : tie.Need-enum-told-4
-enum-told-4 c = search needs
+returns-2 c = search way-shown
 
 returns-3 : tie.Need-returns-3
-returns-3 c = search way-shown
+returns-3 c = search record-none
 
 returns-4 : tie.Need-returns-4
 returns-4 c = search record-shown
@@ -80,19 +47,23 @@ pub shown-in-spec : {M : Type 1} → statement M
 shown-in-spec =
     tie.close
     (tie.spec
-    enum-known-e
+    (λ c. search needs)
+    (λ c. search needs)
+    (λ c. search needs)
+    (λ c. search needs)
+    (λ c. search needs)
+    (λ c. search needs)
+    (λ c. search needs)
+    (λ c. search needs)
+    (λ c. search needs)
+    (λ c. search needs)
+    (λ c. search needs)
+    (λ c. search needs)
+    (λ c. search needs)
+    (λ c. search needs)
+    (λ c. search needs)
     returns
-    enum-known-e-2
     returns-2
-    enum-known-e-3
-    enum-known-e-4
-    enum-known-e-5
-    enum-known-e-6
-    enum-known-e-7
-    enum-told
-    enum-told-2
-    enum-told-3
-    enum-told-4
     returns-3
     returns-4
     returns-5

@@ -11,4 +11,4 @@ returns-2 : tie.Need-returns-2
 returns-2 c = search seven-found
 
 pub seven-spec : {M : Type 1} → statement M
-seven-spec = tie.close (tie.spec returns returns-2)
+seven-spec = tie.close (tie.spec (λ c. search needs) (λ c. search needs) returns returns-2)

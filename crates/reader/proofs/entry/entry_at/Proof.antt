@@ -75,6 +75,7 @@ entry-at-spec =
     (λ c. search needs)
     add-body
     (λ c κs. search needs)
+    (λ c κs. search needs)
     (λ c. search needs)
     head-requires
     (λ c. search needs)

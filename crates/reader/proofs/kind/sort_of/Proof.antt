@@ -1,7 +1,8 @@
 -- `sort_of` meets its contract: each arm is its line of the definitions' table. Assumes nothing.
 use Rattle.spec.specs.Lists.{if}
 use Rattle.spec.specs.Forms.{sort}
-use Rattle.reader.proofs.Sorting.{kind-none}
+use Rattle.reader.proofs.Sorting.{kind-path}
+use borrow.Author.Needs.{needs}
 use Rattle.reader.proofs.kind.sort_of.Statement.{statement}
 use Rattle.reader.proofs.kind.sort_of.Tie as tie
 
@@ -30,19 +31,7 @@ unfolding sort if
 returns-6 c = rw (c .match .keys6)
 
 returns-7 : tie.Need-returns-7
-unfolding sort if
-returns-7 c = rw (c .match .keys7)
-
-returns-8 : tie.Need-returns-8
-unfolding sort if
-returns-8 c = rw (c .match .keys8)
-
-returns-9 : tie.Need-returns-9
-unfolding sort if
-returns-9 c = rw (c .match .keys9)
-
-returns-10 : tie.Need-returns-10
-returns-10 c = search kind-none
+returns-7 c = search kind-path
 
 pub sort-of-spec : {M : Type 1} → statement M
-sort-of-spec = tie.close (tie.spec returns returns-2 returns-3 returns-4 returns-5 returns-6 returns-7 returns-8 returns-9 returns-10)
+sort-of-spec = tie.close (tie.spec (λ c κs. search needs) returns returns-2 returns-3 returns-4 returns-5 returns-6 returns-7)

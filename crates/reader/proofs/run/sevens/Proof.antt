@@ -9,10 +9,10 @@ use Rattle.reader.proofs.run.sevens.Statement.{statement}
 use Rattle.reader.proofs.run.sevens.Tie as tie
 
 abbrev Inv-loop : tie.InvT-loop
-Inv-loop map at n₀ to₀ n to = Counting map at n to
+Inv-loop map at wide n₀ to₀ n to = Counting map at n to
 
 abbrev μ-loop : tie.MeasureT-loop
-μ-loop map at n₀ to₀ n to = length map - to
+μ-loop map at wide n₀ to₀ n to = length map - to
 
 loop-holds : tie.Need-loop-holds Inv-loop μ-loop
 loop-holds c = search count-none
@@ -44,6 +44,7 @@ sevens-spec =
     (tie.spec
     Inv-loop
     μ-loop
+    (λ c κs. search needs)
     loop-holds
     (λ c κs. search needs)
     (λ c. search needs)

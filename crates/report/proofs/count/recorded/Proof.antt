@@ -8,13 +8,13 @@ use Rattle.report.proofs.count.recorded.Tie as tie
 
 returns : tie.Need-returns
 unfolding join
-returns c = with-record 10 (nowhere-adds _ _ (c .before .before .if1 .taken)) (omega arith) (c .longer .ensures)
+returns c = with-record 10 (nowhere-adds _ (c .before .before .enum-told .given .1)) (omega arith) (c .longer .ensures)
 
 returns-2 : tie.Need-returns-2
 unfolding join
-returns-2 c = with-record 9 (found-adds _ _ (c .before .before .if1 .left)) (omega arith) (c .longer2 .ensures)
+returns-2 c = with-record 9 (found-adds _ (c .before .before .enum-told2 .given .1)) (omega arith) (c .longer2 .ensures)
 
 pub recorded-spec : {M : Type 1} → statement M
 recorded-spec =
     tie.close
-    (tie.spec (λ c. search needs) (λ c κs. search needs) returns (λ c. search needs) (λ c κs. search needs) returns-2)
+    (tie.spec (λ c. search needs) (λ c. search needs) (λ c κs. search needs) (λ c. search needs) (λ c. search needs) (λ c κs. search needs) returns returns-2)
