@@ -9,4 +9,5 @@ exports! {
     aznifrem_salvage(; read archive, write out, write report);
     aznifrem_follow(; read map, read code, read log, write work, write counts);
     aznifrem_inspect(mode; read code, read map, write w, write place);
+    aznifrem_inspect_from(mode, from; read code, read map, write w, write rows);
 }

@@ -1,6 +1,5 @@
 // The answer, and the JSON text of its blocks beside it.
 use crate::early::early;
-use crate::early::mode_of;
 use crate::find::find;
 use crate::map::wipe_rooms;
 use entries::entries_size;
@@ -9,6 +8,7 @@ use json::text_size;
 use json::write_text;
 use lent::units;
 use state::mode::Mode;
+use state::mode::mode_of;
 ghost use mathlib.Core.Path.{_≡_};
 ghost use Rattle.layout.specs.Buffers.{buffers};
 ghost use Rattle.state.specs.Modes.{modeOf};

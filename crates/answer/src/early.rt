@@ -3,10 +3,7 @@
 use layout::LONGEST;
 use layout::part::NEED;
 use layout::part::NEED_MORE;
-use state::mode::Mode;
 ghost use mathlib.Core.Path.{_≡_};
-ghost use Prim.Native.Nat.{_≤_};
-ghost use Rattle.state.specs.Modes.{modeOf};
 ghost use Rattle.answer.specs.Contracts.{earlyOf};
 
 // The first of 1, 2, 13 and 3 that applies to a code of n bytes, a limit, a mode, and a W of so many bytes; 0 if none does.
@@ -26,15 +23,4 @@ pub fn early(n: usize, limit: usize, mode: usize, w: usize) -> usize
         return 3;
     }
     0
-}
-
-// The mode of a number that is one.
-pub fn mode_of(mode: usize) -> Mode
-    requires { ⌜ mode ≤ 1 ⌝ }
-    ensures { λ m. ⌜ modeOf m ≡ mode ⌝ }
-{
-    if mode == 0 {
-        return Mode::Plain;
-    }
-    Mode::KnownZero
 }

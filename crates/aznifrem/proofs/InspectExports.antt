@@ -1,4 +1,4 @@
--- The ways out of aznifrem_inspect. Assumes nothing.
+-- The ways out of aznifrem_inspect and aznifrem_inspect_from. Assumes nothing.
 use mathlib.Core.Path.{_≡_, refl, sym, ap, _∙_}
 use Prim.Native.Nat.{ℕ, _+_, _*_, _-_, _^_, _≤_, _<_}
 use native.Mathlib.Omega.{arith}
@@ -10,16 +10,33 @@ use lib.ListN.{length}
 use borrow.Author.Tests.{lt-ltb, le-ltb}
 use Rattle.spec.specs.Opcodes.{Rules, in-mode}
 use Rattle.spec.specs.Reader.{told}
-use Rattle.spec.specs.Inspector.{Inspection, numberOf}
+use Rattle.spec.specs.Inspector.{Inspection, inspect-from, numberOf, exported}
 use Rattle.laws.proofs.Branch.{if-true, if-false}
 use Rattle.theorems.proofs.Counts.{Lawful, lawful}
 use Rattle.theorems.proofs.InspectorCall.{Verdict, code-over, mode-over, work-short, entry-bad, path-wrong, all-right, verdict}
-use Rattle.inspector.specs.Calling.{InspectedAs}
+use Rattle.inspector.specs.Calling.{resultOf, InspectedFrom, InspectedAs}
 use Rattle.inspector.specs.declared.call.Inspected.{Inspected}
-use Rattle.aznifrem.specs.InspectContract.{ExportedInspect}
+use Rattle.aznifrem.specs.InspectContract.{ExportedInspect, ExportedInspectFrom}
+
+-- ---- told_of
+
+module _ (i : Inspected) (low : i .number ≤ 17) where
+  pub told-sum : i .value < 2 ^ 56 → Fits w64 (i .number + 256 * i .value)
+  told-sum l = omega (arith, low)
+
+  pub told-most : Fits w64 (i .number + 256 * (2 ^ 56 - 1))
+  told-most = omega (arith, low)
+
+  pub told-given : i .value < 2 ^ 56 → i .number + 256 * i .value ≡ told (i .number) (i .value)
+  told-given l = ap (λ (n : ℕ). i .number + 256 * n) (sym (if-true (ltb (i .value) (2 ^ 56)) (i .value) (2 ^ 56 - 1) (lt-ltb (i .value) (2 ^ 56) l)))
+
+  pub told-beyond : 2 ^ 56 ≤ i .value → i .number + 256 * (2 ^ 56 - 1) ≡ told (i .number) (i .value)
+  told-beyond l = ap (λ (n : ℕ). i .number + 256 * n) (sym (if-false (ltb (i .value) (2 ^ 56)) (i .value) (2 ^ 56 - 1) (le-ltb (i .value) (2 ^ 56) l)))
+
+-- ---- the calls
 
 -- each refusal's number is small
-low : {rules : Rules} {ok : Lawful (rules .row)} {code map : List ℕ} {work : ℕ} {i : Inspection} → Verdict rules ok code map work i → numberOf i ≤ 17
+low : {rules : Rules} {ok : Lawful (rules .row)} {code map : List ℕ} {from work : ℕ} {i : Inspection} → Verdict rules ok code map from work i → numberOf i ≤ 17
 low (code-over h) = omega arith
 low (mode-over c h) = omega arith
 low (work-short c k h) = omega arith
@@ -27,21 +44,24 @@ low (entry-bad t h) = omega arith
 low (path-wrong t q h) = omega arith
 low (all-right t q h) = omega arith
 
-module _ {mode : ℕ} {code map w place w′ place′ : List ℕ} {r : Inspected} (d : InspectedAs mode code map w place w′ place′ r) where
+-- of a result that is the definition's
+module _ (mode : ℕ) (code map : List ℕ) (from work : ℕ) {r : Inspected} (e : r ≡ resultOf (inspect-from (in-mode mode) code map from work)) where
   number-low : r .number ≤ 17
-  number-low = omega (arith, ap (λ (x : Inspected). x .number) (d .result), low (verdict (in-mode mode) lawful code map (length w)))
+  number-low = omega (arith, ap (λ (x : Inspected). x .number) e, low (verdict (in-mode mode) lawful code map from work))
 
-  pub inspect-sum : r .value < 2 ^ 56 → Fits w64 (r .number + 256 * r .value)
-  inspect-sum l = omega (arith, number-low)
+  number-is : {x : ℕ} → x ≡ told (r .number) (r .value) → x ≡ exported (inspect-from (in-mode mode) code map from work)
+  number-is k = k ∙ ap (λ (y : Inspected). told (y .number) (y .value)) e
 
-  pub inspect-most : Fits w64 (r .number + 256 * (2 ^ 56 - 1))
-  inspect-most = omega (arith, number-low)
+module _ {mode : ℕ} {code map w place w′ place′ : List ℕ} {r : Inspected} (d : InspectedAs mode code map w place w′ place′ r) where
+  pub inspect-low : r .number ≤ 17
+  inspect-low = number-low mode code map 0 (length w) (d .result)
 
-  given : {x : ℕ} → x ≡ told (r .number) (r .value) → ExportedInspect mode code map w place w′ place′ x
-  given e = record { number = e ∙ ap (λ (y : Inspected). told (y .number) (y .value)) (d .result); w-is = d .w-is; place-is = d .place-is }
+  pub inspect-given : {x : ℕ} → x ≡ told (r .number) (r .value) → ExportedInspect mode code map w place w′ place′ x
+  inspect-given e = record { number = number-is mode code map 0 (length w) (d .result) e; w-is = d .w-is; place-is = d .place-is }
 
-  pub inspect-given : r .value < 2 ^ 56 → ExportedInspect mode code map w place w′ place′ (r .number + 256 * r .value)
-  inspect-given l = given (ap (λ (n : ℕ). r .number + 256 * n) (sym (if-true (ltb (r .value) (2 ^ 56)) (r .value) (2 ^ 56 - 1) (lt-ltb (r .value) (2 ^ 56) l))))
+module _ {mode : ℕ} {code map : List ℕ} {from : ℕ} {w rs w′ rs′ : List ℕ} {r : Inspected} (d : InspectedFrom mode code map from w rs w′ rs′ r) where
+  pub from-low : r .number ≤ 17
+  from-low = number-low mode code map from (length w) (d .result)
 
-  pub inspect-beyond : 2 ^ 56 ≤ r .value → ExportedInspect mode code map w place w′ place′ (r .number + 256 * (2 ^ 56 - 1))
-  inspect-beyond l = given (ap (λ (n : ℕ). r .number + 256 * n) (sym (if-false (ltb (r .value) (2 ^ 56)) (r .value) (2 ^ 56 - 1) (le-ltb (r .value) (2 ^ 56) l))))
+  pub from-given : {x : ℕ} → x ≡ told (r .number) (r .value) → ExportedInspectFrom mode code map from w rs w′ rs′ x
+  from-given e = record { number = number-is mode code map from (length w) (d .result) e; w-is = d .w-is; rows-are = d .rows-are }

@@ -10,7 +10,7 @@ use Rattle.aznifrem.specs.Contracts.{Exported, ExportedJson}
 use Rattle.aznifrem.specs.Reports.{ExportedReport}
 use Rattle.aznifrem.specs.Archives.{ExportedSalvage}
 use Rattle.aznifrem.specs.FollowContract.{ExportedFollow}
-use Rattle.aznifrem.specs.InspectContract.{ExportedInspect}
+use Rattle.aznifrem.specs.InspectContract.{ExportedInspect, ExportedInspectFrom}
 
 pub one-exported : {limit choice mode x y : ℕ} {code out u v : List ℕ} {m m′ m″ : Mem} → Exported limit choice mode code m out m′ u x → Exported limit choice mode code m out m″ v y
     → (x ≡ y) × (m′ ≡ m″) × (u ≡ v)
@@ -44,3 +44,7 @@ one-exported-follow p q = (p .number ∙ sym (q .number), p .work-is ∙ sym (q 
 pub one-exported-inspect : {mode : ℕ} {code map w place v u p q : List ℕ} {x y : ℕ} → ExportedInspect mode code map w place v p x → ExportedInspect mode code map w place u q y
     → (x ≡ y) × (v ≡ u) × (p ≡ q)
 one-exported-inspect c d = (c .number ∙ sym (d .number), c .w-is ∙ sym (d .w-is), c .place-is ∙ sym (d .place-is))
+
+pub one-exported-inspect-from : {mode from : ℕ} {code map w rs v u p q : List ℕ} {x y : ℕ} → ExportedInspectFrom mode code map from w rs v p x → ExportedInspectFrom mode code map from w rs u q y
+    → (x ≡ y) × (v ≡ u) × (p ≡ q)
+one-exported-inspect-from c d = (c .number ∙ sym (d .number), c .w-is ∙ sym (d .w-is), c .rows-are ∙ sym (d .rows-are))

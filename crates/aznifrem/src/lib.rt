@@ -12,6 +12,7 @@ use reader::read;
 pub use release::aznifrem_report_add;
 pub use release::aznifrem_report_join;
 pub use second::aznifrem_inspect;
+pub use second::aznifrem_inspect_from;
 pub use trace::aznifrem_follow;
 ghost use mathlib.Core.Path.{_≡_};
 ghost use Rattle.spec.specs.Reader as definitions;

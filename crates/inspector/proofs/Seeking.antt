@@ -1,12 +1,12 @@
 -- The edges of the map, an entry after the other: what is left to look through ends as the whole does. Assumes nothing.
-use Prim.Native.Nat.{ℕ, _+_, _-_, _<_}
+use Prim.Native.Nat.{ℕ, _+_, _-_, _≤_, _<_}
 use native.Mathlib.Omega.{arith}
 use mathlib.Core.Path.{_≡_, refl, sym, ap, subst, _∙_}
 use mathlib.Core.Bool.{Bool, true, false, _&&_, _||_, not}
 use mathlib.Core.List.{List, [], _∷_, _++_}
-use lib.Dec.{eqb}
+use lib.Dec.{eqb, leb}
 use lib.ListN.{length}
-use borrow.Author.Tests.{eq-eqb, ne-eqb, eqb-true}
+use borrow.Author.Tests.{eq-eqb, ne-eqb, eqb-true, leb-true}
 use Rattle.spec.specs.Lists.{if, mem, some?}
 use Rattle.spec.specs.Blocks.{jumpi}
 use Rattle.spec.specs.Search.{sides, Found, Rec, dest, dests}
@@ -14,13 +14,15 @@ use Rattle.spec.specs.Ending.{Final}
 use Rattle.spec.specs.Entries.{Map}
 use Rattle.spec.specs.Reader.{Reading, holds, bad, Item, a-head, a-block, a-way, a-record, no-item, items, ways, finals-in, read}
 use Rattle.spec.specs.Inspector.{targets, edge?}
-use Rattle.laws.proofs.Branch.{if-true, if-false}
+use Rattle.laws.proofs.Branch.{both, if-true, if-false}
+use Rattle.laws.proofs.Lists.{Rising, one-more}
 use Rattle.laws.proofs.Members.{mem-append, or-right}
 use Rattle.theorems.proofs.ReaderPlaces.{never}
-use Rattle.theorems.proofs.ReaderAccepted.{read-blocks}
+use Rattle.theorems.proofs.ReaderAccepted.{read-blocks, read-rises}
+use Rattle.theorems.proofs.Answered.{finals-at}
 use Rattle.reader.specs.Dests.{foundOf}
-use Rattle.reader.specs.Shapes.{from, itemOf}
-use Rattle.reader.specs.Walks.{walkAt, itemsFrom, Walking}
+use Rattle.reader.specs.Shapes.{from, entryAt, behindAt, itemOf}
+use Rattle.reader.specs.Walks.{walkAt, itemsFrom, Walking, over, here}
 use Rattle.reader.specs.declared.dest.Destination.{Destination}
 use Rattle.reader.specs.declared.dest.Destination.the-variants.{Missing, At}
 use Rattle.reader.specs.declared.entry.Entry.{Entry}
@@ -28,7 +30,7 @@ use Rattle.reader.specs.declared.entry.Entry.the-variants.{Head, Terminate, Jum
 use Rattle.reader.specs.declared.walk.Walk.{Walk}
 use Rattle.reader.specs.declared.walk.Walk.the-variants.{Here, Over}
 use Rattle.reader.proofs.Walked.{begins, Steps, stepping, ended}
-use Rattle.inspector.specs.Edges.{heldIn, mapIn, Ready, edgeAmong, edgeFrom, edgeIn, sightBy, sightOf, Sought, Passes}
+use Rattle.inspector.specs.Edges.{heldIn, mapIn, Ready, edgeAmong, edgeFrom, edgeIn, sightBy, sightOf, Stands, Sought}
 use Rattle.inspector.specs.declared.seek.Sight.{Sight}
 use Rattle.inspector.specs.declared.seek.Sight.the-variants.{Edge, Own, Other}
 
@@ -119,7 +121,7 @@ mem-sides x t f = go (eqb t f) refl
     go false e = ap (mem x) (if-false false (t ∷ []) (t ∷ f ∷ []) refl)
 
 -- what is left, by what an entry is
-abbrev goesOn : ℕ → ℕ → List Item → Sight → Bool
+abbrev pub goesOn : ℕ → ℕ → List Item → Sight → Bool
 goesOn x y is Edge = true
 goesOn x y is Own = edgeAmong x y true is
 goesOn x y is Other = edgeAmong x y false is
@@ -144,47 +146,26 @@ module _ (x y : ℕ) (is : List Item) where
   edge-step b Wrong mine = refl
   edge-step b Cut mine = refl
 
--- ---- the loop of seek
+-- what a step of the walk has found
+pub walk-here : (b : List ℕ) (at : ℕ) {r : Walk} → r ≡ walkAt b at → {e : Entry} {to : ℕ} → r ≡ Here e to → (e ≡ entryAt b at) × (to ≡ behindAt b at)
+unfolding walkAt
+walk-here b at {r} h {e} {to} q =
+    both (λ (x : Walk). r ≡ x → (e ≡ entryAt b at) × (to ≡ behindAt b at)) (leb (length b) at)
+    (λ _ (k : r ≡ Over). never (cc))
+    (λ _ (k : r ≡ Here (entryAt b at) (behindAt b at)). (cc, cc)) h
 
-pub record Seeking (b : List ℕ) (x y start at : ℕ) (mine : Bool) : Type 0 where
-  pub walking : Walking b at
-  pub rest : edgeFrom b x y mine at ≡ edgeFrom b x y false start
+pub walk-end : (b : List ℕ) (at : ℕ) → Walking b at → {r : Walk} → r ≡ walkAt b at → r ≡ Over → at ≡ length b
+unfolding walkAt
+walk-end b at w {r} h q =
+    both (λ (x : Walk). r ≡ x → at ≡ length b) (leb (length b) at)
+    (λ z _. by-walk w (leb-true (length b) at z))
+    (λ _ (k : r ≡ Here (entryAt b at) (behindAt b at)). never (cc)) h
+  where
+    by-walk : Walking b at → length b ≤ at → at ≡ length b
+    by-walk (over z) l = z
+    by-walk (here m n v) l = absurd (omega arith)
 
-pub seek-start : {b : List ℕ} {x y start : ℕ} → Walking b start → Seeking b x y start start false
-seek-start w = record { walking = w; rest = refl }
-
-module _ {b : List ℕ} {x y start at : ℕ} {mine : Bool} (i : Seeking b x y start at mine) {r : Walk} (h : r ≡ walkAt b at) where
-  pub seek-over : {all : Bool} → r ≡ Over → Sought b x y start all false
-  unfolding edgeAmong
-  seek-over q =
-      let e : edgeFrom b x y false start ≡ false = sym (i .rest) ∙ ap (edgeAmong x y mine) (ended (i .walking) h q) in
-      record { is = λ z. never (cc); no = λ _ _. e }
-
-  module _ {e : Entry} {to : ℕ} (q : r ≡ Here e to) {s : Sight} (k : s ≡ sightOf e mine y x) where
-    step : Steps b at e to
-    step = stepping (i .walking) h q
-
-    there : goesOn x y (itemsFrom b to) s ≡ edgeFrom b x y false start
-    there = ap (goesOn x y (itemsFrom b to)) k ∙ sym (edge-step x y (itemsFrom b to) b e mine) ∙ ap (edgeAmong x y mine) (sym (step .item)) ∙ i .rest
-
-    pub seek-less : length b - to < length b - at
-    seek-less = omega (arith, step .on, step .inside)
-
-    pub seek-edge : {all : Bool} → s ≡ Edge → Sought b x y start all true
-    seek-edge z =
-        let e : true ≡ edgeFrom b x y false start = ap (goesOn x y (itemsFrom b to)) (sym z) ∙ there in
-        record { is = λ _. sym e; no = λ _ f. never (cc) }
-
-    pub seek-own : s ≡ Own → Seeking b x y start to true
-    seek-own z = record { walking = step .walking; rest = ap (goesOn x y (itemsFrom b to)) (sym z) ∙ there }
-
-    pub seek-other : s ≡ Other → Seeking b x y start to false
-    seek-other z = record { walking = step .walking; rest = ap (goesOn x y (itemsFrom b to)) (sym z) ∙ there }
-
-pub seek-stops : {b : List ℕ} {x y start : ℕ} (all : Bool) → not all ≡ true → Sought b x y start all false
-seek-stops all n = let e = off all n in record { is = λ z. never (cc); no = λ f. never (cc) }
-
--- ---- an edge that stands from an offset on is one of the map
+-- ---- an edge that stands behind an entry
 
 module _ (x y : ℕ) where
   -- with the block before them as well
@@ -206,23 +187,62 @@ module _ (x y : ℕ) where
   edge-more mine (a-record numbered r) is e = e
   edge-more mine no-item is e = e
 
-pub pass-start : {b : List ℕ} → Ready b → Passes b 0
-pass-start y = record { walking = ready-walks y; among = λ x y e. e }
+-- ---- the loop of seek
 
-module _ {b : List ℕ} {at : ℕ} (p : Passes b at) {r : Walk} (h : r ≡ walkAt b at) {e : Entry} {to : ℕ} (q : r ≡ Here e to) where
-  pub pass-on : Passes b to
-  pass-on =
-      let s = stepping (p .walking) h q in
-      record {
-        walking = s .walking;
-        among = λ x y k. p .among x y (ap (edgeAmong x y false) (s .item) ∙ edge-more x y false (itemOf b e) (itemsFrom b to) k);
-      }
+pub record Seeking (b : List ℕ) (x y start at : ℕ) (mine : Bool) : Type 0 where
+  pub stands : Stands b y start
+  pub walking : Walking b at
+  pub rest : edgeFrom b x y mine at ≡ edgeIn b x y
+  pub fresh : mine ≡ false → at ≡ start
+  pub lone : mine ≡ true → edgeFrom b x y false at ≡ false
 
-  pub pass-less : length b - to < length b - at
-  pass-less = let s = stepping (p .walking) h q in omega (arith, s .on, s .inside)
+pub seek-start : {b : List ℕ} {x y start : ℕ} → Stands b y start → Seeking b x y start start false
+seek-start {x = x} s = record { stands = s; walking = s .walking; rest = s .same x; fresh = λ _. refl; lone = λ z. never (cc) }
 
-  pub pass-in : at < length b
-  pass-in = let s = stepping (p .walking) h q in omega (arith, s .on, s .inside)
+module _ {b : List ℕ} {x y start at : ℕ} {mine : Bool} (i : Seeking b x y start at mine) {r : Walk} (h : r ≡ walkAt b at) where
+  pub seek-over : r ≡ Over → Sought b x y false
+  unfolding edgeAmong
+  seek-over q = record { is = sym (ap (edgeAmong x y mine) (ended (i .walking) h q)) ∙ i .rest }
+
+  module _ {e : Entry} {to : ℕ} (q : r ≡ Here e to) {s : Sight} (k : s ≡ sightOf e mine y x) where
+    step : Steps b at e to
+    step = stepping (i .walking) h q
+
+    here-is : (e ≡ entryAt b at) × (to ≡ behindAt b at)
+    here-is = walk-here b at h q
+
+    there : goesOn x y (itemsFrom b to) s ≡ edgeIn b x y
+    there = ap (goesOn x y (itemsFrom b to)) k ∙ sym (edge-step x y (itemsFrom b to) b e mine) ∙ ap (edgeAmong x y mine) (sym (step .item)) ∙ i .rest
+
+    pub seek-less : length b - to < length b - at
+    seek-less = omega (arith, step .on, step .inside)
+
+    pub seek-edge : s ≡ Edge → Sought b x y true
+    seek-edge z = record { is = ap (goesOn x y (itemsFrom b to)) (sym z) ∙ there }
+
+    -- nothing of y stands behind this entry, but its own 7s
+    lone-on : (c : Bool) → mine ≡ c → edgeFrom b x y false to ≡ false
+    lone-on true m = none-more (edgeFrom b x y false to) refl
+      where
+        none-more : (d : Bool) → edgeFrom b x y false to ≡ d → edgeFrom b x y false to ≡ false
+        none-more false e₁ = e₁
+        none-more true e₁ =
+            let z : edgeFrom b x y false at ≡ true = ap (edgeAmong x y false) (step .item) ∙ edge-more x y false (itemOf b e) (itemsFrom b to) e₁ in
+            let w : edgeFrom b x y false at ≡ false = i .lone m in
+            never (cc)
+    lone-on false m = subst (λ (n : ℕ). edgeFrom b x y false n ≡ false) (sym (here-is .1 ∙ ap (behindAt b) (i .fresh m))) (i .stands .lone x)
+
+    pub seek-own : s ≡ Own → Seeking b x y start to true
+    seek-own z = record {
+      stands = i .stands;
+      walking = step .walking;
+      rest = ap (goesOn x y (itemsFrom b to)) (sym z) ∙ there;
+      fresh = λ z. never (cc);
+      lone = λ _. lone-on mine refl;
+    }
+
+    pub seek-other : s ≡ Other → Sought b x y false
+    seek-other z = record { is = sym (lone-on mine refl) ∙ ap (goesOn x y (itemsFrom b to)) (sym z) ∙ there }
 
 -- ---- the definition's edges
 
@@ -265,3 +285,18 @@ module _ (x y : ℕ) where
 pub edge-is : {b : List ℕ} → Ready b → (x y : ℕ) → edgeIn b x y ≡ edge? (mapIn b) x y
 unfolding itemsFrom from
 edge-is {b} h x y = among-is x y false 0 (itemsFrom b 0) ∙ ap (some? (test x y)) (read-blocks b (mapIn b) (h .held))
+
+-- ---- blocks rise
+
+-- none of them starts below
+rising-none : (x y : ℕ) (fs : List Final) {lo : ℕ} → Rising lo (finals-at fs) → y < lo → some? (test x y) fs ≡ false
+rising-none x y [] r h = refl
+rising-none x y (f ∷ fs) (one-more l r) h =
+    ap (λ (c : Bool). (c && mem x (targets f)) || some? (test x y) fs) (ne-eqb y (f .block .start) (λ e. omega arith)) ∙ rising-none x y fs r (omega arith)
+
+pub none-below : (x y : ℕ) (is : List Item) {lo : ℕ} → Rising lo (finals-at (finals-in is)) → y < lo → edgeAmong x y false is ≡ false
+none-below x y is r h = among-is x y false 0 is ∙ rising-none x y (finals-in is) r h
+
+pub all-rise : {b : List ℕ} → Ready b → Rising 0 (finals-at (finals-in (itemsFrom b 0)))
+unfolding itemsFrom from
+all-rise {b} y = subst (λ (fs : List Final). Rising 0 (finals-at fs)) (sym (read-blocks b (mapIn b) (y .held))) (read-rises b (mapIn b) (y .held))

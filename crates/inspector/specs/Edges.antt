@@ -9,6 +9,7 @@ use Rattle.spec.specs.Search.{sides, dest}
 use Rattle.spec.specs.Entries.{Map}
 use Rattle.spec.specs.Reader.{Reading, holds, bad, Item, a-head, a-block, a-way, a-record, no-item, read}
 use Rattle.reader.specs.Dests.{foundOf}
+use Rattle.reader.specs.Shapes.{behindAt, entryAt}
 use Rattle.reader.specs.Walks.{itemsFrom, Walking}
 use Rattle.reader.specs.declared.entry.Entry.{Entry}
 use Rattle.reader.specs.declared.entry.Entry.the-variants.{Head, Terminate, Jump, Jumpi, DynamicJump, DynamicJumpi, Way, Record, Unknown, Wrong, Cut}
@@ -65,17 +66,15 @@ sightOf Cut mine y x = Other
 
 -- ---- what is found
 
-pub record Sought (b : List ℕ) (x y start : ℕ) (all r : Bool) : Type 0 where
-  pub is : r ≡ true → edgeFrom b x y false start ≡ true
-  pub no : all ≡ true → r ≡ false → edgeFrom b x y false start ≡ false
-
--- an offset that the walk over the map comes to: an edge that stands from there on is one of the map
-pub record Passes (b : List ℕ) (at : ℕ) : Type 0 where
+-- the block that starts at y stands at an offset, with all edges from y: nothing of y stands behind its 7s
+pub record Stands (b : List ℕ) (y at : ℕ) : Type 0 where
   pub walking : Walking b at
-  pub among : (x y : ℕ) → edgeFrom b x y false at ≡ true → edgeIn b x y ≡ true
+  pub own : (x : ℕ) → sightOf (entryAt b at) false y x ≡ Other → ⊥
+  pub lone : (x : ℕ) → edgeFrom b x y false (behindAt b at) ≡ false
+  pub same : (x : ℕ) → edgeFrom b x y false at ≡ edgeIn b x y
 
-pub record Near (b : List ℕ) (x y : ℕ) (r : Bool) : Type 0 where
-  pub is : r ≡ true → edgeIn b x y ≡ true
+pub record Sought (b : List ℕ) (x y : ℕ) (r : Bool) : Type 0 where
+  pub is : r ≡ edgeIn b x y
 
 -- an edge from y to x as a number that is not 0
 abbrev pub pairOf : ℕ → ℕ → ℕ

@@ -1,47 +1,64 @@
 -- The path entries of a map's bytes. Assumes nothing.
-use Prim.Native.Nat.{ℕ}
+use Prim.Native.Nat.{ℕ, _-_, _<_}
 use mathlib.Core.Path.{_≡_}
-use mathlib.Core.List.{List}
+use mathlib.Core.Bool.{Bool, true, false}
+use mathlib.Core.List.{List, [], _∷_}
+use lib.ListN.{length}
 use Rattle.spec.specs.Opcodes.{in-mode}
 use Rattle.spec.specs.Forms.{wide-in}
-use Rattle.spec.specs.Inspector.{path-entries, Inspection, refused, bad-entry, not-right, accepted, first-wrong}
+use Rattle.spec.specs.Inspector.{path-entries, WrongPath, all-wrong, since}
 use Rattle.reader.specs.Shapes.{from}
+use Rattle.reader.specs.Walks.{Walking}
+use Rattle.reader.specs.declared.dest.Destination.{Destination}
 use Rattle.reader.specs.declared.dest.Destination.the-variants.{Missing, At}
 use Rattle.reader.specs.declared.entry.Entry.{Entry}
 use Rattle.reader.specs.declared.entry.Entry.the-variants.{Head, Terminate, Jump, Jumpi, DynamicJump, DynamicJumpi, Way, Record, Unknown, Wrong, Cut}
 use Rattle.inspector.specs.Edges.{mapIn}
 use Rattle.inspector.specs.Tables.{Filled}
+use Rattle.inspector.specs.declared.path.Path as path
 use Rattle.inspector.specs.declared.entries.Shown.{Shown}
 use Rattle.inspector.specs.declared.entries.Shown.the-variants.{Path, Of}
 use Rattle.inspector.specs.declared.entries.Finding.{Finding}
 use Rattle.inspector.specs.declared.entries.Finding.the-variants as finding
 
-abbrev pub shownOf : Entry → ℕ → Shown
-shownOf (Way Missing path n) b = Of b
-shownOf (Way (At t) path n) b = Path b (record { at = path; count = n; to = t })
-shownOf (Record s Missing form v path n) b = Of b
-shownOf (Record s (At t) form v path n) b = Path s (record { at = path; count = n; to = t })
-shownOf (Terminate s e ok) b = Of s
-shownOf (Jump s e t) b = Of s
-shownOf (Jumpi s e t f) b = Of s
-shownOf (DynamicJump s e n) b = Of s
-shownOf (DynamicJumpi s e f n) b = Of s
-shownOf (Head size n m energy) b = Of b
-shownOf Unknown b = Of b
-shownOf Wrong b = Of b
-shownOf Cut b = Of b
+-- a path of the block at s, where it is asked of and has a destination
+abbrev pub shownBy : Bool → ℕ → ℕ → Destination → ℕ → ℕ → Shown
+shownBy false b s d path n = Of b
+shownBy true b s Missing path n = Of b
+shownBy true b s (At t) path n = Path s (record { at = path; count = n; to = t })
 
--- of what is looked at only where nothing is refused
-abbrev pub findingOf : Inspection → Finding
-findingOf accepted = finding.Right
-findingOf (not-right at place) = finding.Wrong at place
-findingOf (bad-entry at) = finding.Right
-findingOf (refused n) = finding.Right
+abbrev pub shownOf : Entry → ℕ → Bool → Shown
+shownOf (Way d path n) b asked = shownBy asked b b d path n
+shownOf (Record s d form v path n) b asked = shownBy asked b s d path n
+shownOf (Terminate s e ok) b asked = Of s
+shownOf (Jump s e t) b asked = Of s
+shownOf (Jumpi s e t f) b asked = Of s
+shownOf (DynamicJump s e n) b asked = Of s
+shownOf (DynamicJumpi s e f n) b asked = Of s
+shownOf (Head size n m energy) b asked = Of b
+shownOf Unknown b asked = Of b
+shownOf Wrong b asked = Of b
+shownOf Cut b asked = Of b
 
--- what is found from an offset on, where b is the block before
-abbrev pub lookedFrom : ℕ → List ℕ → List ℕ → ℕ → ℕ → Inspection
-lookedFrom mode map code b at = first-wrong (in-mode mode) code (mapIn map) (path-entries (wide-in map) b (from map at))
+abbrev pub blockIn : Shown → ℕ
+blockIn (Of a) = a
+blockIn (Path s p) = s
 
-pub record LooksAt (mode : ℕ) (map code w w′ : List ℕ) (r : Finding) : Type 0 where
-  pub is : r ≡ findingOf (lookedFrom mode map code 0 0)
+-- the start of a block; of another entry the number that is given
+abbrev pub startIn : Entry → ℕ → ℕ
+startIn e none = blockIn (shownOf e none false)
+
+-- all that are not right of those at the offset `lo` or later, from an offset on, where b is the block before
+abbrev pub wrongFrom : ℕ → List ℕ → List ℕ → ℕ → ℕ → ℕ → List WrongPath
+wrongFrom mode map code lo b at = all-wrong (in-mode mode) code (mapIn map) (since lo (path-entries (wide-in map) b (from map at)))
+
+-- a finding, and what is behind it
+abbrev pub wrongIn : ℕ → List ℕ → List ℕ → ℕ → Finding → List WrongPath
+wrongIn mode map code lo finding.Right = []
+wrongIn mode map code lo (finding.Wrong o p to b) = record { offset = o; place = p } ∷ wrongFrom mode map code lo b to
+
+pub record LooksAt (mode : ℕ) (map code : List ℕ) (lo start block : ℕ) (w w′ : List ℕ) (r : Finding) : Type 0 where
+  pub is : wrongFrom mode map code lo block start ≡ wrongIn mode map code lo r
+  pub walking : {o p to b : ℕ} → r ≡ finding.Wrong o p to b → Walking map to
+  pub less : {o p to b : ℕ} → r ≡ finding.Wrong o p to b → length map - to < length map - start
   pub filled : Filled map code w w′

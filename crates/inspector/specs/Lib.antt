@@ -4,4 +4,5 @@ pub mod Paths
 pub mod Symbols
 pub mod Judging
 pub mod Entries
+pub mod Listing
 pub mod Calling

@@ -1,20 +1,22 @@
 // The inspector: "takes code and a map in our form".
 use crate::entries::Finding;
-use crate::entries::entries;
 use crate::fill::fill;
+use crate::list::listed;
 use layout::LONGEST;
 use layout::part::NEED;
 use layout::part::NEED_MORE;
-use lent::put64;
+use lent::copy;
 use lent::wipe;
 use reader::read;
 use state::mode::Mode;
+use state::mode::mode_of;
 ghost use mathlib.Core.Path.{_≡_};
 ghost use Prim.Native.Nat.{_≤_};
+ghost use lib.ListN.{length};
 ghost use Rattle.state.specs.Modes.{modeOf};
 ghost use Rattle.inspector.specs.Edges.{Ready};
 ghost use Rattle.inspector.specs.Symbols.{Lent};
-ghost use Rattle.inspector.specs.Calling.{refusedBy, Found, Tells, InspectedAs};
+ghost use Rattle.inspector.specs.Calling.{refusedBy, Found, Tells, InspectedFrom, InspectedAs};
 
 // "12 as in No. 2; 17, path entry not right, with its offset".
 const BAD: usize = 12;
@@ -25,17 +27,6 @@ const WRONG: usize = 17;
 pub struct Inspected {
     pub number: usize,
     pub value: usize,
-}
-
-// The mode of a number that is one.
-fn mode_of(mode: usize) -> Mode
-    requires { ⌜ mode ≤ 1 ⌝ }
-    ensures { λ m. ⌜ modeOf m ≡ mode ⌝ }
-{
-    if mode == 0 {
-        return Mode::Plain;
-    }
-    Mode::KnownZero
 }
 
 // The first of 1, 13 and 3 that applies to a code of n bytes, a mode, and a W of so many bytes; 0 if none does.
@@ -55,31 +46,28 @@ fn early(n: usize, mode: usize, w: usize) -> usize
 }
 
 // Judges the path entries of a map that is none of the refused, and leaves W wiped.
-fn found(mode: Mode, code: &[u8], map: &[u8], w: &mut [u8]) -> Finding
+fn found(mode: Mode, code: &[u8], map: &[u8], w: &mut [u8], from: usize, rows: &mut [u8]) -> Finding
     requires { ⌜ Ready (now map) ⌝ }
     requires { ⌜ Lent (now code) (now w) ⌝ }
-    ensures { λ r. ⌜ Found (modeOf mode) (now (map .entry)) (now (code .entry)) (now (w .entry)) (now (w .exit)) r ⌝ }
+    ensures { λ r. ⌜ Found (modeOf mode) (now (map .entry)) (now (code .entry)) from (now (w .entry)) (now (rows .entry)) (now (w .exit)) (now (rows .exit)) r ⌝ }
 {
-    wipe(w);
+    wipe(w); // What the caller left there is no table.
     fill(map, code, w);
-    let r = entries(mode, code, map, w);
-    wipe(w);
+    let r = listed(mode, code, map, w, from, rows);
+    wipe(w); // It is lent for the call, and tells nothing afterwards.
     r
 }
 
-// Writes the place in the path, where it has 8 bytes.
-fn tell(place: &mut [u8], at: usize)
-    ensures { λ _. ⌜ Tells (now (place .entry)) at (now (place .exit)) ⌝ }
-{
-    if place.len() < 8 {
-        return;
-    }
-    put64(place, 0, at);
-}
-
-// Inspects the path entries of a stored map against a code, in mode 0 or 1.
-pub fn inspect(mode: usize, code: &[u8], map: &[u8], w: &mut [u8], place: &mut [u8]) -> Inspected
-    ensures { λ r. ⌜ InspectedAs mode (now (code .entry)) (now (map .entry)) (now (w .entry)) (now (place .entry)) (now (w .exit)) (now (place .exit)) r ⌝ }
+// Inspects the path entries of a stored map that stand at the offset `from` or later against a code, in mode 0 or 1.
+pub fn inspect_from(
+    mode: usize,
+    code: &[u8],
+    map: &[u8],
+    from: usize,
+    w: &mut [u8],
+    rows: &mut [u8],
+) -> Inspected
+    ensures { λ r. ⌜ InspectedFrom mode (now (code .entry)) (now (map .entry)) from (now (w .entry)) (now (rows .entry)) (now (w .exit)) (now (rows .exit)) r ⌝ }
 {
     let number = early(code.len(), mode, w.len());
     if number != 0 {
@@ -93,17 +81,37 @@ pub fn inspect(mode: usize, code: &[u8], map: &[u8], w: &mut [u8], place: &mut [
             value: r.offset,
         };
     }
-    match found(mode_of(mode), code, map, w) {
+    match found(mode_of(mode), code, map, w, from, rows) {
         Finding::Right => Inspected {
             number: 0,
             value: 0,
         },
-        Finding::Wrong { offset, place: at } => {
-            tell(place, at);
-            Inspected {
-                number: WRONG,
-                value: offset,
-            }
-        }
+        Finding::Wrong { offset, .. } => Inspected {
+            number: WRONG,
+            value: offset,
+        },
     }
+}
+
+// Copies the place in the path out of a row, where it has 8 bytes.
+fn tell(place: &mut [u8], row: &[u8])
+    requires { ⌜ 16 ≤ length (now row) ⌝ }
+    ensures { λ _. ⌜ Tells (now (place .entry)) (now (row .entry)) (now (place .exit)) ⌝ }
+{
+    if place.len() < 8 {
+        return;
+    }
+    copy(place, 0, row, 8, 8);
+}
+
+// Inspects all of them; of the first that is not right the place in its path.
+pub fn inspect(mode: usize, code: &[u8], map: &[u8], w: &mut [u8], place: &mut [u8]) -> Inspected
+    ensures { λ r. ⌜ InspectedAs mode (now (code .entry)) (now (map .entry)) (now (w .entry)) (now (place .entry)) (now (w .exit)) (now (place .exit)) r ⌝ }
+{
+    let mut row = [0u8; 16];
+    let i = inspect_from(mode, code, map, 0, w, &mut row);
+    if i.number == WRONG {
+        tell(place, &row);
+    }
+    i
 }

@@ -1,4 +1,4 @@
-// An edge of the map, found in a few steps: by the table of edges that were found, by the row of the block that it leaves, or by the whole map.
+// An edge of the map, found in a few steps: by the table of edges that were found, or by the row of the block that it leaves.
 // "blocks joined by edges of that map"
 // W has a number of 8 bytes for each address, one more than the offset of the block that starts there, and five for each address of edges found.
 use crate::seek::seek;
@@ -6,26 +6,24 @@ use lent::get64;
 use lent::put64;
 ghost use Prim.Native.Nat.{_<_};
 ghost use lib.ListN.{length};
-ghost use Rattle.inspector.specs.Edges.{Ready, Near};
+ghost use Rattle.inspector.specs.Edges.{Sought};
 ghost use Rattle.inspector.specs.Tables.{Tables, Between, Joined};
 
-// Looks for it at the block that starts at `from`, if its row has one.
+// Looks for it at the block that starts at `from`, if there is one.
 fn near(map: &[u8], code: &[u8], w: &[u8], from: usize, to: usize) -> bool
     requires { ⌜ Tables (now map) (now code) (now w) ⌝ }
     requires { ⌜ from < length (now code) ⌝ }
-    ensures { λ r. ⌜ Near (now (map .entry)) to from r ⌝ }
+    ensures { λ r. ⌜ Sought (now (map .entry)) to from r ⌝ }
 {
     let at = get64(w, 8 * from);
     if at == 0 {
         return false;
     }
-    seek(map, at - 1, false, from, to)
+    seek(map, at - 1, from, to)
 }
 
-// Whether the map has an edge between two starts. It is looked for in the whole map only where the row of its block does not lead to it: every block has a
-// row, so that this is where there is no such edge.
+// Whether the map has an edge between two starts.
 pub fn joined(map: &[u8], code: &[u8], w: &mut [u8], from: usize, to: usize) -> bool
-    requires { ⌜ Ready (now map) ⌝ }
     requires { ⌜ Tables (now map) (now code) (now w) ⌝ }
     requires { ⌜ Between (now code) from to ⌝ }
     ensures { λ r. ⌜ Joined (now (map .entry)) (now (code .entry)) (now (w .entry)) from to (now (w .exit)) r ⌝ }
@@ -36,9 +34,9 @@ pub fn joined(map: &[u8], code: &[u8], w: &mut [u8], from: usize, to: usize) -> 
     if get64(w, at) == pair {
         return true;
     }
-    if near(map, code, w, from, to) {
-        put64(w, at, pair);
-        return true;
+    if !near(map, code, w, from, to) {
+        return false;
     }
-    seek(map, 0, true, from, to)
+    put64(w, at, pair);
+    true
 }

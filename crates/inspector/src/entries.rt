@@ -12,7 +12,8 @@ ghost use mathlib.Core.Path.{_≡_};
 ghost use Rattle.state.specs.Modes.{modeOf};
 ghost use Rattle.inspector.specs.Edges.{Ready};
 ghost use Rattle.inspector.specs.Tables.{Tables};
-ghost use Rattle.inspector.specs.Entries.{shownOf, LooksAt};
+ghost use Rattle.reader.specs.Walks.{Walking};
+ghost use Rattle.inspector.specs.Entries.{shownBy, shownOf, LooksAt};
 
 // What an entry shows, with the start of the block before it: a path with a destination, of the block at `owner`; or the block that 7s behind it are of.
 pub enum Shown {
@@ -20,45 +21,53 @@ pub enum Shown {
     Of(usize),
 }
 
-// All are right; or the first that is not, by its offset, and the place in its path.
+// None is wrong; or the first that is, by its offset and the place in its path, with the offset behind it and the start of the block before that.
 pub enum Finding {
     Right,
-    Wrong { offset: usize, place: usize },
+    Wrong {
+        offset: usize,
+        place: usize,
+        behind: usize,
+        owner: usize,
+    },
 }
 
-// What an entry shows.
-fn shown_in(e: Entry, owner: usize) -> Shown
-    ensures { λ r. ⌜ r ≡ shownOf e owner ⌝ }
+// A path of `count` addresses at `at`, of the block at `block`, where it is asked of and has a destination.
+fn shown_by(
+    asked: bool,
+    owner: usize,
+    block: usize,
+    to: Destination,
+    at: usize,
+    count: usize,
+) -> Shown
+    ensures { λ r. ⌜ r ≡ shownBy asked owner block to at count ⌝ }
+{
+    if !asked {
+        return Shown::Of(owner);
+    }
+    match to {
+        Destination::Missing => Shown::Of(owner),
+        Destination::At(to) => Shown::Path {
+            owner: block,
+            path: Path { at, count, to },
+        },
+    }
+}
+
+// What an entry shows; `asked` says that it stands where entries are asked of.
+pub fn shown_in(e: Entry, owner: usize, asked: bool) -> Shown
+    ensures { λ r. ⌜ r ≡ shownOf e owner asked ⌝ }
 {
     match e {
-        Entry::Way { to, path, count } => match to {
-            Destination::Missing => Shown::Of(owner),
-            Destination::At(t) => Shown::Path {
-                owner,
-                path: Path {
-                    at: path,
-                    count,
-                    to: t,
-                },
-            },
-        },
+        Entry::Way { to, path, count } => shown_by(asked, owner, owner, to, path, count),
         Entry::Record {
             start,
             to,
             path,
             count,
             ..
-        } => match to {
-            Destination::Missing => Shown::Of(owner),
-            Destination::At(t) => Shown::Path {
-                owner: start,
-                path: Path {
-                    at: path,
-                    count,
-                    to: t,
-                },
-            },
-        },
+        } => shown_by(asked, owner, start, to, path, count),
         Entry::Terminate { start, .. } => Shown::Of(start),
         Entry::Jump { start, .. } => Shown::Of(start),
         Entry::Jumpi { start, .. } => Shown::Of(start),
@@ -71,27 +80,41 @@ fn shown_in(e: Entry, owner: usize) -> Shown
     }
 }
 
-// Judges them in order, up to the first that is not right.
-pub fn entries(mode: Mode, code: &[u8], map: &[u8], w: &mut [u8]) -> Finding
+// Judges those at the offset `from` or later, the walk standing at `start` behind the block at `block`, up to the first that is not right.
+pub fn entries(
+    mode: Mode,
+    code: &[u8],
+    map: &[u8],
+    w: &mut [u8],
+    from: usize,
+    start: usize,
+    block: usize,
+) -> Finding
     requires { ⌜ Ready (now map) ⌝ }
+    requires { ⌜ Walking (now map) start ⌝ }
     requires { ⌜ Tables (now map) (now code) (now w) ⌝ }
-    ensures { λ r. ⌜ LooksAt (modeOf mode) (now (map .entry)) (now (code .entry)) (now (w .entry)) (now (w .exit)) r ⌝ }
+    ensures { λ r. ⌜ LooksAt (modeOf mode) (now (map .entry)) (now (code .entry)) from start block (now (w .entry)) (now (w .exit)) r ⌝ }
 {
-    let mut at = 0;
-    let mut owner = 0;
+    let mut at = start;
+    let mut owner = block;
     loop {
         match next(map, at) {
-            Walk::Here { entry, behind } => match shown_in(entry, owner) {
-                Shown::Path { owner: block, path } => match judge(mode, code, map, w, block, path) {
+            Walk::Here { entry, behind } => match shown_in(entry, owner, from <= at) {
+                Shown::Path { owner: own, path } => match judge(mode, code, map, w, own, path) {
                     Place::Right => {
                         at = behind;
                     }
                     Place::Fails(place) => {
-                        return Finding::Wrong { offset: at, place };
+                        return Finding::Wrong {
+                            offset: at,
+                            place,
+                            behind,
+                            owner,
+                        };
                     }
                 },
-                Shown::Of(block) => {
-                    owner = block;
+                Shown::Of(own) => {
+                    owner = own;
                     at = behind;
                 }
             },

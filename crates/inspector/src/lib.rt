@@ -4,9 +4,11 @@ mod edge;
 mod entries;
 mod fill;
 mod known;
+mod list;
 mod path;
 mod seek;
 mod symbol;
 
 pub use call::Inspected;
 pub use call::inspect;
+pub use call::inspect_from;

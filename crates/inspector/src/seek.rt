@@ -9,8 +9,7 @@ ghost use mathlib.Core.List.{[], _∷_};
 ghost use Rattle.spec.specs.Lists.{mem};
 ghost use Rattle.spec.specs.Search.{dest};
 ghost use Rattle.reader.specs.Dests.{foundOf};
-ghost use Rattle.reader.specs.Walks.{Walking};
-ghost use Rattle.inspector.specs.Edges.{sightBy, sightOf, Sought};
+ghost use Rattle.inspector.specs.Edges.{sightBy, sightOf, Stands, Sought};
 
 // What an entry is to an edge that is looked for: it has the edge, it is of the block that the edge leaves, or of another.
 pub enum Sight {
@@ -82,10 +81,10 @@ fn sight_of(e: Entry, mine: bool, from: usize, to: usize) -> Sight
     }
 }
 
-// Looks for an edge from an offset on: up to the first entry that is not of the block, or, with `all`, to the end.
-pub fn seek(map: &[u8], start: usize, all: bool, from: usize, to: usize) -> bool
-    requires { ⌜ Walking (now map) start ⌝ }
-    ensures { λ r. ⌜ Sought (now (map .entry)) to from start all r ⌝ }
+// Looks for an edge of the block that stands at an offset, up to the first entry that is not of the block.
+pub fn seek(map: &[u8], start: usize, from: usize, to: usize) -> bool
+    requires { ⌜ Stands (now map) from start ⌝ }
+    ensures { λ r. ⌜ Sought (now (map .entry)) to from r ⌝ }
 {
     let mut at = start;
     let mut mine = false;
@@ -100,11 +99,7 @@ pub fn seek(map: &[u8], start: usize, all: bool, from: usize, to: usize) -> bool
                     at = behind;
                 }
                 Sight::Other => {
-                    if !all {
-                        return false;
-                    }
-                    mine = false;
-                    at = behind;
+                    return false;
                 }
             },
             Walk::Over => {

@@ -6,7 +6,7 @@ use mathlib.Core.List.{List, [], _∷_, _++_}
 use mathlib.Core.Option.{Option, none, some}
 use lib.Dec.{eqb, leb, ltb}
 use lib.ListN.{length, drop, replicate}
-use Rattle.spec.specs.Lists.{if, mem, some?, little}
+use Rattle.spec.specs.Lists.{if, mem, some?, keep, little}
 use Rattle.spec.specs.Opcodes.{Row, Rules}
 use Rattle.spec.specs.Stacks.{Sym, jumpdest, through, own, eqSym}
 use Rattle.spec.specs.PathMeaning.{fetched, all-known}
@@ -106,25 +106,48 @@ pub data Inspection : Type 0 where
   not-right : ℕ → ℕ → Inspection
   accepted : Inspection
 
-abbrev pub or-later : ℕ → Inspection → Option ℕ → Inspection
-or-later at later none = later
-or-later at later (some place) = not-right at place
+-- a path entry that is not right: its offset, and the place in its path
+pub record WrongPath : Type 0 where
+  pub offset : ℕ
+  pub place : ℕ
 
-unfoldable pub first-wrong : Rules → List ℕ → Map → List PathEntry → Inspection
-first-wrong rules code m [] = accepted
-first-wrong rules code m (e ∷ es) = let later = first-wrong rules code m es in or-later (e .offset) later (fault-of rules code m (e .entry))
+abbrev pub or-next : ℕ → List WrongPath → Option ℕ → List WrongPath
+or-next at later none = later
+or-next at later (some place) = record { offset = at; place = place } ∷ later
 
-abbrev pub looks-at : Rules → List ℕ → List ℕ → Reading → Inspection
-looks-at rules code map (bad at) = bad-entry at
-looks-at rules code map (holds m) = first-wrong rules code m (path-entries (wide-in map) 0 (pieces map 0 0))
+-- all that are not
+unfoldable pub all-wrong : Rules → List ℕ → Map → List PathEntry → List WrongPath
+all-wrong rules code m [] = []
+all-wrong rules code m (e ∷ es) = let later = all-wrong rules code m es in or-next (e .offset) later (fault-of rules code m (e .entry))
+
+abbrev pub first-of : List WrongPath → Inspection
+first-of [] = accepted
+first-of (x ∷ xs) = not-right (x .offset) (x .place)
+
+-- those that stand at an offset or later
+abbrev pub since : ℕ → List PathEntry → List PathEntry
+since from = keep (λ (e : PathEntry). leb from (e .offset))
+
+-- of a map's bytes, from an offset on; its edges are those of the whole map
+abbrev pub wrong-from : Rules → List ℕ → List ℕ → ℕ → Reading → List WrongPath
+wrong-from rules code map from (bad at) = []
+wrong-from rules code map from (holds m) = all-wrong rules code m (since from (path-entries (wide-in map) 0 (pieces map 0 0)))
+
+abbrev pub looks-at : Rules → List ℕ → List ℕ → ℕ → Reading → Inspection
+looks-at rules code map from (bad at) = bad-entry at
+looks-at rules code map from (holds m) = first-of (wrong-from rules code map from (holds m))
 
 -- "Refusals: 1, 13 and 3 as before; 12 as in No. 2; 17, path entry not right"; `work` is how long W is
-unfoldable pub inspect : Rules → List ℕ → List ℕ → ℕ → Inspection
-inspect rules code map work =
-    let run = looks-at rules code map (read map) in
+unfoldable pub inspect-from : Rules → List ℕ → List ℕ → ℕ → ℕ → Inspection
+inspect-from rules code map from work =
+    let run = looks-at rules code map from (read map) in
     if (ltb longest (length code)) (refused 1)
     (if (ltb 1 (rules .mode)) (refused 13)
     (if (ltb work (work-need (length code))) (refused 3) run))
+
+-- the whole map
+abbrev pub inspect : Rules → List ℕ → List ℕ → ℕ → Inspection
+inspect rules code map work = inspect-from rules code map 0 work
 
 abbrev pub numberOf : Inspection → ℕ
 numberOf (refused n) = n
@@ -148,6 +171,17 @@ place-after (refused n) b = b
 place-after (bad-entry at) b = b
 place-after (not-right at place) b = if (leb 8 (length b)) (little 8 place ++ drop 8 b) b
 place-after accepted b = b
+
+-- all that are not right, offset and place in 8 bytes each, as many as there is room for
+unfoldable pub rows : List WrongPath → List ℕ → List ℕ
+rows [] b = b
+rows (x ∷ xs) b = let later = rows xs (drop 16 b) in if (leb 16 (length b)) (little 8 (x .offset) ++ little 8 (x .place) ++ later) b
+
+abbrev pub rows-after : Inspection → List WrongPath → List ℕ → List ℕ
+rows-after (refused n) xs b = b
+rows-after (bad-entry at) xs b = b
+rows-after (not-right at place) xs b = rows xs b
+rows-after accepted xs b = b
 
 abbrev pub work-after : Inspection → List ℕ → List ℕ
 work-after (refused n) w = w

@@ -7,10 +7,13 @@ use Prim.Native.Nat.{ℕ, _+_, _-_, _*_}
 use native.Mathlib.Omega.{arith}
 use Rattle.spec.specs.Stacks.{Sym, before, constant, jumpdest, other, Stack}
 use Rattle.lent.proofs.Once.{Same, Outside, one-stored, same-both}
+use Rattle.state.specs.Modes.{modeOf}
 use Rattle.state.specs.Symbols.{symOf, knownOf}
 use Rattle.state.specs.Cells.{Put, Lies}
 use Rattle.state.specs.Composed.{Composed}
 use Rattle.state.specs.Owns.{goesOf, roomOf, Runs, Owned}
+use Rattle.state.specs.declared.mode.Mode.{Mode}
+use Rattle.state.specs.declared.mode.Mode.the-variants.{Plain, KnownZero}
 use Rattle.state.specs.declared.sym.StackSym.{StackSym}
 use Rattle.state.specs.declared.sym.StackSym.the-variants.{Before, Constant, Jumpdest, Other}
 use Rattle.state.specs.declared.sym.Known.{Known}
@@ -84,3 +87,10 @@ one-owned {mode} {code} {w} {v} {u} {start} {end} {r} {s} a p q =
         long = p .inside .kept ∙ sym (q .inside .kept);
       };
     }
+
+-- the mode of a number
+pub one-mode : (a b : Mode) {m : ℕ} → modeOf a ≡ m → modeOf b ≡ m → a ≡ b
+one-mode Plain Plain p q = refl
+one-mode Plain KnownZero p q = absurd (omega (arith, p, q))
+one-mode KnownZero Plain p q = absurd (omega (arith, p, q))
+one-mode KnownZero KnownZero p q = refl

@@ -5,12 +5,13 @@ use native.Mathlib.Omega.{arith}
 use native.Mathlib.Nat.{le-refl}
 use mathlib.Core.Path.{_≡_, refl, sym, ap, ap₂, subst, _∙_}
 use mathlib.Core.Bool.{Bool, _&&_}
+use mathlib.Core.Logic.{_⊎_, inl, inr}
 use mathlib.Core.Option.{Option, none, some}
 use mathlib.Core.List.{List, [], _∷_, _++_, map, append-assoc, append-nil}
-use lib.Dec.{eqb, ltb}
+use lib.Dec.{eqb, leb, ltb}
 use lib.ListN.{length, drop}
 use lib.Seq.{drop-drop}
-use borrow.Author.Tests.{ltb-true, ltb-false, lt-ltb, le-ltb}
+use borrow.Author.Tests.{ltb-true, ltb-false, lt-ltb, le-ltb, le-leb}
 use Rattle.spec.specs.Lists.{gather}
 use Rattle.spec.specs.Opcodes.{Rules}
 use Rattle.spec.specs.Stacks.{Stack}
@@ -22,10 +23,10 @@ use Rattle.spec.specs.Entries.{Map}
 use Rattle.spec.specs.Forms.{wide-in, announced, entry, behind, sort}
 use Rattle.spec.specs.BadEntries.{Refused}
 use Rattle.spec.specs.Reader.{Reading, holds, bad, Piece, pieces, first, first-bad, Item, a-head, a-block, a-way, a-record, no-item, item-of, items, ways, finals-in, recs-in, held, verdict as reads, read, told}
-use Rattle.spec.specs.Inspector.{fault-to, PathEntry, shows, path-entries, Inspection, refused, bad-entry, not-right, accepted, or-later, first-wrong, looks-at, inspect, numberOf, valueOf, exported}
+use Rattle.spec.specs.Inspector.{fault-to, fault-of, PathEntry, shows, path-entries, Inspection, refused, bad-entry, not-right, accepted, WrongPath, or-next, all-wrong, first-of, since, looks-at, inspect-from, inspect, numberOf, valueOf, exported}
 use Rattle.laws.proofs.Branch.{both, if-true, if-false}
 use Rattle.laws.proofs.Lists.{Rising, none-left, one-more, rising-from}
-use Rattle.laws.proofs.Members.{In, here, there}
+use Rattle.laws.proofs.Members.{In, here, there, in-only, in-cases, in-keep}
 use Rattle.theorems.proofs.ReaderPlaces.{never}
 use Rattle.theorems.proofs.ReaderSplit.{Split, done, cut-off, more, split}
 use Rattle.theorems.proofs.ReaderItems.{way-of, block-items}
@@ -175,6 +176,12 @@ split-rise wide (more {at} {rest} {ps} w s) b = shows-rise b at (λ a. path-entr
 pub entries-rise : (bs : List ℕ) → Rising 0 (offsets (path-entries (wide-in bs) 0 (pieces bs 0 0)))
 entries-rise bs = split-rise (wide-in bs) (split bs) 0
 
+-- ---- those from an offset on
+
+since-all : (es : List PathEntry) → since 0 es ≡ es
+since-all [] = refl
+since-all (e ∷ es) = if-true (leb 0 (e .offset)) _ _ (le-leb 0 (e .offset) (omega arith)) ∙ ap {B = List PathEntry} (λ (l : List PathEntry). e ∷ l) (since-all es)
+
 -- ---- the first that is not right
 
 module _ (rules : Rules) (ok : Lawful (rules .row)) where
@@ -221,49 +228,103 @@ module _ (rules : Rules) (ok : Lawful (rules .row)) where
         before d here = r
         before d (there i) = h .right-before d i
 
-    looked-here : (e : PathEntry) (es : List PathEntry) {i : Inspection} → Looked es i → (f : Found) → e .entry .to ≡ f
-        → Looked (e ∷ es) (or-later (e .offset) i (fault-to rules code m (e .entry .start) (e .entry .path) f))
-    looked-here e es h nowhere q = looked-on (record { right = λ t s k. never (cc) }) h
-    looked-here e es {i} h (found t s) q = by-judged (judged rules ok code m (e .entry .start) (e .entry .path) t)
+    looked-here : (e : PathEntry) (es : List PathEntry) (xs : List WrongPath) → Looked es (first-of xs) → (f : Found) → e .entry .to ≡ f
+        → Looked (e ∷ es) (first-of (or-next (e .offset) xs (fault-to rules code m (e .entry .start) (e .entry .path) f)))
+    looked-here e es xs h nowhere q = looked-on (record { right = λ t s k. never (cc) }) h
+    looked-here e es xs h (found t s) q = by-judged (judged rules ok code m (e .entry .start) (e .entry .path) t)
       where
-        by-judged : {o : Option ℕ} → Judged rules ok code m (e .entry .start) (e .entry .path) t o → Looked (e ∷ es) (or-later (e .offset) i o)
+        by-judged : {o : Option ℕ} → Judged rules ok code m (e .entry .start) (e .entry .path) t o → Looked (e ∷ es) (first-of (or-next (e .offset) xs o))
         by-judged (is-right r) = looked-on (record { right = λ u z k. let same : t ≡ u = cc in subst (Right rules ok code m (e .entry .start) (e .entry .path)) same r }) h
         by-judged (fails-at f) =
             one-wrong (record { earlier = []; later = es; wrong = e .entry; are = refl; right-before = λ d j. elim j [ ]; to = t; state = s; destined = q; fails = f })
 
-    looked : (es : List PathEntry) → Looked es (first-wrong rules code m es)
-    unfolding first-wrong
+    looked : (es : List PathEntry) → Looked es (first-of (all-wrong rules code m es))
+    unfolding all-wrong
     looked [] = none-wrong (λ e i. elim i [ ])
-    looked (e ∷ es) = looked-here e es (looked es) (e .entry .to) refl
+    looked (e ∷ es) = looked-here e es (all-wrong rules code m es) (looked es) (e .entry .to) refl
 
     -- and back
     fault-none : (r : Rec) → RightEntry r → (f : Found) → r .to ≡ f → fault-to rules code m (r .start) (r .path) f ≡ none
     fault-none r h nowhere q = refl
     fault-none r h (found t s) q = right-exactly rules ok code m (r .start) (r .path) t .1 (h .right t s q)
 
-    past-right : (earlier rest : List PathEntry) → ((e : PathEntry) → In e earlier → RightEntry (e .entry)) → first-wrong rules code m (earlier ++ rest) ≡ first-wrong rules code m rest
-    unfolding first-wrong
+    past-right : (earlier rest : List PathEntry) → ((e : PathEntry) → In e earlier → RightEntry (e .entry)) → all-wrong rules code m (earlier ++ rest) ≡ all-wrong rules code m rest
+    unfolding all-wrong
     past-right [] rest h = refl
     past-right (e ∷ es) rest h =
-        ap (or-later (e .offset) (first-wrong rules code m (es ++ rest))) (fault-none (e .entry) (h e here) (e .entry .to) refl) ∙ past-right es rest (λ d i. h d (there i))
+        ap (or-next (e .offset) (all-wrong rules code m (es ++ rest))) (fault-none (e .entry) (h e here) (e .entry .to) refl) ∙ past-right es rest (λ d i. h d (there i))
 
-    wrong-there : {es : List PathEntry} {offset place : ℕ} → FirstWrong es offset place → first-wrong rules code m es ≡ not-right offset place
-    unfolding first-wrong
+    wrong-there : {es : List PathEntry} {offset place : ℕ} → FirstWrong es offset place → first-of (all-wrong rules code m es) ≡ not-right offset place
+    unfolding all-wrong
     wrong-there {offset} h =
-        ap (first-wrong rules code m) (h .are) ∙ past-right (h .earlier) _ (h .right-before)
-        ∙ ap (or-later offset (first-wrong rules code m (h .later)))
-        (ap (fault-to rules code m (h .wrong .start) (h .wrong .path)) (h .destined) ∙ fails-exactly rules ok code m (h .wrong .start) (h .wrong .path) (h .to) _ .1 (h .fails))
+        ap first-of
+        (ap (all-wrong rules code m) (h .are) ∙ past-right (h .earlier) _ (h .right-before)
+        ∙ ap (or-next offset (all-wrong rules code m (h .later)))
+        (ap (fault-to rules code m (h .wrong .start) (h .wrong .path)) (h .destined) ∙ fails-exactly rules ok code m (h .wrong .start) (h .wrong .path) (h .to) _ .1 (h .fails)))
 
-    none-there : (es : List PathEntry) → ((e : PathEntry) → In e es → RightEntry (e .entry)) → first-wrong rules code m es ≡ accepted
-    unfolding first-wrong
-    none-there es h = ap (first-wrong rules code m) (sym (append-nil es)) ∙ past-right es [] h
+    none-there : (es : List PathEntry) → ((e : PathEntry) → In e es → RightEntry (e .entry)) → first-of (all-wrong rules code m es) ≡ accepted
+    unfolding all-wrong
+    none-there es h = ap first-of (ap (all-wrong rules code m) (sym (append-nil es)) ∙ past-right es [] h)
+
+    -- ---- all that are not right
+
+    -- an entry with a destination that is not right, by its offset and place
+    pub record WrongEntry (es : List PathEntry) (x : WrongPath) : Type 0 where
+      pub path-entry : PathEntry
+      pub member : In path-entry es
+      pub offset-is : path-entry .offset ≡ x .offset
+      pub to : ℕ
+      pub state : Stack
+      pub destined : path-entry .entry .to ≡ found to state
+      pub fails : Fails rules ok code m (path-entry .entry .start) (path-entry .entry .path) to (x .place)
+
+    wrong-later : {e : PathEntry} {es : List PathEntry} {x : WrongPath} → WrongEntry es x → WrongEntry (e ∷ es) x
+    wrong-later h = record { path-entry = h .path-entry; member = there (h .member); offset-is = h .offset-is; to = h .to; state = h .state; destined = h .destined; fails = h .fails }
+
+    -- Each that is listed is one of the entries that are not right,
+    pub listed-wrong : (es : List PathEntry) (x : WrongPath) → In x (all-wrong rules code m es) → WrongEntry es x
+    unfolding all-wrong
+    listed-wrong [] x i = elim i [ ]
+    listed-wrong (e ∷ es) x i = by-found (λ j. wrong-later (listed-wrong es x j)) (e .entry .to) refl i
+      where
+        by-found : (In x (all-wrong rules code m es) → WrongEntry (e ∷ es) x) → (f : Found) → e .entry .to ≡ f → In x (or-next (e .offset) (all-wrong rules code m es) (fault-to rules code m (e .entry .start) (e .entry .path) f)) → WrongEntry (e ∷ es) x
+        by-found on nowhere q j = on j
+        by-found on (found t s) q j = by-judged (judged rules ok code m (e .entry .start) (e .entry .path) t) j
+          where
+            by-judged : {o : Option ℕ} → Judged rules ok code m (e .entry .start) (e .entry .path) t o → In x (or-next (e .offset) (all-wrong rules code m es) o) → WrongEntry (e ∷ es) x
+            by-judged (is-right r) k = on k
+            by-judged (fails-at {i = place} f) k = by-first (in-cases (record { offset = e .offset; place = place } ∷ []) k)
+              where
+                by-first : In x (record { offset = e .offset; place = place } ∷ []) ⊎ In x (all-wrong rules code m es) → WrongEntry (e ∷ es) x
+                by-first (inl l) = subst (WrongEntry (e ∷ es)) (sym (in-only l)) (record { path-entry = e; member = here; offset-is = refl; to = t; state = s; destined = q; fails = f })
+                by-first (inr l) = on l
+
+    -- and each of these is listed.
+    pub wrong-listed : (es : List PathEntry) (x : WrongPath) → WrongEntry es x → In x (all-wrong rules code m es)
+    unfolding all-wrong
+    wrong-listed es x h = go es (h .member)
+      where
+        fault-is : fault-to rules code m (h .path-entry .entry .start) (h .path-entry .entry .path) (h .path-entry .entry .to) ≡ some (x .place)
+        fault-is =
+            ap (fault-to rules code m (h .path-entry .entry .start) (h .path-entry .entry .path)) (h .destined)
+            ∙ fails-exactly rules ok code m (h .path-entry .entry .start) (h .path-entry .entry .path) (h .to) _ .1 (h .fails)
+
+        or-there : (at : ℕ) (xs : List WrongPath) (o : Option ℕ) → In x xs → In x (or-next at xs o)
+        or-there at xs none i = i
+        or-there at xs (some p) i = there i
+
+        go : (ds : List PathEntry) → In (h .path-entry) ds → In x (all-wrong rules code m ds)
+        go (e ∷ ds) here =
+            subst (λ (o : Option ℕ). In x (or-next (e .offset) (all-wrong rules code m ds) o)) (sym fault-is)
+            (subst (λ (n : ℕ). In x (record { offset = n; place = x .place } ∷ all-wrong rules code m ds)) (sym (h .offset-is)) here)
+        go (e ∷ ds) (there i) = or-there (e .offset) (all-wrong rules code m ds) (fault-of rules code m (e .entry)) (go ds i)
 
   -- ---- the call
 
-  module _ (code bs : List ℕ) (work : ℕ) where
-    -- the path entries of the map's bytes
+  module _ (code bs : List ℕ) (from work : ℕ) where
+    -- the path entries of the map's bytes, from an offset on
     abbrev pub the-entries : List PathEntry
-    the-entries = path-entries (wide-in bs) 0 (pieces bs 0 0)
+    the-entries = since from (path-entries (wide-in bs) 0 (pieces bs 0 0))
 
     -- 1, 13 and 3 do not apply
     pub record Taken : Type 0 where
@@ -278,53 +339,41 @@ module _ (rules : Rules) (ok : Lawful (rules .row)) where
       work-short : length code ≤ longest → rules .mode ≤ 1 → work < work-need (length code) → Verdict (refused 3)
       entry-bad : {offset : ℕ} → Taken → Refused (wide-in bs) bs offset → Verdict (bad-entry offset)
       path-wrong : {m : Map} {offset place : ℕ} → Taken → read bs ≡ holds m → FirstWrong code m the-entries offset place → Verdict (not-right offset place)
-      all-right : {m : Map} → Taken → read bs ≡ holds m → ((r : Rec) → In r (paths-of m) → RightEntry code m r) → Verdict accepted
-
-    recs-in-map : {r : Rec} (es : List PathEntry) → In r (recs-of es) → (e : PathEntry) × In e es × (r ≡ e .entry)
-    recs-in-map [] i = elim i [ ]
-    recs-in-map (e ∷ es) here = (e, here, refl)
-    recs-in-map (e ∷ es) (there i) = let g = recs-in-map es i in (g .0, there (g .1), g .2)
-
-    in-recs : {e : PathEntry} {es : List PathEntry} → In e es → In (e .entry) (recs-of es)
-    in-recs here = here
-    in-recs (there i) = there (in-recs i)
+      all-right : {m : Map} → Taken → read bs ≡ holds m → ((e : PathEntry) → In e the-entries → RightEntry code m (e .entry)) → Verdict accepted
 
     verdict-looked : Taken → (m : Map) → read bs ≡ holds m → {i : Inspection} → Looked code m the-entries i → Verdict i
-    verdict-looked t m q (none-wrong h) =
-        all-right t q (λ r j. let g = recs-in-map the-entries (subst (In r) (sym (entries-are bs m q)) j) in subst (RightEntry code m) (sym (g .2)) (h (g .0) (g .1)))
+    verdict-looked t m q (none-wrong h) = all-right t q h
     verdict-looked t m q (one-wrong h) = path-wrong t q h
 
-    verdict-read : Taken → (r : Reading) → read bs ≡ r → Verdict (looks-at rules code bs r)
+    verdict-read : Taken → (r : Reading) → read bs ≡ r → Verdict (looks-at rules code bs from r)
     verdict-read t (bad o) q = entry-bad t (refused-exactly bs o .0 q)
     verdict-read t (holds m) q = verdict-looked t m q (looked code m the-entries)
 
     -- The answer is one of these,
-    pub verdict : Verdict (inspect rules code bs work)
-    unfolding inspect
+    pub verdict : Verdict (inspect-from rules code bs from work)
+    unfolding inspect-from
     verdict =
         both Verdict (ltb longest (length code)) (λ on. code-over (ltb-true _ _ on))
         (λ c. both Verdict (ltb 1 (rules .mode)) (λ on. mode-over (ltb-false _ _ c) (ltb-true _ _ on))
         (λ k. both Verdict (ltb work (work-need (length code))) (λ on. work-short (ltb-false _ _ c) (ltb-false _ _ k) (ltb-true _ _ on))
         (λ w. verdict-read (record { code-fits = ltb-false _ _ c; mode-fits = ltb-false _ _ k; work-fits = ltb-false _ _ w }) (read bs) refl)))
 
-    taken-run : Taken → inspect rules code bs work ≡ looks-at rules code bs (read bs)
-    unfolding inspect
+    taken-run : Taken → inspect-from rules code bs from work ≡ looks-at rules code bs from (read bs)
+    unfolding inspect-from
     taken-run t =
         if-false _ _ _ (le-ltb longest (length code) (t .code-fits)) ∙ if-false _ _ _ (le-ltb 1 (rules .mode) (t .mode-fits))
         ∙ if-false _ _ _ (le-ltb work (work-need (length code)) (t .work-fits))
 
     -- and none but these: what they give is the answer.
-    pub verdict-only : {i : Inspection} → Verdict i → inspect rules code bs work ≡ i
-    unfolding inspect
+    pub verdict-only : {i : Inspection} → Verdict i → inspect-from rules code bs from work ≡ i
+    unfolding inspect-from
     verdict-only (code-over h) = if-true _ _ _ (lt-ltb longest (length code) h)
     verdict-only (mode-over c h) = if-false _ _ _ (le-ltb longest (length code) c) ∙ if-true _ _ _ (lt-ltb 1 (rules .mode) h)
     verdict-only (work-short c k h) =
         if-false _ _ _ (le-ltb longest (length code) c) ∙ if-false _ _ _ (le-ltb 1 (rules .mode) k) ∙ if-true _ _ _ (lt-ltb work (work-need (length code)) h)
-    verdict-only (entry-bad {offset} t h) = taken-run t ∙ ap (looks-at rules code bs) (refused-exactly bs offset .1 h)
-    verdict-only (path-wrong {m} t q h) = taken-run t ∙ ap (looks-at rules code bs) q ∙ wrong-there code m h
-    verdict-only (all-right {m} t q h) =
-        taken-run t ∙ ap (looks-at rules code bs) q
-        ∙ none-there code m the-entries (λ e i. h (e .entry) (subst (In (e .entry)) (entries-are bs m q) (in-recs i)))
+    verdict-only (entry-bad {offset} t h) = taken-run t ∙ ap (looks-at rules code bs from) (refused-exactly bs offset .1 h)
+    verdict-only (path-wrong {m} t q h) = taken-run t ∙ ap (looks-at rules code bs from) q ∙ wrong-there code m h
+    verdict-only (all-right {m} t q h) = taken-run t ∙ ap (looks-at rules code bs from) q ∙ none-there code m the-entries h
 
     -- The exported number tells the number and the value, which in any buffer is below 2^56.
     tells : (n v : ℕ) → n < 256 → v < 2 ^ 56 → (told n v % 256 ≡ n) × (told n v / 256 ≡ v)
@@ -338,32 +387,67 @@ module _ (rules : Rules) (ok : Lawful (rules .row)) where
     exported-tells (path-wrong {offset} t q h) k = tells 17 offset (omega arith) k
     exported-tells (all-right t q h) k = tells 0 0 (omega arith) k
 
-    -- ---- "Whoever made the map, what is accepted has the property of No. 7's first part"
+    -- 0 is exported of what is accepted alone.
+    pub exported-zero : {i : Inspection} → Verdict i → exported i ≡ 0 → i ≡ accepted
+    exported-zero (code-over h) e = absurd (omega (arith, e))
+    exported-zero (mode-over c h) e = absurd (omega (arith, e))
+    exported-zero (work-short c k h) e = absurd (omega (arith, e))
+    exported-zero (entry-bad t h) e = absurd (omega (arith, e))
+    exported-zero (path-wrong t q h) e = absurd (omega (arith, e))
+    exported-zero (all-right t q h) e = refl
+
+  -- ---- "Whoever made the map, what is accepted has the property of No. 7's first part"
+
+  module _ (code bs : List ℕ) (work : ℕ) where
+    recs-in-map : {r : Rec} (es : List PathEntry) → In r (recs-of es) → (e : PathEntry) × In e es × (r ≡ e .entry)
+    recs-in-map [] i = elim i [ ]
+    recs-in-map (e ∷ es) here = (e, here, refl)
+    recs-in-map (e ∷ es) (there i) = let g = recs-in-map es i in (g .0, there (g .1), g .2)
+
+    in-recs : {e : PathEntry} {es : List PathEntry} → In e es → In (e .entry) (recs-of es)
+    in-recs here = here
+    in-recs (there i) = there (in-recs i)
+
+    -- of the whole map: each of its path entries
+    map-right : (m : Map) → read bs ≡ holds m → ((e : PathEntry) → In e (the-entries code bs 0 work) → RightEntry code m (e .entry)) → (r : Rec) → In r (paths-of m) → RightEntry code m r
+    map-right m q h r i =
+        let g = recs-in-map (path-entries (wide-in bs) 0 (pieces bs 0 0)) (subst (In r) (sym (entries-are bs m q)) i) in
+        subst (RightEntry code m) (sym (g .2)) (h (g .0) (subst (In (g .0)) (sym (since-all _)) (g .1)))
+
+    -- A map is accepted if all of them are right,
+    pub right-accepted : (m : Map) → Taken code bs 0 work → read bs ≡ holds m → ((r : Rec) → In r (paths-of m) → RightEntry code m r) → inspect rules code bs work ≡ accepted
+    right-accepted m t q h =
+        verdict-only code bs 0 work
+        (all-right t q (λ e i. h (e .entry) (subst (In (e .entry)) (entries-are bs m q) (in-recs (in-keep (λ (d : PathEntry). leb 0 (d .offset)) (path-entries (wide-in bs) 0 (pieces bs 0 0)) i .1)))))
 
     -- what the verdict accepted says
     record Accepted : Type 0 where
-      taken : Taken
+      taken : Taken code bs 0 work
       map : Map
       read-as : read bs ≡ holds map
       right : (r : Rec) → In r (paths-of map) → RightEntry code map r
 
-    verdict-accepted : {i : Inspection} → Verdict i → i ≡ accepted → Accepted
+    verdict-accepted : {i : Inspection} → Verdict code bs 0 work i → i ≡ accepted → Accepted
     verdict-accepted (code-over h) e = never (cc)
     verdict-accepted (mode-over c h) e = never (cc)
     verdict-accepted (work-short c k h) e = never (cc)
     verdict-accepted (entry-bad t h) e = never (cc)
     verdict-accepted (path-wrong t k h) e = never (cc)
-    verdict-accepted (all-right {m} t k h) e = record { taken = t; map = m; read-as = k; right = h }
+    verdict-accepted (all-right {m} t k h) e = record { taken = t; map = m; read-as = k; right = map-right m k h }
+
+    -- The exported number 0 says that it is accepted.
+    pub zero-accepted : exported (inspect rules code bs work) ≡ 0 → inspect rules code bs work ≡ accepted
+    zero-accepted e = exported-zero code bs 0 work (verdict code bs 0 work) e
 
     module _ (e : inspect rules code bs work ≡ accepted) where
-      pub accepted-taken : Taken
-      accepted-taken = verdict-accepted verdict e .taken
+      pub accepted-taken : Taken code bs 0 work
+      accepted-taken = verdict-accepted (verdict code bs 0 work) e .taken
 
     module _ (m : Map) (e : inspect rules code bs work ≡ accepted) (q : read bs ≡ holds m) {r : Rec} (i : In r (paths-of m)) (t : ℕ) (s : Stack) (f : r .to ≡ found t s) where
-      -- Each path entry with a destination of a map that is accepted is right,
+      -- and each path entry with a destination of a map that is accepted is right,
       pub accepted-right : Right rules ok code m (r .start) (r .path) t
       accepted-right =
-          let h = verdict-accepted verdict e in
+          let h = verdict-accepted (verdict code bs 0 work) e in
           let k = h .read-as in
           let same : h .map ≡ m = cc in
           subst (λ (n : Map). (r : Rec) → In r (paths-of n) → RightEntry code n r) same (h .right) r i .right t s f

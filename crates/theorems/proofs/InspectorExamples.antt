@@ -16,7 +16,7 @@ use Rattle.spec.specs.Entries.{Map, entries, bytes}
 use Rattle.spec.specs.Answer.{prepared, searched, mapped}
 use Rattle.spec.specs.Forms.{sort}
 use Rattle.spec.specs.Reader.{pieces, sevens, first-bad, addresses, items, ways, finals-in, recs-in, numbered-in, reading, read}
-use Rattle.spec.specs.Inspector.{first-failing, looked, fault, path-entries, Inspection, refused, bad-entry, not-right, accepted, first-wrong, inspect, exported, place-after, work-after, unpruned}
+use Rattle.spec.specs.Inspector.{first-failing, looked, fault, path-entries, Inspection, refused, bad-entry, not-right, accepted, WrongPath, all-wrong, inspect-from, inspect, wrong-from, exported, place-after, rows, rows-after, work-after, unpruned}
 use Rattle.theorems.proofs.MapSample.{hex}
 
 -- Return, and its map: the head, blocks 0, 5 and 7 at the offsets 18, 30 and 41, and a record at 53
@@ -119,8 +119,25 @@ abbrev inspect-in : ℕ → List ℕ → List ℕ → ℕ → Inspection
 inspect-in m = inspect (in-mode m)
 
 pub cases-hold : map (λ (c : Case). inspect-in (c .mode) (c .code) (c .bytes-in) (c .work)) cases ≡ map (λ (c : Case). c .says) cases
-unfolding if row walk read-stack does act trim through closing number sort pieces sevens first-bad addresses items ways finals-in recs-in numbered-in reading read first-failing looked fault path-entries first-wrong inspect
+unfolding if row walk read-stack does act trim through closing number sort pieces sevens first-bad addresses items ways finals-in recs-in numbered-in reading read first-failing looked fault path-entries all-wrong inspect-from
 cases-hold = refl
+
+-- Two records that are not right, at 53 and 71: all, from an offset on, and as rows with room for one and four bytes more.
+abbrev two-wrong : List ℕ
+two-wrong = hex 18 0x0c0000000100090003000200000002000000 ++ hex 12 0x060000000300000004000700 ++ hex 11 0x0500000002000500060001 ++ hex 12 0x060000000300070008000500
+    ++ hex 18 0x0c0000000800070007000200000007000000 ++ hex 18 0x0c0000000800070005000200000007000500
+
+abbrev wrong-at : ℕ → ℕ → WrongPath
+wrong-at o p = record { offset = o; place = p }
+
+abbrev wrong-in : ℕ → List WrongPath
+wrong-in from = wrong-from (in-mode 0) return two-wrong from (read two-wrong)
+
+listed-all : (wrong-in 53 ≡ wrong-at 53 0 ∷ wrong-at 71 1 ∷ []) × (wrong-in 54 ≡ wrong-at 71 1 ∷ []) × (wrong-in 72 ≡ [])
+    × (inspect-from (in-mode 0) return two-wrong 54 832 ≡ not-right 71 1) × (inspect-from (in-mode 0) return two-wrong 72 832 ≡ accepted)
+    × (rows-after (not-right 53 0) (wrong-in 0) (replicate 20 7) ≡ hex 20 0x3500000000000000000000000000000007070707)
+unfolding if row walk read-stack does act trim through closing number sort pieces sevens first-bad addresses items ways finals-in recs-in numbered-in reading read first-failing looked fault path-entries all-wrong inspect-from rows
+listed-all = (refl, refl, refl, refl, refl, refl)
 
 -- what is handed over, and left, of one that is not right: 17 and the offset; the place in 8 bytes, and not where they are not there; W wiped
 handed-over : (exported (not-right 53 1) ≡ 13585) × (place-after (not-right 53 1) (replicate 9 7) ≡ hex 9 0x010000000000000007)
@@ -142,5 +159,5 @@ run = searched (in-mode 0) 500000 branching
 
 pub pruning-matters : map (λ (m : Map). inspect (in-mode 0) branching (bytes m) 1344) (unpruned (in-mode 0) 1 branching run ∷ unpruned (in-mode 0) 0 branching run ∷ mapped (in-mode 0) 1 branching run ∷ mapped (in-mode 0) 0 branching run ∷ [])
     ≡ accepted ∷ accepted ∷ not-right 91 1 ∷ not-right 95 1 ∷ []
-unfolding if row walk instructions cuts blocks read-stack does act trim run-block through compose sweep spread closure parents record-nowhere record-found arrive follow tries level turn round rounds search entries bytes prepared searched mapped unpruned closing number sort pieces sevens first-bad addresses items ways finals-in recs-in numbered-in reading read first-failing looked fault path-entries first-wrong inspect
+unfolding if row walk instructions cuts blocks read-stack does act trim run-block through compose sweep spread closure parents record-nowhere record-found arrive follow tries level turn round rounds search entries bytes prepared searched mapped unpruned closing number sort pieces sevens first-bad addresses items ways finals-in recs-in numbered-in reading read first-failing looked fault path-entries all-wrong inspect-from
 pruning-matters = refl

@@ -23,7 +23,7 @@ use Rattle.theorems.proofs.ReaderRead.{read-written}
 use Rattle.theorems.proofs.ReaderAnswered.{bounded-fits}
 use Rattle.theorems.proofs.InspectorRight.{Right}
 use Rattle.theorems.proofs.InspectorPaths.{right-more, plain-edge, shown, record-right}
-use Rattle.theorems.proofs.InspectorCall.{paths-of, RightEntry, all-right, verdict-only}
+use Rattle.theorems.proofs.InspectorCall.{paths-of, RightEntry, right-accepted}
 use Rattle.theorems.proofs.Counts.{Lawful}
 
 module _ (rules : Rules) (ok : Lawful (rules .row)) (l : Lent) (limit choice : ℕ) (code : List ℕ) (a : Map) (e : answer rules l limit choice code ≡ answered a) where
@@ -71,6 +71,5 @@ module _ (rules : Rules) (ok : Lawful (rules .row)) (l : Lent) (limit choice : �
   pub shown-accepted : (work : ℕ) → work-need (length code) ≤ work → inspect rules code (bytes the-map) work ≡ accepted
   shown-accepted work h =
       let t = gave rules l limit choice code a e .taken in
-      verdict-only rules ok code (bytes the-map) work
-      (all-right (record { code-fits = t .code-fits; mode-fits = t .mode-fits; work-fits = h })
-      (read-written the-map (bounded-fits _ the-map (unpruned-bounded rules ok l limit choice code a e))) path-right)
+      right-accepted rules ok code (bytes the-map) work (plain the-map) (record { code-fits = t .code-fits; mode-fits = t .mode-fits; work-fits = h })
+      (read-written the-map (bounded-fits _ the-map (unpruned-bounded rules ok l limit choice code a e))) path-right

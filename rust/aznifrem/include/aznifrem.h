@@ -193,6 +193,23 @@ uint64_t aznifrem_follow(const uint8_t *map, size_t map_len, const uint8_t *code
 uint64_t aznifrem_inspect(uint64_t mode, const uint8_t *code, size_t code_len, const uint8_t *map,
                           size_t map_len, uint8_t *w, size_t w_len, uint8_t *place, size_t place_len);
 
+/* The bytes of a row of aznifrem_inspect_from. */
+#define AZNIFREM_ROW 16
+
+/* The same of the path entries that stand at the offset `from` or later; the edges are still those of the whole map.
+ *
+ *   w     AZNIFREM_WORK(code_len) bytes
+ *   rows  any number of bytes: a row for each path entry that is not right, in order, as many as there
+ *         is room for. A row is the entry's offset and the place in its path, 8 bytes each, little-endian.
+ *
+ * Gives what aznifrem_inspect gives, of these. rows is written with AZNIFREM_WRONG_PATH alone, and no byte
+ * behind the last row that is written. No path entry stands at offset 0, so that a caller who wipes rows
+ * sees where they end. If the last row is written, another call from its offset and one more has those
+ * behind it; until the last row is full a path is looked at once. */
+uint64_t aznifrem_inspect_from(uint64_t mode, uint64_t from, const uint8_t *code, size_t code_len,
+                               const uint8_t *map, size_t map_len, uint8_t *w, size_t w_len,
+                               uint8_t *rows, size_t rows_len);
+
 #ifdef __cplusplus
 }
 #endif

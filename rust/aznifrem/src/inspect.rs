@@ -4,16 +4,15 @@ use std::fmt;
 
 use crate::error::{NotRelayed, Unreadable};
 use crate::exported;
-use crate::kinds::Kinds;
 use crate::map::Map;
 use crate::mode::Mode;
 
 /// "64 × code length + 256".
 const WORK: usize = 64;
 const WORK_MORE: usize = 256;
-/// Where kinds stand behind an entry's offset, and where a record's destination does.
-const KIND: usize = 4;
-const TO: usize = 8;
+/// A row of the call: offset and place. How many rows are lent at first.
+const ROW: usize = 16;
+const FIRST_ROWS: usize = 256;
 
 /// The library's own call: 0 where every path entry with a destination is right; or 1, 13 or 3 as for
 /// a map, 12 and 256 times the offset of the first bad entry, 17 and 256 times the offset of the first
@@ -25,6 +24,26 @@ const TO: usize = 8;
 /// On a machine that is not x86-64, if the library cannot be reached there: [`NotRelayed`] says why.
 pub fn inspect(mode: u64, code: &[u8], map: &[u8], w: &mut [u8], place: &mut [u8]) -> u64 {
     match exported::aznifrem_inspect(mode, code, map, w, place) {
+        Ok(number) => number,
+        Err(not_relayed) => panic!("{not_relayed}"),
+    }
+}
+
+/// The same call of the path entries that stand at the offset `from` or later, with a row of 16 bytes in `rows` for each
+/// that is not right, as many as there is room for: its offset and the place in its path, little-endian.
+///
+/// # Panics
+///
+/// On a machine that is not x86-64, if the library cannot be reached there: [`NotRelayed`] says why.
+pub fn inspect_from(
+    mode: u64,
+    from: u64,
+    code: &[u8],
+    map: &[u8],
+    w: &mut [u8],
+    rows: &mut [u8],
+) -> u64 {
+    match exported::aznifrem_inspect_from(mode, from, code, map, w, rows) {
         Ok(number) => number,
         Err(not_relayed) => panic!("{not_relayed}"),
     }
@@ -44,9 +63,6 @@ pub struct WrongPath {
 pub struct Inspected {
     /// The path entries that are not right, in order.
     pub wrong: Vec<WrongPath>,
-    /// Whether all were looked at. The entries behind a dynamic block's path that is not right are not: its destination is an
-    /// edge of the map, without which paths behind it would be another map's.
-    pub whole: bool,
 }
 
 /// Why no map was inspected.
@@ -103,33 +119,38 @@ impl Inspected {
         }
         let held = Map::try_from_bytes(map).map_err(NotInspected::NotRelayed)?;
         held.map_err(NotInspected::Unreadable)?;
-        let kinds = Kinds::of_map(map);
-        let mut left = map.to_vec();
         let mut w = vec![0; WORK * code.len() + WORK_MORE];
-        let mut wrong = Vec::new();
+        let mut rows = vec![0; FIRST_ROWS * ROW];
+        let (mut from, mut wrong) = (0, Vec::new());
         loop {
-            let mut place = [0; 8];
-            let given = exported::aznifrem_inspect(mode.number(), code, &left, &mut w, &mut place);
+            let number = mode.number();
+            let given = exported::aznifrem_inspect_from(number, from, code, map, &mut w, &mut rows);
             let given = given.map_err(NotInspected::NotRelayed)?;
             if given == 0 {
-                return Ok(Inspected { wrong, whole: true });
+                return Ok(Inspected { wrong });
             }
             assert_eq!(
                 given & 0xff,
                 17,
                 "the code, the mode, the room and the map are fine"
             );
-            let offset = (given >> 8) as usize;
-            let place = u64::from_le_bytes(place) as usize;
-            wrong.push(WrongPath { offset, place });
-            if left[offset + KIND..offset + KIND + 2] == kinds.path.to_le_bytes() {
-                return Ok(Inspected {
-                    wrong,
-                    whole: false,
-                });
+            wrong.extend(rows.chunks_exact(ROW).map_while(WrongPath::of_row));
+            if WrongPath::of_row(&rows[rows.len() - ROW..]).is_none() {
+                return Ok(Inspected { wrong });
             }
-            // A record gives no edge: without its destination nothing is asked of it, and what is behind it is looked at.
-            left[offset + TO..offset + TO + 2].copy_from_slice(&kinds.nowhere.to_le_bytes());
+            // Twice the rows for what is left: the map is read once for each doubling.
+            from = wrong.last().map_or(0, |last| last.offset as u64 + 1);
+            rows = vec![0; 2 * rows.len()];
         }
+    }
+}
+
+impl WrongPath {
+    /// None where nothing was written: no path entry stands at offset 0, where the head does.
+    fn of_row(row: &[u8]) -> Option<WrongPath> {
+        let (offset, place) = row.split_first_chunk::<8>()?;
+        let offset = u64::from_le_bytes(*offset) as usize;
+        let place = u64::from_le_bytes(*place.first_chunk::<8>()?) as usize;
+        (offset != 0).then_some(WrongPath { offset, place })
     }
 }

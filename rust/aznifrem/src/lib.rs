@@ -22,7 +22,7 @@
 //! [`Mapper::json`] gives the blocks as JSON; a [`Report`] adds up many stored maps; [`Salvaged::of`]
 //! salvages an archive of them; [`Followed::of`] follows a log through one; [`Inspected::of`]
 //! replays the paths of one, whoever made it. [`call`], [`call_json`], [`read()`], [`report_add`],
-//! [`report_join`], [`salvage()`], [`follow()`] and [`inspect()`] are the library's own calls, for those who lend the memory themselves.
+//! [`report_join`], [`salvage()`], [`follow()`], [`inspect()`] and [`inspect_from`] are the library's own calls, for those who lend the memory themselves.
 
 #![warn(missing_docs)]
 
@@ -63,7 +63,7 @@ pub use bounds::{HIGHEST_LIMIT, LONGEST_CODE, LONGEST_DEPLOYED, RELAYED};
 pub use call::{Lent, call, call_by, call_in, call_json, call_json_by, call_json_in};
 pub use error::{Error, Fault, NotRelayed, Unreadable, Unwritable};
 pub use follow::{Counts, Followed, NotFollowed, follow};
-pub use inspect::{Inspected, NotInspected, WrongPath, inspect};
+pub use inspect::{Inspected, NotInspected, WrongPath, inspect, inspect_from};
 pub use kinds::Kinds;
 pub use map::{Block, BlockType, DynamicJump, Map, Record};
 pub use mapper::Mapper;

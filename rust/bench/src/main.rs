@@ -2,6 +2,7 @@
 
 mod contracts;
 mod heap;
+mod inspector;
 mod port;
 mod stats;
 mod worst;
@@ -17,10 +18,11 @@ bench [OPTIONS]: the proved library's call and the unchanged Rust in one process
   --seconds T    time of each worst case (default 20)
   --mebibytes M  memory of each worst case (default 2048)
   --contracts    the contracts alone
+  --inspector    the inspector alone, on maps of contracts and on maps that are made to be slow
   --check        exit 1 if a goal is missed: on the contracts by a ratio over 0.3 or by no answer,
                  on the worst cases by a ratio over 1 or by an answer of the Rust alone
 
-Prints one table. Times are medians, of the turns and then of the codes; the call's has its wiping,
+Prints one table; --inspector prints its own instead. Times are medians, of the turns and then of the codes; the call's has its wiping,
 and its rooms have grown before; map is the binding's, which reads the answer too. A worst case runs
 in a process of its own, both sides in it. Where the machine is not x86-64 it says so and ends.
 ";
@@ -33,6 +35,7 @@ struct Options {
     seed: u64,
     bounds: worst::Bounds,
     contracts_alone: bool,
+    inspector_alone: bool,
     check: bool,
 }
 
@@ -79,6 +82,7 @@ fn options(mut words: impl Iterator<Item = String>) -> Result<Option<Options>, S
             memory: 2048 << 20,
         },
         contracts_alone: false,
+        inspector_alone: false,
         check: false,
     };
     while let Some(word) = words.next() {
@@ -94,6 +98,7 @@ fn options(mut words: impl Iterator<Item = String>) -> Result<Option<Options>, S
             "--seconds" => options.bounds.time = Duration::from_secs(u64::from(value()?)),
             "--mebibytes" => options.bounds.memory = (value()? as usize) << 20,
             "--contracts" => options.contracts_alone = true,
+            "--inspector" => options.inspector_alone = true,
             "--check" => options.check = true,
             _ => return Err(format!("'{word}' is no option")),
         }
@@ -106,6 +111,9 @@ const COLUMNS: &str = "\
 |---|---|---|---|---|---|---|---|---|---|";
 
 fn run(options: &Options) -> ExitCode {
+    if options.inspector_alone {
+        return of_inspector(options);
+    }
     println!("{COLUMNS}");
     let mut missed = of_contracts(options);
     if !options.contracts_alone {
@@ -118,6 +126,23 @@ fn run(options: &Options) -> ExitCode {
         ExitCode::FAILURE
     } else {
         ExitCode::SUCCESS
+    }
+}
+
+/// The inspector's table, which has no goal.
+fn of_inspector(options: &Options) -> ExitCode {
+    match inspector::cases(options.seed) {
+        Ok(cases) => {
+            println!("{}", inspector::COLUMNS);
+            for case in &cases {
+                println!("{}", case.row());
+            }
+            ExitCode::SUCCESS
+        }
+        Err(sentence) => {
+            eprintln!("bench: {sentence}");
+            ExitCode::FAILURE
+        }
     }
 }
 

@@ -29,7 +29,7 @@ pub const COMMAND: Command = Command {
     }],
     notes: &[
         "A path entry with a destination is right if its blocks are joined by edges of that map, start within the code, run no unknown byte, and lead to the destination. Maps of ours are accepted as they were before pruning; as answered, a path through a pruned block is not.",
-        "Every record that is not right is told. A 7 that is not right is told too, and what stands behind it is not looked at then.",
+        "Each that is not right is told, a 7 behind its block or a record; the destination of a 7 is an edge of the map even so.",
     ],
     exits: &[
         (0, "every path entry with a destination is right"),
@@ -63,13 +63,6 @@ fn run(operands: &[PathBuf], form: Form, mode: Mode, out: &mut dyn Write) -> Res
     };
     for wrong in &inspected.wrong {
         writeln!(out, "{}: {}", shown(map), sentence(&bytes, wrong))?;
-    }
-    if !inspected.whole {
-        writeln!(
-            out,
-            "{}: what stands behind it was not looked at",
-            shown(map)
-        )?;
     }
     if inspected.wrong.is_empty() {
         writeln!(

@@ -40,6 +40,61 @@ fn a_record_that_is_not_right_is_told_with_its_block() {
     assert_eq!((exit, text.as_str()), (1, wanted));
 }
 
+/// A map of the code, made by hand, with these entries behind its blocks' beginning: 0 Jump 7, 5 Terminate.
+fn by_hand(name: &str, records: u8, entries: &str) -> std::path::PathBuf {
+    let folder = folder(name);
+    put(&folder, "code.hex", CODE);
+    let head = format!("0c000000010009000300{records:02x}00000002000000");
+    let blocks = "0600000003000000040007000500000002000500060001";
+    let text = format!("{head}{blocks}{entries}");
+    let digits = |at| u8::from_str_radix(&text[at..at + 2], 16).expect("digits");
+    let map: Vec<u8> = (0..text.len()).step_by(2).map(digits).collect();
+    fs::write(folder.join("by.map"), map).expect("it can be written");
+    folder
+}
+
+const BY_HAND: [&str; 3] = ["inspect", "by.map", "code.hex"];
+
+#[test]
+fn a_7_that_is_not_right_is_told_and_what_stands_behind_it() {
+    // Block 7 has two 7s: (0,7; to 5), another block's path, and (7,0; to 5), which is right; a record (7,5; to 5) goes over no
+    // edge, and one more has an empty path.
+    let entries = "0800000005000700080002000000\
+         0a000000070005000200000000000700\
+         0a000000070005000200000007000000\
+         0c0000000800070005000200000007000500\
+         0800000008000700050000000000";
+    let folder = by_hand("inspect-seven", 2, &entries.replace(' ', ""));
+    let (exit, text, told) = all(&run(&folder, &BY_HAND));
+    let wanted = "by.map: the path at offset 55, to 5, is not right: its first block, 0, fails, or it does not lead there\n\
+        by.map: the record at offset 87, to 5, is not right at place 1, the block 5\n\
+        by.map: the record at offset 105, to 5, is not right: its path is empty\n";
+    assert_eq!((exit, text.as_str(), told.as_str()), (1, wanted, ""));
+}
+
+#[test]
+fn more_entries_than_the_first_rows_are_all_told() {
+    let right = "060000000300070008000500";
+    let wrong = "0c0000000800070007000200000007000000";
+    let folder = by_hand("inspect-many", 0, right);
+    let file = folder.join("by.map");
+    let mut map = fs::read(&file).expect("it was written");
+    let record: Vec<u8> = (0..wrong.len())
+        .step_by(2)
+        .map(|at| u8::from_str_radix(&wrong[at..at + 2], 16).expect("digits"))
+        .collect();
+    map[10..14].copy_from_slice(&1_000_u32.to_le_bytes());
+    map.extend(record.repeat(1_000));
+    fs::write(&file, map).expect("it can be written");
+    let (exit, text, _) = all(&run(&folder, &BY_HAND));
+    let told: Vec<&str> = text.lines().collect();
+    assert_eq!((exit, told.len()), (1, 1_000));
+    for (at, line) in told.iter().enumerate() {
+        let offset = format!("the record at offset {}, to 7,", 53 + 18 * at);
+        assert!(line.contains(&offset), "{line}");
+    }
+}
+
 #[test]
 fn what_is_no_map_is_told() {
     let folder = folder("inspect-none");

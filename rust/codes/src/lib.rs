@@ -4,6 +4,7 @@ pub mod assembler;
 pub mod contract;
 pub mod corners;
 pub mod exhaustive;
+pub mod hostile;
 pub mod init;
 pub mod random;
 pub mod solidity;

@@ -24,7 +24,7 @@ pub use archives::{Archives, Salvager, check as check_archive, run as salvage_ar
 pub use check::{Checker, Verdict};
 pub use families::{FAMILIES, Family};
 pub use inspections::{
-    Inspecting, Inspections, Inspector, check as check_inspection, run as inspect_maps,
+    INSPECTOR, Inspecting, Inspections, Inspector, check as check_inspection, run as inspect_maps,
 };
 pub use lend::{Given, call as fenced_call, call_json as fenced_call_json};
 pub use logs::{Call, Follower, Index, Logs, check as check_log, ring, run as follow_logs, shared};

@@ -152,26 +152,40 @@ pub fn fault(held: &Held, code: &[u8], zero_known: bool, entry: &PathEntry) -> O
 
 /// The call: the refusals in their order, then each path entry with a destination.
 pub fn inspect(mode: u64, code: &[u8], map: &[u8], w: usize) -> Inspected {
+    inspect_from(mode, 0, code, map, w).0
+}
+
+/// The same of those at an offset or later, with the offset and place of all that are not right.
+pub fn inspect_from(
+    mode: u64,
+    from: u64,
+    code: &[u8],
+    map: &[u8],
+    w: usize,
+) -> (Inspected, Vec<(usize, usize)>) {
+    let refused = |number| (Inspected::Refused(number), Vec::new());
     if code.len() > LONGEST_CODE {
-        return Inspected::Refused(1);
+        return refused(1);
     }
     if mode > 1 {
-        return Inspected::Refused(13);
+        return refused(13);
     }
     if (w as u64) < work(code.len()) {
-        return Inspected::Refused(3);
+        return refused(3);
     }
     let held = match read(map) {
         Ok(held) => held,
-        Err(refused) => return Inspected::BadEntry(refused.offset),
+        Err(bad) => return (Inspected::BadEntry(bad.offset), Vec::new()),
     };
-    for entry in path_entries(map) {
-        if let Some(place) = fault(&held, code, mode == 1, &entry) {
-            return Inspected::NotRight {
-                offset: entry.offset,
-                place,
-            };
-        }
-    }
-    Inspected::Accepted
+    let asked = path_entries(map).into_iter();
+    let asked = asked.filter(|entry| entry.offset as u64 >= from);
+    let place = |entry: &PathEntry| fault(&held, code, mode == 1, entry);
+    let wrong: Vec<_> = asked
+        .filter_map(|entry| Some((entry.offset, place(&entry)?)))
+        .collect();
+    let said = wrong.first().map_or(Inspected::Accepted, |first| {
+        let &(offset, place) = first;
+        Inspected::NotRight { offset, place }
+    });
+    (said, wrong)
 }

@@ -25,7 +25,7 @@ pub use bounds::{HIGHEST_LIMIT, LONGEST_CODE, LONGEST_DEPLOYED};
 pub use call::{map, map_by, map_in, unpruned_by};
 pub use family::Family;
 pub use follow::{Followed, NotFollowed, follow_bytes};
-pub use inspect::{Inspected, inspect};
+pub use inspect::{Inspected, inspect, inspect_from};
 pub use map::Map;
 pub use reader::{Bad, Held, Refused, read};
 pub use rooms::{Lent, Needs, Refusal};

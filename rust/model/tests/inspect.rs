@@ -86,3 +86,18 @@ fn a_run_is_accepted_before_pruning_and_not_after() {
         assert_eq!(inspect(0, &code, &bytes, room), wrong(offset, 1));
     }
 }
+
+#[test]
+fn all_that_are_not_right_are_listed_from_an_offset_on() {
+    let code = from_hex(RETURN).expect("digits");
+    let head = "0c0000000100090003000200000002000000";
+    let text = format!(
+        "{head}{}0c00000008000700070002000000070000000c0000000800070005000200000007000500",
+        &BLOCKS.replace(char::is_whitespace, "")[36..]
+    );
+    let map = from_hex(&text).expect("digits");
+    let listed = |from| model::inspect_from(0, from, &code, &map, 832);
+    assert_eq!(listed(0), (wrong(53, 0), vec![(53, 0), (71, 1)]));
+    assert_eq!(listed(54), (wrong(71, 1), vec![(71, 1)]));
+    assert_eq!(listed(72), (Inspected::Accepted, vec![]));
+}

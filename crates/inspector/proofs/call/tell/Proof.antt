@@ -7,8 +7,8 @@ use Rattle.inspector.proofs.call.tell.Tie as tie
 returns : tie.Need-returns
 returns c = search tells-none
 
-put64-requires : tie.Need-put64-requires
-put64-requires c κs = search needs
+copy-requires : tie.Need-copy-requires
+copy-requires c κs = search needs
 
 same-length : tie.Need-same-length
 same-length c = search needs
@@ -17,4 +17,4 @@ returns-2 : tie.Need-returns-2
 returns-2 c = search tells-there
 
 pub tell-spec : {M : Type 1} → statement M
-tell-spec = tie.close (tie.spec returns put64-requires same-length returns-2)
+tell-spec = tie.close (tie.spec returns copy-requires same-length returns-2)

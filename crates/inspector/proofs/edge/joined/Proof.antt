@@ -1,6 +1,5 @@
 -- `joined` meets its contract: each way out is a law of its own. Assumes nothing.
-use Rattle.inspector.proofs.Tabling.{joined-sum, joined-place, joined-fits, joined-known, joined-near, joined-sought}
-use Rattle.inspector.proofs.Seeking.{ready-walks}
+use Rattle.inspector.proofs.Tabling.{joined-sum, joined-place, joined-fits, joined-known, joined-none, joined-near}
 use borrow.Author.Needs.{needs}
 use Rattle.inspector.proofs.edge.joined.Statement.{statement}
 use Rattle.inspector.proofs.edge.joined.Tie as tie
@@ -44,23 +43,20 @@ returns c = search joined-known
 near-requires : tie.Need-near-requires
 near-requires c κs = search needs
 
-put64-requires : tie.Need-put64-requires
-put64-requires c κs = search joined-fits
-
 same-length-2 : tie.Need-same-length-2
 same-length-2 c = search needs
 
 returns-2 : tie.Need-returns-2
-returns-2 c = search joined-near
+returns-2 c = search joined-none
 
-seek-requires : tie.Need-seek-requires
-seek-requires c κs = search ready-walks
+put64-requires : tie.Need-put64-requires
+put64-requires c κs = search joined-fits
 
 same-length-3 : tie.Need-same-length-3
 same-length-3 c = search needs
 
 returns-3 : tie.Need-returns-3
-returns-3 c = search joined-sought
+returns-3 c = search joined-near
 
 pub joined-spec : {M : Type 1} → statement M
 joined-spec =
@@ -79,9 +75,8 @@ joined-spec =
     same-length
     returns
     near-requires
-    put64-requires
     same-length-2
     returns-2
-    seek-requires
+    put64-requires
     same-length-3
     returns-3)

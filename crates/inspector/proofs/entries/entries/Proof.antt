@@ -9,10 +9,10 @@ use Rattle.inspector.proofs.entries.entries.Statement.{statement}
 use Rattle.inspector.proofs.entries.entries.Tie as tie
 
 abbrev Inv-loop : tie.InvT-loop
-Inv-loop mode code map w₀ at₀ owner₀ w at owner = Looking (modeOf mode) map code w₀ at owner w
+Inv-loop mode code map w₀ from start block at₀ owner₀ w at owner = Looking (modeOf mode) map code from start block w₀ at owner w
 
 abbrev μ-loop : tie.MeasureT-loop
-μ-loop mode code map w₀ at₀ owner₀ w at owner = length map - at
+μ-loop mode code map w₀ from start block at₀ owner₀ w at owner = length map - at
 
 loop-holds : tie.Need-loop-holds Inv-loop μ-loop
 loop-holds c = search looking-start
@@ -26,8 +26,8 @@ enum-known-entry c = search needs
 shown-in-requires : tie.Need-shown-in-requires Inv-loop μ-loop
 shown-in-requires c κs = search needs
 
-enum-known-block : tie.Need-enum-known-block Inv-loop μ-loop
-enum-known-block c = search needs
+enum-known-own : tie.Need-enum-known-own Inv-loop μ-loop
+enum-known-own c = search needs
 
 judge-requires : tie.Need-judge-requires Inv-loop μ-loop
 judge-requires c κs =
@@ -54,8 +54,8 @@ same-length c = search needs
 returns : tie.Need-returns Inv-loop μ-loop
 returns c = search looking-wrong
 
-enum-known-block-2 : tie.Need-enum-known-block-2 Inv-loop μ-loop
-enum-known-block-2 c = search needs
+enum-known-own-2 : tie.Need-enum-known-own-2 Inv-loop μ-loop
+enum-known-own-2 c = search needs
 
 loop-less-2 : tie.Need-loop-less-2 Inv-loop μ-loop
 loop-less-2 c = search looking-less
@@ -82,7 +82,7 @@ entries-spec =
     next-requires
     enum-known-entry
     shown-in-requires
-    enum-known-block
+    enum-known-own
     judge-requires
     enum-told
     loop-less
@@ -90,7 +90,7 @@ entries-spec =
     enum-known-place
     same-length
     returns
-    enum-known-block-2
+    enum-known-own-2
     loop-less-2
     loop-again-2
     enum-told-2

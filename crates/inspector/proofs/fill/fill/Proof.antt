@@ -1,5 +1,5 @@
 -- `fill` meets its contract: each way out is a law of its own. Assumes nothing.
-use Rattle.inspector.proofs.Tabling.{Filling, fill-start, fill-passes, fill-in, fill-tables, fill-less, fill-on}
+use Rattle.inspector.proofs.Filling.{Filling, fill-start, fill-over, fill-in, fill-lent, fill-less, fill-on}
 use lib.ListN.{length}
 use Prim.Native.Nat.{_-_}
 use borrow.Author.Needs.{needs}
@@ -25,7 +25,7 @@ start-of-requires : tie.Need-start-of-requires Inv-loop μ-loop
 start-of-requires c κs = search needs
 
 note-requires : tie.Need-note-requires Inv-loop μ-loop
-note-requires c κs = (search fill-passes, (search fill-in, search fill-tables))
+note-requires c κs = (search fill-in, search fill-lent)
 
 loop-less : tie.Need-loop-less Inv-loop μ-loop
 loop-less c = search fill-less
@@ -40,7 +40,7 @@ same-length : tie.Need-same-length Inv-loop μ-loop
 same-length c = search needs
 
 returns : tie.Need-returns Inv-loop μ-loop
-returns c = search needs
+returns c = search fill-over
 
 pub fill-spec : {M : Type 1} → statement M
 fill-spec =

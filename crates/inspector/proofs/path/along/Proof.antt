@@ -29,7 +29,7 @@ returns : tie.Need-returns Inv-loop μ-loop
 returns c = search passed-unsound
 
 joined-requires : tie.Need-joined-requires Inv-loop μ-loop
-joined-requires c κs = (search needs, (search passed-tables, search passed-between))
+joined-requires c κs = (search passed-tables, search passed-between)
 
 same-length-2 : tie.Need-same-length-2 Inv-loop μ-loop
 same-length-2 c = search needs

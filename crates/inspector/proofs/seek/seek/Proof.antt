@@ -1,5 +1,5 @@
 -- `seek` meets its contract: each way out is a law of its own. Assumes nothing.
-use Rattle.inspector.proofs.Seeking.{Seeking, seek-start, seek-edge, seek-less, seek-own, seek-stops, seek-other, seek-over}
+use Rattle.inspector.proofs.Seeking.{Seeking, seek-start, seek-edge, seek-less, seek-own, seek-other, seek-over}
 use lib.ListN.{length}
 use Prim.Native.Nat.{_-_}
 use borrow.Author.Needs.{needs}
@@ -7,10 +7,10 @@ use Rattle.inspector.proofs.seek.seek.Statement.{statement}
 use Rattle.inspector.proofs.seek.seek.Tie as tie
 
 abbrev Inv-loop : tie.InvT-loop
-Inv-loop map start all from to at₀ mine₀ at mine = Seeking map to from start at mine
+Inv-loop map start from to at₀ mine₀ at mine = Seeking map to from start at mine
 
 abbrev μ-loop : tie.MeasureT-loop
-μ-loop map start all from to at₀ mine₀ at mine = length map - at
+μ-loop map start from to at₀ mine₀ at mine = length map - at
 
 loop-holds : tie.Need-loop-holds Inv-loop μ-loop
 loop-holds c = search seek-start
@@ -43,13 +43,7 @@ enum-told-3 : tie.Need-enum-told-3 Inv-loop μ-loop
 enum-told-3 c = search needs
 
 returns-2 : tie.Need-returns-2 Inv-loop μ-loop
-returns-2 c = search seek-stops
-
-loop-less-2 : tie.Need-loop-less-2 Inv-loop μ-loop
-loop-less-2 c = search seek-less
-
-loop-again-2 : tie.Need-loop-again-2 Inv-loop μ-loop
-loop-again-2 c = search seek-other
+returns-2 c = search seek-other
 
 enum-told-4 : tie.Need-enum-told-4 Inv-loop μ-loop
 enum-told-4 c = search needs
@@ -74,7 +68,5 @@ seek-spec =
     loop-again
     enum-told-3
     returns-2
-    loop-less-2
-    loop-again-2
     enum-told-4
     returns-3)
