@@ -222,14 +222,14 @@ fn call(random: &mut Random, maps: &[(u64, Vec<u8>, Vec<u8>)]) -> Inspecting {
         w: need + random.below(3) * 100,
         place: random.pick(&[0, 7, 8, 11]),
         from: random.pick(&[0, 0, 1, u64::MAX]),
-        rows: random.pick(&[0, 15, 16, 17, 31, 32, 40, 1_600]),
+        rows: random.pick(&[0, 15, 16, 17, 31, 32, 40, 1_600, 1_600, 1_600]),
         ours: false,
     };
     let paths = path_entries(map);
     if random.percent(50) && !paths.is_empty() {
         call.from = (paths[random.below(paths.len())].offset + random.below(2)) as u64;
     }
-    match random.below(13) {
+    match random.below(14) {
         0 => call.mode = random.pick(&[2, 77, u64::MAX]),
         1 => call.w = random.below(need),
         2 => call.mode = 1 - mode,
@@ -252,7 +252,7 @@ fn call(random: &mut Random, maps: &[(u64, Vec<u8>, Vec<u8>)]) -> Inspecting {
             resize(random, &mut call.map, path, code.len());
         }
         // Many that are not right, 7s among them.
-        12 if !paths.is_empty() => {
+        12 | 13 if !paths.is_empty() => {
             for path in &paths {
                 if random.percent(30) {
                     change(random, &mut call.map, path, code.len());

@@ -10,7 +10,7 @@ fn the_library_inspects_as_the_model_does() {
         all.accepted > 500 && all.first > 100 && all.later > 50,
         "{all:?}"
     );
-    assert!(all.longest > 30 && all.listed > 300, "{all:?}");
+    assert!(all.longest > 30 && all.listed > 500, "{all:?}");
     assert!(
         all.refused[0] > 0 && all.refused[1] > 50 && all.refused[2] > 50 && all.bad > 20,
         "{all:?}"
