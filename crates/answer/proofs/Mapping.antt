@@ -8,13 +8,13 @@ use lib.Dec.{eqb, ltb}
 use lib.ListN.{length, replicate}
 use borrow.Author.Tests.{ltb-true, ltb-false, lt-ltb, le-ltb}
 use Rattle.spec.specs.Opcodes.{in-mode}
-use Rattle.spec.specs.Lists.{within}
+use Rattle.spec.specs.Lists.{if, within}
 use Rattle.spec.specs.Rooms.{Lent, longest, work-need}
 use Rattle.spec.specs.Answer as spec
 use Rattle.spec.specs.Answer.{refused, numberOf, written, searched, mapped, answer, room-after, output-after}
 use Rattle.layout.specs.Buffers.{Mem}
 use Rattle.laws.proofs.Branch.{both, if-true, if-false}
-use Rattle.answer.specs.Contracts.{lentOf, Lends, earlyOf, rest, Ran, Wiped, Mapped, RanBoth, MappedBoth}
+use Rattle.answer.specs.Contracts.{lentOf, Lends, earlyOf, First, rest, Ran, Wiped, Mapped, RanBoth, MappedBoth}
 use Rattle.spec.specs.JsonAnswer.{within-text, json-answer, texted, text-after}
 use Rattle.answer.specs.declared.map.Answer.{Answer}
 use Rattle.answer.specs.declared.both.Both.{Both}
@@ -29,6 +29,28 @@ wiped : (x : spec.Answer) → Late (numberOf x) → (b b₁ : List ℕ) {b′ : 
 wiped x late b b₁ e f = f ∙ ap (λ (n : ℕ). replicate n 0) e ∙ sym (if-false (within 1 3 (numberOf x) || eqb (numberOf x) 13) b (replicate (length b) 0) (late-apart _ late))
 
 -- ---- the tests in their order
+
+module _ (n limit mode w : ℕ) where
+  pub first-long : longest < n → First n limit mode w 1
+  first-long h = record { is = sym (if-true _ _ _ (lt-ltb _ _ h)) }
+
+  module _ (short : n ≤ longest) where
+    pub first-over : 500000 < limit → First n limit mode w 2
+    first-over h = record { is = sym (if-false _ _ _ (le-ltb _ _ short) ∙ if-true _ _ _ (lt-ltb _ _ h)) }
+
+    module _ (limited : limit ≤ 500000) where
+      pub first-moded : 1 < mode → First n limit mode w 13
+      first-moded h = record { is = sym (if-false _ _ _ (le-ltb _ _ short) ∙ if-false _ _ _ (le-ltb _ _ limited) ∙ if-true _ _ _ (lt-ltb _ _ h)) }
+
+      module _ (is : mode ≤ 1) {need : ℕ} (e : need ≡ work-need n) where
+        first-room : earlyOf n limit mode w ≡ if (ltb w (work-need n)) 3 0
+        first-room = if-false _ _ _ (le-ltb _ _ short) ∙ if-false _ _ _ (le-ltb _ _ limited) ∙ if-false _ _ _ (le-ltb _ _ is)
+
+        pub first-scant : w < need → First n limit mode w 3
+        first-scant h = record { is = sym (first-room ∙ if-true _ _ _ (lt-ltb w (work-need n) (omega arith))) }
+
+        pub first-none : need ≤ w → First n limit mode w 0
+        first-none h = record { is = sym (first-room ∙ if-false _ _ _ (le-ltb w (work-need n) (omega arith))) }
 
 -- what the first that applies says
 data Early (n limit mode w x : ℕ) : Type 0 where
@@ -74,8 +96,8 @@ module _ (limit choice mode : ℕ) (code : List ℕ) (l : Lent) where
       ∙ if-false (ltb (l .w) (work-need (length code))) _ _ (le-ltb _ _ lent)
 
 -- where none applies the code is taken, and the mode is one
-pub early-lends : (mode : ℕ) {limit x : ℕ} {code w : List ℕ} → x ≡ earlyOf (length code) limit mode (length w) → x ≡ 0 → Lends limit code w
-early-lends mode {limit} {x} {code} {w} is z = by (subst (Early (length code) limit mode (length w)) (sym is) (tested _ _ _ _)) z
+pub early-lends : {mode limit x : ℕ} {code w : List ℕ} → First (length code) limit mode (length w) x → x ≡ 0 → Lends limit code w
+early-lends {mode} {limit} {x} {code} {w} f z = by (subst (Early (length code) limit mode (length w)) (sym (f .is)) (tested _ _ _ _)) z
   where
     by : Early (length code) limit mode (length w) x → x ≡ 0 → Lends limit code w
     by (long e h) z = absurd (omega arith)
@@ -84,8 +106,8 @@ early-lends mode {limit} {x} {code} {w} is z = by (subst (Early (length code) li
     by (scant e short limited m h) z = absurd (omega arith)
     by (taken e short limited m lent) z = record { short = short; limited = limited; lent = lent }
 
-pub early-mode : (n limit w : ℕ) {mode x : ℕ} → x ≡ earlyOf n limit mode w → x ≡ 0 → mode ≤ 1
-early-mode n limit w {mode} {x} is z = by (subst (Early n limit mode w) (sym is) (tested n limit mode w)) z
+pub early-mode : {n limit mode w x : ℕ} → First n limit mode w x → x ≡ 0 → mode ≤ 1
+early-mode {n} {limit} {mode} {w} {x} f z = by (subst (Early n limit mode w) (sym (f .is)) (tested n limit mode w)) z
   where
     by : Early n limit mode w x → x ≡ 0 → mode ≤ 1
     by (long e h) z = absurd (omega arith)
@@ -114,10 +136,10 @@ module _ (limit choice mode : ℕ) (code : List ℕ) (m : Mem) (out : List ℕ) 
         q = same (m .q);
       }
 
-  pub mapped-early : {x : ℕ} {a : Answer} → x ≡ earlyOf (length code) limit mode (length (m .w)) → (x ≡ 0 → ⊥) → a ≡ record { number = x; written = 0 }
+  pub mapped-early : {x : ℕ} {a : Answer} → First (length code) limit mode (length (m .w)) x → (x ≡ 0 → ⊥) → a ≡ record { number = x; written = 0 }
       → Mapped limit choice mode code m out m out a
-  mapped-early {x} is z e =
-      let k = refuses limit choice mode code (lentOf m out) (subst (Early (length code) limit mode (length (m .w))) (sym is) (tested _ _ _ _)) z in
+  mapped-early {x} f z e =
+      let k = refuses limit choice mode code (lentOf m out) (subst (Early (length code) limit mode (length (m .w))) (sym (f .is)) (tested _ _ _ _)) z in
       rw e (untouched x (k .0) (k .1))
 
   module _ (h : Lends limit code (m .w)) (is-mode : mode ≤ 1) {k : ℕ} (is-number : k ≡ mode) {m₁ m′ : Mem} {out′ : List ℕ} {a : Answer}
@@ -173,10 +195,10 @@ module _ (limit choice mode : ℕ) (code : List ℕ) (m : Mem) (out text : List 
         q = same (m .q);
       }
 
-  pub both-early : {x : ℕ} {a : Both} → x ≡ earlyOf (length code) limit mode (length (m .w)) → (x ≡ 0 → ⊥) → a ≡ record { number = x; written = 0; texted = 0 }
+  pub both-early : {x : ℕ} {a : Both} → First (length code) limit mode (length (m .w)) x → (x ≡ 0 → ⊥) → a ≡ record { number = x; written = 0; texted = 0 }
       → MappedBoth limit choice mode code m out text m out text a
-  both-early {x} is z e =
-      let k = refuses limit choice mode code (lentOf m out) (subst (Early (length code) limit mode (length (m .w))) (sym is) (tested _ _ _ _)) z in
+  both-early {x} f z e =
+      let k = refuses limit choice mode code (lentOf m out) (subst (Early (length code) limit mode (length (m .w))) (sym (f .is)) (tested _ _ _ _)) z in
       rw e (untouched-both x (k .0) (given-as (k .1)))
 
   module _ (h : Lends limit code (m .w)) (is-mode : mode ≤ 1) {k : ℕ} (is-number : k ≡ mode) {m₁ m′ : Mem} {out′ text′ : List ℕ} {a : Both}

@@ -9,11 +9,11 @@ use Rattle.spec.specs.Lists.{if}
 use Rattle.spec.specs.Rooms.{Lent, shortage, longest, work-need}
 use Rattle.spec.specs.Search.{Rec}
 use Rattle.spec.specs.Answer as spec
-use Rattle.spec.specs.Answer.{numberOf, written, searched, mapped, within-out, within-rooms, answer, room-after, output-after}
+use Rattle.spec.specs.Answer.{refused, numberOf, written, searched, mapped, within-out, within-rooms, answer, room-after, output-after}
 use Rattle.spec.specs.JsonAnswer.{within-text, json-answer, texted, text-after}
 use Rattle.layout.specs.Buffers.{Mem}
+use Rattle.steps.specs.declared.Run.{Run}
 use Rattle.entries.specs.Contracts.{mapOf, Ends}
-use Rattle.answer.specs.declared.find.Found.{Found}
 use Rattle.answer.specs.declared.map.Answer.{Answer}
 use Rattle.answer.specs.declared.both.Both.{Both}
 
@@ -31,6 +31,9 @@ pub record Lends (limit : ℕ) (code w : List ℕ) : Type 0 where
 abbrev pub earlyOf : ℕ → ℕ → ℕ → ℕ → ℕ
 earlyOf n limit mode w = if (ltb longest n) 1 (if (ltb 500000 limit) 2 (if (ltb 1 mode) 13 (if (ltb w (work-need n)) 3 0)))
 
+pub record First (n limit mode w x : ℕ) : Type 0 where
+  pub is : x ≡ earlyOf n limit mode w
+
 -- ---- the map in the rooms
 
 -- W, R and Q hold the map that document 01 gives
@@ -42,9 +45,9 @@ pub record Leaves (limit mode : ℕ) (code w r q : List ℕ) (m energy : ℕ) : 
   pub small : energy < 2 ^ 32
 
 -- the number of the first shortage, whatever the output's length; or 0, and the map is left
-pub record Finds (limit mode : ℕ) (code : List ℕ) (m : Mem) (w r q : List ℕ) (d : Found) : Type 0 where
-  pub number : (out : List ℕ) → d .number ≡ shortage (lentOf m out) (searched (in-mode mode) limit code .needs)
-  pub leaves : d .number ≡ 0 → Leaves limit mode code w r q (d .records) (d .energy)
+pub record Finds (limit mode : ℕ) (code : List ℕ) (m : Mem) (w r q : List ℕ) (d : Run) : Type 0 where
+  pub number : (out : List ℕ) → d .code ≡ shortage (lentOf m out) (searched (in-mode mode) limit code .needs)
+  pub leaves : d .code ≡ 0 → Leaves limit mode code w r q (d .counts .records) (d .energy)
 
 -- ---- the entry
 
@@ -58,6 +61,17 @@ pub record Tells (x : spec.Answer) (out out′ : List ℕ) (a : Answer) : Type 0
   pub number : a .number ≡ numberOf x
   pub count : a .written ≡ length (written x)
   pub out-is : out′ ≡ output-after x out
+
+-- the shortage answered; or 9 tested, and the rest written, for the map that W, R and Q hold
+pub record Put (w r q : List ℕ) (n : ℕ) (d : Run) (choice : ℕ) (out out′ : List ℕ) (a : Answer) : Type 0 where
+  pub short : (d .code ≡ 0 → ⊥) → Tells (refused (d .code)) out out′ a
+  pub answer : d .code ≡ 0 → (mode : ℕ) (code : List ℕ) (recs : List Rec) → Ends w r q n (d .counts .records) mode code recs → (l : Lent) → length out ≡ l .out
+      → Tells (within-out l (mapOf mode code recs (d .energy) choice)) out out′ a
+
+-- 9 for no bytes
+pub record Counted (written : ℕ) (a : Answer) : Type 0 where
+  pub none : written ≡ 0 → a ≡ record { number = 9; written = 0 }
+  pub some : (written ≡ 0 → ⊥) → a ≡ record { number = 0; written = written }
 
 abbrev pub Ran : ℕ → ℕ → ℕ → List ℕ → Mem → List ℕ → List ℕ → Answer → Type 0
 Ran limit choice mode code m out out′ a = Tells (rest (lentOf m out) limit choice mode code) out out′ a
@@ -91,10 +105,11 @@ pub record TellsBoth (x : spec.Answer) (out out′ text text′ : List ℕ) (a :
   pub out-is : out′ ≡ output-after x out
   pub text-is : text′ ≡ text-after x text
 
--- 9 and 11 tested, and the rest written, for the map that W, R and Q hold
-pub record PutBoth (w r q : List ℕ) (n m energy choice : ℕ) (out out′ text text′ : List ℕ) (a : Both) : Type 0 where
-  pub answer : (mode : ℕ) (code : List ℕ) (recs : List Rec) → Ends w r q n m mode code recs → (l : Lent) → length out ≡ l .out
-      → TellsBoth (within-text (length text) (within-out l (mapOf mode code recs energy choice))) out out′ text text′ a
+-- the shortage answered; or 9 and 11 tested, and the rest written
+pub record PutBoth (w r q : List ℕ) (n : ℕ) (d : Run) (choice : ℕ) (out out′ text text′ : List ℕ) (a : Both) : Type 0 where
+  pub short : (d .code ≡ 0 → ⊥) → TellsBoth (refused (d .code)) out out′ text text′ a
+  pub answer : d .code ≡ 0 → (mode : ℕ) (code : List ℕ) (recs : List Rec) → Ends w r q n (d .counts .records) mode code recs → (l : Lent) → length out ≡ l .out
+      → TellsBoth (within-text (length text) (within-out l (mapOf mode code recs (d .energy) choice))) out out′ text text′ a
 
 abbrev pub RanBoth : ℕ → ℕ → ℕ → List ℕ → Mem → List ℕ → List ℕ → List ℕ → List ℕ → Both → Type 0
 RanBoth limit choice mode code m out out′ text text′ a = TellsBoth (within-text (length text) (rest (lentOf m out) limit choice mode code)) out out′ text text′ a

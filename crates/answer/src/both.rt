@@ -4,16 +4,15 @@ use crate::find::find;
 use crate::map::wipe_rooms;
 use entries::entries_size;
 use entries::write_entries;
+use exec::mode::mode_of;
 use json::text_size;
 use json::write_text;
 use lent::units;
-use state::mode::Mode;
-use state::mode::mode_of;
+use steps::Run;
 ghost use mathlib.Core.Path.{_≡_};
 ghost use Rattle.layout.specs.Buffers.{buffers};
-ghost use Rattle.state.specs.Modes.{modeOf};
 ghost use Rattle.entries.specs.Contracts.{Writes};
-ghost use Rattle.answer.specs.Contracts.{Lends, PutBoth, RanBoth, MappedBoth};
+ghost use Rattle.answer.specs.Contracts.{PutBoth, MappedBoth};
 
 // The number of a refusal and twice 0, or 0 and the bytes written, of entries and of text.
 pub struct Both {
@@ -29,57 +28,35 @@ fn put_both(
     q: &[u8],
     out: &mut [u8],
     text: &mut [u8],
-    n: usize,
-    m: usize,
-    energy: usize,
+    size: usize,
+    d: Run,
     choice: usize,
 ) -> Both
-    requires { ⌜ Writes (now w) (now r) (now q) n m energy ⌝ }
-    ensures { λ a. ⌜ PutBoth (now (w .entry)) (now (r .entry)) (now (q .entry)) n m energy choice (now (out .entry)) (now (out .exit)) (now (text .entry)) (now (text .exit)) a ⌝ }
+    requires { ⌜ (d .code ≡ 0 → Writes (now w) (now r) (now q) size (d .counts .records) (d .energy)) ⌝ }
+    ensures { λ a. ⌜ PutBoth (now (w .entry)) (now (r .entry)) (now (q .entry)) size d choice (now (out .entry)) (now (out .exit)) (now (text .entry)) (now (text .exit)) a ⌝ }
 {
-    let size = text_size(w, r, q, n, m);
-    if units(text.len(), 1) < size {
-        if units(out.len(), 1) < entries_size(w, r, q, n, m, energy, choice) {
+    if d.code != 0 {
+        return refused_both(d.code);
+    }
+    let c = d.counts;
+    let records = c.records;
+    let long = text_size(w, r, q, size, records);
+    if units(text.len(), 1) < long {
+        if units(out.len(), 1) < entries_size(w, r, q, size, records, choice) {
             return refused_both(9);
         }
         return refused_both(11);
     }
-    let written = write_entries(w, r, q, out, n, m, energy, choice);
+    let written = write_entries(w, r, q, out, size, records, d.energy, choice);
     if written == 0 {
         return refused_both(9);
     }
-    let texted = write_text(w, r, q, text, n, m, size);
+    let texted = write_text(w, r, q, text, size, records, long);
     Both {
         number: 0,
         written,
         texted,
     }
-}
-
-// The map of a code that is taken, with no room wiped yet.
-fn run_both(
-    limit: usize,
-    choice: usize,
-    mode: Mode,
-    code: &[u8],
-    w: &mut [u8],
-    p: &mut [u8],
-    s: &mut [u8],
-    t: &mut [u8],
-    r: &mut [u8],
-    q: &mut [u8],
-    out: &mut [u8],
-    text: &mut [u8],
-) -> Both
-    requires { ⌜ Lends limit (now code) (now w) ⌝ }
-    ensures { λ a. ⌜ RanBoth limit choice (modeOf mode) (now (code .entry)) (buffers (now (w .entry)) (now (p .entry)) (now (s .entry)) (now (t .entry)) (now (r .entry)) (now (q .entry)))
-        (now (out .entry)) (now (out .exit)) (now (text .entry)) (now (text .exit)) a ⌝ }
-{
-    let d = find(limit, mode, code, w, p, s, t, r, q);
-    if d.number != 0 {
-        return refused_both(d.number);
-    }
-    put_both(w, r, q, out, text, code.len(), d.records, d.energy, choice)
 }
 
 // "A call that does what the entry does and also fills a text buffer": as `map_code`, with an eighth lent buffer.
@@ -105,20 +82,8 @@ pub fn map_json(
     if number != 0 {
         return refused_both(number);
     }
-    let a = run_both(
-        limit,
-        choice,
-        mode_of(mode),
-        code,
-        w,
-        p,
-        s,
-        t,
-        r,
-        q,
-        out,
-        text,
-    );
+    let d = find(limit, mode_of(mode), code, w, p, s, t, r, q);
+    let a = put_both(w, r, q, out, text, code.len(), d, choice);
     wipe_rooms(w, p, s, t, r, q);
     a
 }

@@ -4,13 +4,23 @@ use layout::LONGEST;
 use layout::part::NEED;
 use layout::part::NEED_MORE;
 ghost use mathlib.Core.Path.{_≡_};
-ghost use Rattle.answer.specs.Contracts.{earlyOf};
+ghost use Prim.Native.Nat.{_≤_};
+ghost use Rattle.spec.specs.Rooms.{longest, work-need};
+ghost use Rattle.answer.specs.Contracts.{First};
 
-// The first of 1, 2, 13 and 3 that applies to a code of n bytes, a limit, a mode, and a W of so many bytes; 0 if none does.
-pub fn early(n: usize, limit: usize, mode: usize, w: usize) -> usize
-    ensures { λ r. ⌜ r ≡ earlyOf n limit mode w ⌝ }
+// "Work W needs 64 × code length + 256 bytes."
+pub fn need_of(size: usize) -> usize
+    requires { ⌜ size ≤ longest ⌝ }
+    ensures { λ r. ⌜ r ≡ work-need size ⌝ }
 {
-    if LONGEST < n {
+    NEED * size + NEED_MORE
+}
+
+// The first of 1, 2, 13 and 3 that applies to a code of `size` bytes, a limit, a mode, and a W of so many bytes; 0 if none does.
+pub fn early(size: usize, limit: usize, mode: usize, lent: usize) -> usize
+    ensures { λ r. ⌜ First size limit mode lent r ⌝ }
+{
+    if LONGEST < size {
         return 1;
     }
     if 500000 < limit {
@@ -19,7 +29,7 @@ pub fn early(n: usize, limit: usize, mode: usize, w: usize) -> usize
     if 1 < mode {
         return 13;
     }
-    if w < NEED * n + NEED_MORE {
+    if lent < need_of(size) {
         return 3;
     }
     0

@@ -4,5 +4,7 @@ mod early;
 mod find;
 mod map;
 
+pub use both::Both;
 pub use both::map_json;
+pub use map::Answer;
 pub use map::map_code;

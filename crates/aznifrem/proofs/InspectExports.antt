@@ -1,39 +1,17 @@
--- The ways out of aznifrem_inspect and aznifrem_inspect_from. Assumes nothing.
-use mathlib.Core.Path.{_≡_, refl, sym, ap, _∙_}
-use Prim.Native.Nat.{ℕ, _+_, _*_, _-_, _^_, _≤_, _<_}
+-- What aznifrem_inspect and aznifrem_inspect_from give. Assumes nothing.
+use mathlib.Core.Path.{_≡_, ap, _∙_}
+use Prim.Native.Nat.{ℕ, _≤_}
 use native.Mathlib.Omega.{arith}
 use mathlib.Core.List.{List}
-use mir.Syntax.{w64}
-use mir.Val.{Fits}
-use lib.Dec.{ltb}
 use lib.ListN.{length}
-use borrow.Author.Tests.{lt-ltb, le-ltb}
 use Rattle.spec.specs.Opcodes.{Rules, in-mode}
 use Rattle.spec.specs.Reader.{told}
 use Rattle.spec.specs.Inspector.{Inspection, inspect-from, numberOf, exported}
-use Rattle.laws.proofs.Branch.{if-true, if-false}
 use Rattle.theorems.proofs.Counts.{Lawful, lawful}
 use Rattle.theorems.proofs.InspectorCall.{Verdict, code-over, mode-over, work-short, entry-bad, path-wrong, all-right, verdict}
 use Rattle.inspector.specs.Calling.{resultOf, InspectedFrom, InspectedAs}
 use Rattle.inspector.specs.declared.call.Inspected.{Inspected}
 use Rattle.aznifrem.specs.InspectContract.{ExportedInspect, ExportedInspectFrom}
-
--- ---- told_of
-
-module _ (i : Inspected) (low : i .number ≤ 17) where
-  pub told-sum : i .value < 2 ^ 56 → Fits w64 (i .number + 256 * i .value)
-  told-sum l = omega (arith, low)
-
-  pub told-most : Fits w64 (i .number + 256 * (2 ^ 56 - 1))
-  told-most = omega (arith, low)
-
-  pub told-given : i .value < 2 ^ 56 → i .number + 256 * i .value ≡ told (i .number) (i .value)
-  told-given l = ap (λ (n : ℕ). i .number + 256 * n) (sym (if-true (ltb (i .value) (2 ^ 56)) (i .value) (2 ^ 56 - 1) (lt-ltb (i .value) (2 ^ 56) l)))
-
-  pub told-beyond : 2 ^ 56 ≤ i .value → i .number + 256 * (2 ^ 56 - 1) ≡ told (i .number) (i .value)
-  told-beyond l = ap (λ (n : ℕ). i .number + 256 * n) (sym (if-false (ltb (i .value) (2 ^ 56)) (i .value) (2 ^ 56 - 1) (le-ltb (i .value) (2 ^ 56) l)))
-
--- ---- the calls
 
 -- each refusal's number is small
 low : {rules : Rules} {ok : Lawful (rules .row)} {code map : List ℕ} {from work : ℕ} {i : Inspection} → Verdict rules ok code map from work i → numberOf i ≤ 17

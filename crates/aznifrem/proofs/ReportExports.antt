@@ -1,48 +1,34 @@
--- The ways out of the exported calls on reports. Assumes nothing.
-use mathlib.Core.Path.{_≡_, sym, ap, _∙_}
-use Prim.Native.Nat.{ℕ, _+_, _*_, _-_, _^_, _≤_, _<_}
+-- What the exported calls on reports give. Assumes nothing.
+use mathlib.Core.Path.{_≡_, refl, ap, _∙_}
+use Prim.Native.Nat.{ℕ, _≤_}
 use native.Mathlib.Omega.{arith}
 use mathlib.Core.List.{List}
-use lib.Dec.{ltb}
-use borrow.Author.Tests.{lt-ltb, le-ltb}
 use Rattle.spec.specs.Reader.{told}
 use Rattle.spec.specs.Report.{ReportOutcome, reported, bad-map, no-fit, reports-as, report-add, report-join}
-use Rattle.laws.proofs.Branch.{if-true, if-false}
 use Rattle.reader.specs.declared.scan.Reading.{Reading}
 use Rattle.report.specs.Merging.{numberOf, Told}
 use Rattle.report.specs.Calls.{saidOf, Added}
 use Rattle.report.proofs.Merged.{join-good}
 use Rattle.aznifrem.specs.Reports.{ExportedReport}
+use Rattle.aznifrem.proofs.Telling.{told-none}
 
--- by the code's outcome
-not-12 : (o : ReportOutcome) {r : Reading} → r ≡ saidOf o → (r .number ≡ 12 → ⊥) → r .number ≡ reports-as o
-not-12 (reported b) e n = ap (λ (x : Reading). x .number) e
-not-12 (bad-map at) e n = absurd (n (ap (λ (x : Reading). x .number) e))
-not-12 no-fit e n = ap (λ (x : Reading). x .number) e
+-- number and offset as one
+joined : (o : ReportOutcome) → told (saidOf o .number) (saidOf o .offset) ≡ reports-as o
+joined (reported b) = told-none 0
+joined (bad-map at) = refl
+joined no-fit = told-none 16
 
-is-12 : (o : ReportOutcome) {r : Reading} → r ≡ saidOf o → r .number ≡ 12 → told 12 (r .offset) ≡ reports-as o
-is-12 (reported b) e z = let k : _≡_ {A = ℕ} 0 12 = sym (ap (λ (x : Reading). x .number) e) ∙ z in absurd (omega arith)
-is-12 (bad-map at) e z = ap (told 12) (ap (λ (x : Reading). x .offset) e)
-is-12 no-fit e z = let k : _≡_ {A = ℕ} 16 12 = sym (ap (λ (x : Reading). x .number) e) ∙ z in absurd (omega arith)
+low : (o : ReportOutcome) → saidOf o .number ≤ 17
+low (reported b) = omega arith
+low (bad-map at) = omega arith
+low no-fit = omega arith
 
-module _ (report map : List ℕ) {report′ : List ℕ} {r : Reading} (a : Added report map report′ r) where
-  pub added-plain : (r .number ≡ 12 → ⊥) → ExportedReport report (report-add report map) report′ (r .number)
-  added-plain n = record { number = not-12 (report-add report map) (a .said) n; bytes = a .bytes }
+module _ {report map report′ : List ℕ} {r : Reading} (a : Added report map report′ r) where
+  pub added-low : r .number ≤ 17
+  added-low = omega (arith, ap (λ (x : Reading). x .number) (a .said), low (report-add report map))
 
-  module _ (z : r .number ≡ 12) where
-    pub added-at : r .offset < 2 ^ 56 → ExportedReport report (report-add report map) report′ (12 + 256 * r .offset)
-    added-at h =
-        record {
-          number = sym (ap (λ (x : ℕ). 12 + 256 * x) (if-true (ltb (r .offset) (2 ^ 56)) (r .offset) (2 ^ 56 - 1) (lt-ltb _ _ h))) ∙ is-12 (report-add report map) (a .said) z;
-          bytes = a .bytes;
-        }
-
-    pub added-beyond : 2 ^ 56 ≤ r .offset → ExportedReport report (report-add report map) report′ (12 + 256 * (2 ^ 56 - 1))
-    added-beyond h =
-        record {
-          number = sym (ap (λ (x : ℕ). 12 + 256 * x) (if-false (ltb (r .offset) (2 ^ 56)) (r .offset) (2 ^ 56 - 1) (le-ltb _ _ h))) ∙ is-12 (report-add report map) (a .said) z;
-          bytes = a .bytes;
-        }
+  pub added-given : {x : ℕ} → x ≡ told (r .number) (r .offset) → ExportedReport report (report-add report map) report′ x
+  added-given k = record { number = k ∙ ap (λ (y : Reading). told (y .number) (y .offset)) (a .said) ∙ joined (report-add report map); bytes = a .bytes }
 
 plain-number : (o : ReportOutcome) → ((at : ℕ) → o ≡ bad-map at → ⊥) → numberOf o ≡ reports-as o
 plain-number (reported b) n = omega arith

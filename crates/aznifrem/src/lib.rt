@@ -4,8 +4,11 @@
 mod archive;
 mod release;
 mod second;
+mod told;
 mod trace;
 
+use answer::Answer;
+use answer::Both;
 use answer::map_code;
 use answer::map_json;
 use reader::read;
@@ -13,12 +16,13 @@ pub use release::aznifrem_report_add;
 pub use release::aznifrem_report_join;
 pub use second::aznifrem_inspect;
 pub use second::aznifrem_inspect_from;
+use told::told_of;
 pub use trace::aznifrem_follow;
 ghost use mathlib.Core.Path.{_≡_};
 ghost use Rattle.spec.specs.Reader as definitions;
 ghost use Rattle.spec.specs.Reader.{reads-as};
 ghost use Rattle.layout.specs.Buffers.{buffers};
-ghost use Rattle.aznifrem.specs.Contracts.{Exported, ExportedJson};
+ghost use Rattle.aznifrem.specs.Contracts.{Gives, Exported, Few, GivesBoth, ExportedJson};
 pub use archive::aznifrem_salvage;
 
 // Maps a code at an energy limit, in mode 0 or 1, over seven lent buffers; gives the number of the refusal, or the bytes written, which are never under 18
@@ -41,7 +45,7 @@ pub extern "C" fn aznifrem_map(
     ensures { λ x. ⌜ Exported limit choice mode (now (code .entry)) (buffers (now (w .entry)) (now (p .entry)) (now (s .entry)) (now (t .entry)) (now (r .entry)) (now (q .entry)))
         (now (out .entry)) (buffers (now (w .exit)) (now (p .exit)) (now (s .exit)) (now (t .exit)) (now (r .exit)) (now (q .exit))) (now (out .exit)) x ⌝ }
 {
-    let a = map_code(
+    given(map_code(
         limit as usize,
         choice as usize,
         mode as usize,
@@ -53,7 +57,13 @@ pub extern "C" fn aznifrem_map(
         r,
         q,
         out,
-    );
+    ))
+}
+
+// "the exported entry gives whichever isn't 0"
+fn given(a: Answer) -> u64
+    ensures { λ x. ⌜ Gives a x ⌝ }
+{
     if a.number != 0 {
         return a.number as u64;
     }
@@ -81,7 +91,7 @@ pub extern "C" fn aznifrem_json(
         (now (out .entry)) (now (text .entry)) (buffers (now (w .exit)) (now (p .exit)) (now (s .exit)) (now (t .exit)) (now (r .exit)) (now (q .exit)))
         (now (out .exit)) (now (text .exit)) x ⌝ }
 {
-    let b = map_json(
+    given_both(map_json(
         limit as usize,
         choice as usize,
         mode as usize,
@@ -94,7 +104,14 @@ pub extern "C" fn aznifrem_json(
         q,
         out,
         text,
-    );
+    ))
+}
+
+// The number, or both counts as one.
+fn given_both(b: Both) -> u64
+    requires { ⌜ Few b ⌝ }
+    ensures { λ x. ⌜ GivesBoth b x ⌝ }
+{
     if b.number != 0 {
         return b.number as u64;
     }
@@ -107,11 +124,5 @@ pub extern "C" fn aznifrem_read(map: &[u8]) -> u64
     ensures { λ x. ⌜ x ≡ reads-as (definitions.read (now (map .entry))) ⌝ }
 {
     let r = read(map);
-    if r.number == 0 {
-        return 0;
-    }
-    if r.offset < 0x100_0000_0000_0000 {
-        return (12 + 256 * r.offset) as u64;
-    }
-    12 + 256 * 0xFF_FFFF_FFFF_FFFF
+    told_of(r.number, r.offset)
 }

@@ -1,5 +1,6 @@
 // The exported calls on reports (document 02, No. 11).
 // "Refusals: 12 as in No. 2, then 16, a total would not fit; either leaves the report as before that map."
+use crate::told::told_of;
 use report::add;
 use report::join;
 ghost use Rattle.spec.specs.Report.{report-add, report-join};
@@ -11,13 +12,7 @@ pub extern "C" fn aznifrem_report_add(report: &mut [u8], map: &[u8]) -> u64
     ensures { λ x. ⌜ ExportedReport (now (report .entry)) (report-add (now (report .entry)) (now (map .entry))) (now (report .exit)) x ⌝ }
 {
     let r = add(report, map);
-    if r.number != 12 {
-        return r.number as u64;
-    }
-    if r.offset < 0x100_0000_0000_0000 {
-        return (12 + 256 * r.offset) as u64;
-    }
-    12 + 256 * 0xFF_FFFF_FFFF_FFFF
+    told_of(r.number, r.offset)
 }
 
 // Joins another report to a report; gives 0, or 16 where a total would not fit.

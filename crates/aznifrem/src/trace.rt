@@ -1,5 +1,6 @@
 // The follower, exported.
 // "Write a follower that takes an answer, the code and such a log (8-byte little-endian numbers), and walks it block by block."
+use crate::told::told_of;
 use follow::follow;
 ghost use Rattle.aznifrem.specs.FollowContract.{ExportedFollow};
 
@@ -16,8 +17,5 @@ pub extern "C" fn aznifrem_follow(
     ensures { λ x. ⌜ ExportedFollow (now (map .entry)) (now (code .entry)) (now (log .entry)) (now (work .entry)) (now (counts .entry)) (now (work .exit)) (now (counts .exit)) x ⌝ }
 {
     let f = follow(map, code, log, work, counts);
-    if f.value < 0x100_0000_0000_0000 {
-        return (f.number + 256 * f.value) as u64;
-    }
-    (f.number + 256 * 0xFF_FFFF_FFFF_FFFF) as u64
+    told_of(f.number, f.value)
 }

@@ -7,7 +7,7 @@ use native.Mathlib.Omega.{arith}
 use lib.ListN.{length}
 use Rattle.spec.specs.Rooms.{units}
 use Rattle.entries.specs.declared.row.Span.{Span}
-use Rattle.entries.specs.Contracts.{Answered, Writes, Written, Ended, PathOf, Sized}
+use Rattle.entries.specs.Contracts.{Answered, Writes, Written, PathsEnd, PathOf, Sized}
 
 pub one-answered : {bs out u v : List ℕ} {a e : ℕ} → Answered bs out u a → Answered bs out v e → (a ≡ e) × (u ≡ v)
 one-answered {bs} {out} {u} {v} {a} {e} p q = go (decLt (units (length out) 1) (length bs))
@@ -20,10 +20,10 @@ pub one-written : {w r q out u v : List ℕ} {n m energy choice a e : ℕ} → W
     → (a ≡ e) × (u ≡ v)
 one-written h f g = one-answered (f .answer (h .mode) (h .code) (h .recs) (h .ends)) (g .answer (h .mode) (h .code) (h .recs) (h .ends))
 
-pub one-size : {w r q : List ℕ} {n m energy choice j k : ℕ} → Writes w r q n m energy → Sized w r q n m energy choice j → Sized w r q n m energy choice k → j ≡ k
-one-size h s t = s .is (h .mode) (h .code) (h .recs) (h .ends) ∙ sym (t .is (h .mode) (h .code) (h .recs) (h .ends))
+pub one-size : {w r q : List ℕ} {n m energy choice j k : ℕ} → Writes w r q n m energy → Sized w r q n m choice j → Sized w r q n m choice k → j ≡ k
+one-size {energy} h s t = s .is (h .mode) (h .code) (h .recs) energy (h .ends) ∙ sym (t .is (h .mode) (h .code) (h .recs) energy (h .ends))
 
-pub one-begin : {r : List ℕ} {i d e : ℕ} → Ended r i d → Ended r i e → d ≡ e
+pub one-begin : {r : List ℕ} {i d e : ℕ} → PathsEnd r i d → PathsEnd r i e → d ≡ e
 one-begin p q = p .is ∙ sym (q .is)
 
 pub one-path : {r : List ℕ} {i : ℕ} {s t : Span} → PathOf r i s → PathOf r i t → s ≡ t

@@ -15,11 +15,11 @@ pub struct Family {
     pub missing: usize,
 }
 
-// That of a code of n bytes.
-pub fn family_of(n: usize) -> Family
-    ensures { λ family. ⌜ family ≡ familyOf (wide-code n) ⌝ }
+// That of a code of `size` bytes.
+pub fn family_of(size: usize) -> Family
+    ensures { λ family. ⌜ family ≡ familyOf (wide-code size) ⌝ }
 {
-    if NARROW < n {
+    if NARROW < size {
         return Family {
             way: 10,
             plain: 11,

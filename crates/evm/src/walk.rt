@@ -19,12 +19,12 @@ pub fn step_at(code: &[u8], at: usize) -> Step
         return Step::End;
     }
     let op = code[at];
-    let n = size_of(op);
-    if n <= code.len() - at {
+    let long = size_of(op);
+    if long <= code.len() - at {
         Step::Whole {
             pc: at,
             op,
-            next: at + n,
+            next: at + long,
         }
     } else {
         Step::End
@@ -41,23 +41,23 @@ pub fn next_at(code: &[u8], at: usize) -> usize
     }
 }
 
-// The number that the n bytes after pc spell, most significant first.
-pub fn argument_at(code: &[u8], pc: usize, n: usize) -> u64
-    requires { ⌜ Follow (now code) pc n ⌝ }
-    ensures { λ r. ⌜ Spelled (now (code .entry)) pc n r ⌝ }
+// The number that the `count` bytes after pc spell, most significant first.
+pub fn argument_at(code: &[u8], pc: usize, count: usize) -> u64
+    requires { ⌜ Follow (now code) pc count ⌝ }
+    ensures { λ r. ⌜ Spelled (now (code .entry)) pc count r ⌝ }
 {
-    let mut v: u64 = 0;
+    let mut value: u64 = 0;
     let mut i = 0;
-    while i < n {
+    while i < count {
         i += 1;
-        v = v * 256 + wide(code[pc + i]);
+        value = value * 256 + wide(code[pc + i]);
     }
-    v
+    value
 }
 
 // A byte as a number.
-fn wide(x: u8) -> u64
-    ensures { λ r. ⌜ Widened x r ⌝ }
+fn wide(byte: u8) -> u64
+    ensures { λ r. ⌜ Widened byte r ⌝ }
 {
-    x as u64
+    byte as u64
 }

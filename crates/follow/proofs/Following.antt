@@ -36,8 +36,8 @@ use Rattle.follow.specs.declared.step.Stand.{Stand}
 use Rattle.follow.specs.declared.step.Stand.the-variants.{Outside, Inside}
 use Rattle.follow.specs.declared.step.Move.{Move}
 use Rattle.follow.specs.declared.step.Move.the-variants.{No, Stays, Begins, Takes}
-use Rattle.follow.specs.declared.walk.Turn.{Turn}
-use Rattle.follow.specs.declared.walk.Turn.the-variants.{On, Off}
+use Rattle.follow.specs.declared.walk.Went.{Went}
+use Rattle.follow.specs.declared.walk.Went.the-variants.{On, Off}
 use Rattle.follow.proofs.Passing.{slots-append, slots-first}
 use Rattle.follow.proofs.Moving.{slot-low, place-low}
 use Rattle.follow.proofs.Tallying.{bump-number, enters-numbers, entered-here, takes-numbers, taken-here}
@@ -299,7 +299,7 @@ module _ {b code log c₀ : List ℕ} {i : ℕ} {s : Stand} {c : List ℕ} (f : 
         ∙ ap (λ (ds : List Counts). follow-from (f .m) code rest (inside h q) (suc i) ds)
         (ap (map (enter (starts-at h))) (taken-is (f .E) (f .W) (starts-at j) (starts-at h) (finalsAt b 0)) ∙ entered-is (f .E) U (starts-at h) (finalsAt b 0))))
 
-  module _ {c′ : List ℕ} {r : Turn} (d : Turned b code s q c c′ r) where
+  module _ {c′ : List ℕ} {r : Went} (d : Turned b code s q c c′ r) where
     as-moved : MoveAs b (move (f .m) code (f .at) q) (d .move)
     as-moved = d .so .so (f .m) (f .at) (held-blocks b (f .m) (f .held)) (f .stands)
 
@@ -332,5 +332,5 @@ follow-ends {b} {code} {log} {i} f l =
     ∙ ap (λ (x : ℕ). follow-from (f .m) code (drop x (steps log)) (f .at) x (countsOf b (f .E) (f .W))) e
     ∙ ap (λ (xs : List ℕ). follow-from (f .m) code xs (f .at) n (countsOf b (f .E) (f .W))) (steps-end n log)) (f .counts)
 
-pub follow-kept : {b code log c₀ : List ℕ} {i : ℕ} {s : Stand} {c : List ℕ} → Following b code log c₀ i s c → {q : ℕ} {c′ : List ℕ} {r : Turn} → Turned b code s q c c′ r → length c′ ≡ length c₀
+pub follow-kept : {b code log c₀ : List ℕ} {i : ℕ} {s : Stand} {c : List ℕ} → Following b code log c₀ i s c → {q : ℕ} {c′ : List ℕ} {r : Went} → Turned b code s q c c′ r → length c′ ≡ length c₀
 follow-kept f d = d .kept ∙ f .kept

@@ -16,8 +16,8 @@ use Rattle.follow.specs.declared.step.Stand.{Stand}
 use Rattle.follow.specs.declared.step.Stand.the-variants.{Inside}
 use Rattle.follow.specs.declared.step.Move.{Move}
 use Rattle.follow.specs.declared.step.Move.the-variants.{No, Stays, Begins, Takes}
-use Rattle.follow.specs.declared.walk.Turn.{Turn}
-use Rattle.follow.specs.declared.walk.Turn.the-variants.{On, Off}
+use Rattle.follow.specs.declared.walk.Went.{Went}
+use Rattle.follow.specs.declared.walk.Went.the-variants.{On, Off}
 
 -- a buffer with one more in a count
 unfoldable pub bumpAt : List ℕ → ℕ → List ℕ
@@ -30,13 +30,13 @@ bumpsOf (Stays k slot) c = c
 bumpsOf (Begins k slot) c = bumpAt c slot
 bumpsOf (Takes edge k slot) c = bumpAt (bumpAt c edge) slot
 
-abbrev pub turnOf : Move → ℕ → Turn
+abbrev pub turnOf : Move → ℕ → Went
 turnOf No q = Off
 turnOf (Stays k slot) q = On (Inside k slot q)
 turnOf (Begins k slot) q = On (Inside k slot q)
 turnOf (Takes edge k slot) q = On (Inside k slot q)
 
-pub record Turned (b code : List ℕ) (s : Stand) (q : ℕ) (c c′ : List ℕ) (r : Turn) : Type 0 where
+pub record Turned (b code : List ℕ) (s : Stand) (q : ℕ) (c c′ : List ℕ) (r : Went) : Type 0 where
   pub move : Move
   pub so : StepsSo b code s q move
   pub turn : r ≡ turnOf move q

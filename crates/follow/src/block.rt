@@ -35,10 +35,10 @@ pub enum Next {
 }
 
 // An entry's block.
-fn seen_in(e: Entry) -> Seen
-    ensures { λ r. ⌜ r ≡ seenOf e ⌝ }
+fn seen_in(entry: Entry) -> Seen
+    ensures { λ r. ⌜ r ≡ seenOf entry ⌝ }
 {
-    match e {
+    match entry {
         Entry::Terminate { start, end, .. } => Seen::Block(start, end, 0, 0, 0),
         Entry::Jump { start, end, to } => Seen::Block(start, end, 1, to, 0),
         Entry::Jumpi {

@@ -26,21 +26,21 @@ pub struct Followed {
     pub value: usize,
 }
 
-// Follows the log, with n counts.
+// Follows the log, with `slots` counts.
 fn answer(
     map: &[u8],
     code: &[u8],
     log: &[u8],
     work: &mut [u8],
     counts: &mut [u8],
-    n: usize,
+    slots: usize,
 ) -> usize
     requires { ⌜ Ready (now map) ⌝ }
-    requires { ⌜ n ≡ slotsOf (finalsAt (now map) 0) ⌝ }
-    requires { ⌜ 8 * n ≤ length (now counts) ⌝ }
+    requires { ⌜ slots ≡ slotsOf (finalsAt (now map) 0) ⌝ }
+    requires { ⌜ 8 * slots ≤ length (now counts) ⌝ }
     ensures { λ r. ⌜ Answered (now (map .entry)) (now (code .entry)) (now (log .entry)) (now (work .entry)) (now (counts .entry)) (now (work .exit)) (now (counts .exit)) r ⌝ }
 {
-    wipe_part(counts, 0, 8 * n);
+    wipe_part(counts, 0, 8 * slots);
     wipe(work);
     let rows = fill(map, work);
     let place = walk(map, code, log, work, rows, counts);
@@ -52,11 +52,11 @@ fn answer(
 pub fn follow(map: &[u8], code: &[u8], log: &[u8], work: &mut [u8], counts: &mut [u8]) -> Followed
     ensures { λ r. ⌜ FollowedAs (now (map .entry)) (now (code .entry)) (now (log .entry)) (now (work .entry)) (now (counts .entry)) (now (work .exit)) (now (counts .exit)) r ⌝ }
 {
-    let r = read(map);
-    if r.number != 0 {
+    let reading = read(map);
+    if reading.number != 0 {
         return Followed {
             number: BAD,
-            value: r.offset,
+            value: reading.offset,
         };
     }
     if log.len() % 8 != 0 {
@@ -67,8 +67,8 @@ pub fn follow(map: &[u8], code: &[u8], log: &[u8], work: &mut [u8], counts: &mut
     }
     let lent = counts.len() / 8;
     match room_for(map, lent) {
-        Room::Fits(n) => {
-            let value = answer(map, code, log, work, counts, n);
+        Room::Fits(slots) => {
+            let value = answer(map, code, log, work, counts, slots);
             Followed { number: 0, value }
         }
         Room::Short => Followed {

@@ -29,13 +29,13 @@ pub enum Dest {
 }
 
 // An entry's destination.
-fn out_of(e: Entry) -> Out
-    ensures { λ r. ⌜ r ≡ outOf e ⌝ }
+fn out_of(entry: Entry) -> Out
+    ensures { λ r. ⌜ r ≡ outOf entry ⌝ }
 {
-    match e {
+    match entry {
         Entry::Way { to, .. } => match to {
             Destination::Missing => Out::Missing,
-            Destination::At(t) => Out::To(t),
+            Destination::At(found) => Out::To(found),
         },
         Entry::Head { .. } => Out::No,
         Entry::Terminate { .. } => Out::No,
@@ -77,12 +77,12 @@ fn seven_from(map: &[u8], from: usize) -> Seven
 }
 
 // The first of the destinations that are left.
-pub fn dest_of(map: &[u8], c: Named) -> Dest
-    requires { ⌜ (Walking (now map) (c .at)) × (c .many ≤ 2) ⌝ }
-    ensures { λ r. ⌜ nextDest (now (map .entry)) c r ⌝ }
+pub fn dest_of(map: &[u8], named: Named) -> Dest
+    requires { ⌜ (Walking (now map) (named .at)) × (named .many ≤ 2) ⌝ }
+    ensures { λ r. ⌜ nextDest (now (map .entry)) named r ⌝ }
 {
-    let at = c.at;
-    if c.many == 0 {
+    let at = named.at;
+    if named.many == 0 {
         return match seven_from(map, at) {
             Seven::To { to, behind } => Dest::To {
                 to,
@@ -97,10 +97,10 @@ pub fn dest_of(map: &[u8], c: Named) -> Dest
         };
     }
     Dest::To {
-        to: c.first,
+        to: named.first,
         rest: Named {
-            many: c.many - 1,
-            first: c.second,
+            many: named.many - 1,
+            first: named.second,
             second: 0,
             at,
         },

@@ -26,49 +26,49 @@ pub enum Shelf {
     Lacking,
 }
 
-// Which of n shelves. Any would be right; this one spreads the edges.
-fn spread(key: usize, q: usize, n: usize) -> usize
-    requires { ⌜ 0 < n ⌝ }
-    ensures { λ r. ⌜ r < n ⌝ }
+// Which of so many shelves. Any would be right; this one spreads the edges.
+fn spread(key: usize, to: usize, shelves: usize) -> usize
+    requires { ⌜ 0 < shelves ⌝ }
+    ensures { λ r. ⌜ r < shelves ⌝ }
 {
-    let mixed = (key % 65536 * 65536 + q % 65536) * 2654435769;
-    mixed / 65536 % n
+    let mixed = (key % 65536 * 65536 + to % 65536) * 2654435769;
+    mixed / 65536 % shelves
 }
 
 // An edge's shelf. Shelves overlap: one begins with each entry of 24 bytes.
-fn shelf_of(long: usize, rows: usize, key: usize, q: usize) -> Shelf
+fn shelf_of(long: usize, rows: usize, key: usize, to: usize) -> Shelf
     requires { ⌜ 16 * rows ≤ long ⌝ }
     ensures { λ r. ⌜ shelfIn long rows r ⌝ }
 {
     let base = 16 * rows;
-    let n = (long - base) / 24;
-    if n < 16 {
+    let entries = (long - base) / 24;
+    if entries < 16 {
         return Shelf::Lacking;
     }
-    let i = spread(key, q, n - 15);
-    Shelf::At(base + 24 * i)
+    let shelf = spread(key, to, entries - 15);
+    Shelf::At(base + 24 * shelf)
 }
 
 // Whether an entry is the edge's.
-fn is_of(work: &[u8], at: usize, key: usize, q: usize) -> bool
+fn is_of(work: &[u8], at: usize, key: usize, to: usize) -> bool
     requires { ⌜ at + 24 ≤ length (now work) ⌝ }
-    ensures { λ r. ⌜ r ≡ (eqb (numAt 8 (now (work .entry)) at) key && eqb (numAt 8 (now (work .entry)) (at + 8)) q) ⌝ }
+    ensures { λ r. ⌜ r ≡ (eqb (numAt 8 (now (work .entry)) at) key && eqb (numAt 8 (now (work .entry)) (at + 8)) to) ⌝ }
 {
     if get64(work, at) != key {
         return false;
     }
-    get64(work, at + 8) == q
+    get64(work, at + 8) == to
 }
 
 // One more than the edge's place, where it stands on its shelf; else 0.
-fn look(work: &[u8], shelf: usize, key: usize, q: usize) -> usize
+fn look(work: &[u8], shelf: usize, key: usize, to: usize) -> usize
     requires { ⌜ shelf + 384 ≤ length (now work) ⌝ }
-    ensures { λ r. ⌜ Looked (now (work .entry)) shelf key q r ⌝ }
+    ensures { λ r. ⌜ Looked (now (work .entry)) shelf key to r ⌝ }
 {
     let mut i = 0;
     while i < 16 {
         let at = shelf + 24 * i;
-        if is_of(work, at, key, q) {
+        if is_of(work, at, key, to) {
             return get64(work, at + 16);
         }
         i += 1;
@@ -77,98 +77,98 @@ fn look(work: &[u8], shelf: usize, key: usize, q: usize) -> usize
 }
 
 // The same, where there is an index.
-fn known(work: &[u8], rows: usize, key: usize, q: usize) -> usize
+fn known(work: &[u8], rows: usize, key: usize, to: usize) -> usize
     requires { ⌜ 16 * rows ≤ length (now work) ⌝ }
-    ensures { λ r. ⌜ Known (now (work .entry)) rows key q r ⌝ }
+    ensures { λ r. ⌜ Known (now (work .entry)) rows key to r ⌝ }
 {
     if rows == 0 {
         return 0;
     }
-    match shelf_of(work.len(), rows, key, q) {
-        Shelf::At(at) => look(work, at, key, q),
+    match shelf_of(work.len(), rows, key, to) {
+        Shelf::At(at) => look(work, at, key, to),
         Shelf::Lacking => 0,
     }
 }
 
 // The place of a destination among a block's: by the index, or by looking for it.
-pub fn place_of(map: &[u8], work: &[u8], rows: usize, block: Block, slot: usize, q: usize) -> Place
+pub fn place_of(map: &[u8], work: &[u8], rows: usize, block: Block, slot: usize, to: usize) -> Place
     requires { ⌜ Ready (now map) ⌝ }
     requires { ⌜ Index (now map) (now work) rows ⌝ }
     requires { ⌜ Stood (now map) block slot ⌝ }
-    ensures { λ r. ⌜ PlaceSo (now (map .entry)) block slot q r ⌝ }
+    ensures { λ r. ⌜ PlaceSo (now (map .entry)) block slot to r ⌝ }
 {
-    let c = block.named;
-    let n = known(work, rows, slot + 1, q);
-    if n == 0 {
-        return seek(map, c, false, q);
+    let named = block.named;
+    let found = known(work, rows, slot + 1, to);
+    if found == 0 {
+        return seek(map, named, false, to);
     }
-    let at = n - 1;
+    let at = found - 1;
     Place::At(at)
 }
 
 // An entry: one more than the place of its block's count, the destination, and one more than its place among the block's.
-fn enter(work: &mut [u8], at: usize, key: usize, to: usize, n: usize)
+fn enter(work: &mut [u8], at: usize, key: usize, to: usize, place: usize)
     requires { ⌜ at + 24 ≤ length (now work) ⌝ }
-    requires { ⌜ n + 1 < 2 ^ 64 ⌝ }
-    ensures { λ _. ⌜ Entered (now (work .entry)) at key to n (now (work .exit)) ⌝ }
+    requires { ⌜ place + 1 < 2 ^ 64 ⌝ }
+    ensures { λ _. ⌜ Entered (now (work .entry)) at key to place (now (work .exit)) ⌝ }
 {
     put64(work, at, key);
     put64(work, at + 8, to);
-    put64(work, at + 16, n + 1);
+    put64(work, at + 16, place + 1);
 }
 
 // Puts an edge on its shelf, where an entry is free.
-fn insert(work: &mut [u8], shelf: usize, key: usize, to: usize, n: usize)
+fn insert(work: &mut [u8], shelf: usize, key: usize, to: usize, place: usize)
     requires { ⌜ shelf + 384 ≤ length (now work) ⌝ }
-    requires { ⌜ n + 1 < 2 ^ 64 ⌝ }
-    ensures { λ _. ⌜ Inserted (now (work .entry)) shelf key to n (now (work .exit)) ⌝ }
+    requires { ⌜ place + 1 < 2 ^ 64 ⌝ }
+    ensures { λ _. ⌜ Inserted (now (work .entry)) shelf key to place (now (work .exit)) ⌝ }
 {
     let mut i = 0;
     while i < 16 {
         let at = shelf + 24 * i;
         if get64(work, at) == 0 {
-            return enter(work, at, key, to, n);
+            return enter(work, at, key, to, place);
         }
         i += 1;
     }
 }
 
 // The same for a destination that is new, where there are shelves.
-fn keep(work: &mut [u8], rows: usize, new: usize, key: usize, to: usize, n: usize)
+fn keep(work: &mut [u8], rows: usize, new: usize, key: usize, to: usize, place: usize)
     requires { ⌜ 16 * rows ≤ length (now work) ⌝ }
-    requires { ⌜ n + 1 < 2 ^ 64 ⌝ }
-    ensures { λ _. ⌜ Kept (now (work .entry)) rows new key to n (now (work .exit)) ⌝ }
+    requires { ⌜ place + 1 < 2 ^ 64 ⌝ }
+    ensures { λ _. ⌜ Kept (now (work .entry)) rows new key to place (now (work .exit)) ⌝ }
 {
     if new == 0 {
         return;
     }
     match shelf_of(work.len(), rows, key, to) {
-        Shelf::At(at) => insert(work, at, key, to, n),
+        Shelf::At(at) => insert(work, at, key, to, place),
         Shelf::Lacking => {}
     }
 }
 
 // Puts a block's distinct destinations into the index, and gives how many there are.
-pub fn link(map: &[u8], work: &mut [u8], rows: usize, key: usize, c: Named) -> usize
-    requires { ⌜ (Walking (now map) (c .at)) × (c .many ≤ 2) ⌝ }
-    requires { ⌜ Owned (now map) key c ⌝ }
+pub fn link(map: &[u8], work: &mut [u8], rows: usize, key: usize, named: Named) -> usize
+    requires { ⌜ (Walking (now map) (named .at)) × (named .many ≤ 2) ⌝ }
+    requires { ⌜ Owned (now map) key named ⌝ }
     requires { ⌜ Table (now map) (now work) rows ⌝ }
-    ensures { λ r. ⌜ Linked (now (map .entry)) (now (work .entry)) rows c (now (work .exit)) r ⌝ }
+    ensures { λ r. ⌜ Linked (now (map .entry)) (now (work .entry)) rows named (now (work .exit)) r ⌝ }
 {
     let mut passed = 0;
-    let mut n = 0;
-    let mut rest = c;
+    let mut count = 0;
+    let mut rest = named;
     loop {
         match dest_of(map, rest) {
             Dest::To { to, rest: others } => {
-                let new = fresh(map, c, passed, to);
-                keep(work, rows, new, key, to, n);
-                n = n + new;
+                let new = fresh(map, named, passed, to);
+                keep(work, rows, new, key, to, count);
+                count = count + new;
                 passed += 1;
                 rest = others;
             }
             Dest::Over => {
-                return n;
+                return count;
             }
         }
     }

@@ -15,21 +15,21 @@ pub enum Found {
 }
 
 // Looks for it from the first block on.
-fn scan(map: &[u8], q: usize) -> Found
+fn scan(map: &[u8], start: usize) -> Found
     requires { ⌜ Ready (now map) ⌝ }
-    ensures { λ r. ⌜ foundIn (now (map .entry)) q r ⌝ }
+    ensures { λ r. ⌜ foundIn (now (map .entry)) start r ⌝ }
 {
     let mut at = 0;
     let mut slot = 0;
     loop {
         match block_from(map, at) {
             Next::Block(block) => {
-                if block.start == q {
+                if block.start == start {
                     return Found::At { block, slot };
                 }
-                let c = block.named;
-                slot = slot + 1 + many(map, c);
-                at = c.at;
+                let named = block.named;
+                slot = slot + 1 + many(map, named);
+                at = named.at;
             }
             Next::Over => {
                 return Found::Nowhere;
@@ -39,17 +39,17 @@ fn scan(map: &[u8], q: usize) -> Found
 }
 
 // Reads it off the index.
-fn row(map: &[u8], work: &[u8], rows: usize, q: usize) -> Found
+fn row(map: &[u8], work: &[u8], rows: usize, start: usize) -> Found
     requires { ⌜ Ready (now map) ⌝ }
     requires { ⌜ Indexed (now map) (now work) rows ⌝ }
-    requires { ⌜ q < rows ⌝ }
-    ensures { λ r. ⌜ foundIn (now (map .entry)) q r ⌝ }
+    requires { ⌜ start < rows ⌝ }
+    ensures { λ r. ⌜ foundIn (now (map .entry)) start r ⌝ }
 {
-    let at = get64(work, 16 * q);
+    let at = get64(work, 16 * start);
     if at == 0 {
         return Found::Nowhere;
     }
-    let slot = get64(work, 16 * q + 8);
+    let slot = get64(work, 16 * start + 8);
     match block_from(map, at - 1) {
         Next::Block(block) => Found::At { block, slot },
         Next::Over => Found::Nowhere,
@@ -57,16 +57,16 @@ fn row(map: &[u8], work: &[u8], rows: usize, q: usize) -> Found
 }
 
 // By the index, where it has rows; else by looking for it.
-pub fn find(map: &[u8], work: &[u8], rows: usize, q: usize) -> Found
+pub fn find(map: &[u8], work: &[u8], rows: usize, start: usize) -> Found
     requires { ⌜ Ready (now map) ⌝ }
     requires { ⌜ Index (now map) (now work) rows ⌝ }
-    ensures { λ r. ⌜ foundIn (now (map .entry)) q r ⌝ }
+    ensures { λ r. ⌜ foundIn (now (map .entry)) start r ⌝ }
 {
     if rows == 0 {
-        return scan(map, q);
+        return scan(map, start);
     }
-    if rows <= q {
+    if rows <= start {
         return Found::Nowhere;
     }
-    row(map, work, rows, q)
+    row(map, work, rows, start)
 }

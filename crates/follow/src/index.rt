@@ -18,9 +18,9 @@ fn last(map: &[u8]) -> usize
     loop {
         match block_from(map, at) {
             Next::Block(block) => {
-                let c = block.named;
+                let named = block.named;
                 start = block.start;
-                at = c.at;
+                at = named.at;
             }
             Next::Over => {
                 return start;
@@ -55,11 +55,11 @@ fn fill_rows(map: &[u8], work: &mut [u8], rows: usize) -> usize
                 if rows <= start {
                     return 0;
                 }
-                let c = block.named;
+                let named = block.named;
                 put_row(work, start, block.own, slot);
                 let key = slot + 1;
-                slot = key + link(map, work, rows, key, c);
-                at = c.at;
+                slot = key + link(map, work, rows, key, named);
+                at = named.at;
             }
             Next::Over => {
                 return rows;

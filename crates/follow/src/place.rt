@@ -19,17 +19,17 @@ pub enum Place {
     Not(usize),
 }
 
-// 1 where d is none of the first n destinations, else 0.
-pub fn fresh(map: &[u8], c: Named, n: usize, d: usize) -> usize
-    requires { ⌜ (Walking (now map) (c .at)) × (c .many ≤ 2) ⌝ }
-    ensures { λ r. ⌜ r ≡ freshIn (now (map .entry)) c n d ⌝ }
+// 1 where `asked` is none of the first `count` destinations, else 0.
+pub fn fresh(map: &[u8], named: Named, count: usize, asked: usize) -> usize
+    requires { ⌜ (Walking (now map) (named .at)) × (named .many ≤ 2) ⌝ }
+    ensures { λ r. ⌜ r ≡ freshIn (now (map .entry)) named count asked ⌝ }
 {
-    let mut left = n;
-    let mut rest = c;
+    let mut left = count;
+    let mut rest = named;
     while left != 0 {
         match dest_of(map, rest) {
             Dest::To { to, rest: others } => {
-                if to == d {
+                if to == asked {
                     return 0;
                 }
                 left -= 1;
@@ -44,47 +44,47 @@ pub fn fresh(map: &[u8], c: Named, n: usize, d: usize) -> usize
 }
 
 // Whether a destination is the one that is asked for.
-fn hits(all: bool, to: usize, q: usize) -> bool
-    ensures { λ r. ⌜ r ≡ (not all && eqb to q) ⌝ }
+fn hits(all: bool, to: usize, asked: usize) -> bool
+    ensures { λ r. ⌜ r ≡ (not all && eqb to asked) ⌝ }
 {
     if all {
         return false;
     }
-    to == q
+    to == asked
 }
 
-// Looks for q among the distinct destinations; with `all` it counts them.
-pub fn seek(map: &[u8], c: Named, all: bool, q: usize) -> Place
-    requires { ⌜ (Walking (now map) (c .at)) × (c .many ≤ 2) ⌝ }
-    ensures { λ r. ⌜ sought all q (distinct (namedBy (now (map .entry)) c)) r ⌝ }
+// Looks for `asked` among the distinct destinations; with `all` it counts them.
+pub fn seek(map: &[u8], named: Named, all: bool, asked: usize) -> Place
+    requires { ⌜ (Walking (now map) (named .at)) × (named .many ≤ 2) ⌝ }
+    ensures { λ r. ⌜ sought all asked (distinct (namedBy (now (map .entry)) named)) r ⌝ }
 {
     let mut passed = 0;
-    let mut n = 0;
-    let mut rest = c;
+    let mut count = 0;
+    let mut rest = named;
     loop {
         match dest_of(map, rest) {
             Dest::To { to, rest: others } => {
-                if hits(all, to, q) {
-                    return Place::At(n);
+                if hits(all, to, asked) {
+                    return Place::At(count);
                 }
-                n = n + fresh(map, c, passed, to);
+                count = count + fresh(map, named, passed, to);
                 passed += 1;
                 rest = others;
             }
             Dest::Over => {
-                return Place::Not(n);
+                return Place::Not(count);
             }
         }
     }
 }
 
 // How many distinct destinations there are.
-pub fn many(map: &[u8], c: Named) -> usize
-    requires { ⌜ (Walking (now map) (c .at)) × (c .many ≤ 2) ⌝ }
-    ensures { λ r. ⌜ r ≡ length (distinct (namedBy (now (map .entry)) c)) ⌝ }
+pub fn many(map: &[u8], named: Named) -> usize
+    requires { ⌜ (Walking (now map) (named .at)) × (named .many ≤ 2) ⌝ }
+    ensures { λ r. ⌜ r ≡ length (distinct (namedBy (now (map .entry)) named)) ⌝ }
 {
-    match seek(map, c, true, 0) {
-        Place::At(n) => n,
-        Place::Not(n) => n,
+    match seek(map, named, true, 0) {
+        Place::At(count) => count,
+        Place::Not(count) => count,
     }
 }

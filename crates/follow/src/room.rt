@@ -19,20 +19,20 @@ pub fn room_for(map: &[u8], lent: usize) -> Room
     ensures { λ r. ⌜ roomIn lent (slotsOf (finalsAt (now (map .entry)) 0)) r ⌝ }
 {
     let mut at = 0;
-    let mut n = 0;
+    let mut slots = 0;
     loop {
         match block_from(map, at) {
-            Next::Block(k) => {
-                let c = k.named;
-                let more = many(map, c);
-                if lent - n <= more {
+            Next::Block(block) => {
+                let named = block.named;
+                let more = many(map, named);
+                if lent - slots <= more {
                     return Room::Short;
                 }
-                n = n + 1 + more;
-                at = c.at;
+                slots = slots + 1 + more;
+                at = named.at;
             }
             Next::Over => {
-                return Room::Fits(n);
+                return Room::Fits(slots);
             }
         }
     }

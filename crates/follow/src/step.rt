@@ -46,12 +46,12 @@ pub enum Move {
 }
 
 // The log's first step. "A log not starting at 0 stops at its first step".
-fn begin(map: &[u8], work: &[u8], rows: usize, q: usize) -> Move
+fn begin(map: &[u8], work: &[u8], rows: usize, to: usize) -> Move
     requires { ⌜ Ready (now map) ⌝ }
     requires { ⌜ Index (now map) (now work) rows ⌝ }
-    ensures { λ r. ⌜ BeginsSo (now (map .entry)) q r ⌝ }
+    ensures { λ r. ⌜ BeginsSo (now (map .entry)) to r ⌝ }
 {
-    if q != 0 {
+    if to != 0 {
         return Move::No;
     }
     match find(map, work, rows, 0) {
@@ -61,22 +61,22 @@ fn begin(map: &[u8], work: &[u8], rows: usize, q: usize) -> Move
 }
 
 // A step behind a block's end: by an edge of it, to a block.
-fn edge(map: &[u8], work: &[u8], rows: usize, block: Block, slot: usize, q: usize) -> Move
+fn edge(map: &[u8], work: &[u8], rows: usize, block: Block, slot: usize, to: usize) -> Move
     requires { ⌜ Ready (now map) ⌝ }
     requires { ⌜ Index (now map) (now work) rows ⌝ }
     requires { ⌜ Stood (now map) block slot ⌝ }
-    ensures { λ r. ⌜ EdgeSo (now (map .entry)) block slot q r ⌝ }
+    ensures { λ r. ⌜ EdgeSo (now (map .entry)) block slot to r ⌝ }
 {
-    match place_of(map, work, rows, block, slot, q) {
-        Place::At(n) => match find(map, work, rows, q) {
+    match place_of(map, work, rows, block, slot, to) {
+        Place::At(place) => match find(map, work, rows, to) {
             Found::At {
-                block: to,
+                block: entered,
                 slot: next,
             } => {
-                let taken = slot + 1 + n;
+                let taken = slot + 1 + place;
                 Move::Takes {
                     edge: taken,
-                    block: to,
+                    block: entered,
                     slot: next,
                 }
             }
@@ -93,18 +93,18 @@ fn size(op: u8) -> usize
     size_of(op)
 }
 
-// Whether q is the instruction behind the one at pc, and not beyond the block's end.
-fn goes_on(code: &[u8], pc: usize, q: usize, end: usize) -> bool
+// Whether `to` is the instruction behind the one at pc, and not beyond the block's end.
+fn goes_on(code: &[u8], pc: usize, to: usize, end: usize) -> bool
     requires { ⌜ pc < length (now code) ⌝ }
-    ensures { λ r. ⌜ r ≡ (eqb q (pc + size-at (now (code .entry)) pc) && leb q end) ⌝ }
+    ensures { λ r. ⌜ r ≡ (eqb to (pc + size-at (now (code .entry)) pc) && leb to end) ⌝ }
 {
-    if q < pc {
+    if to < pc {
         return false;
     }
-    if q - pc != size(code[pc]) {
+    if to - pc != size(code[pc]) {
         return false;
     }
-    q <= end
+    to <= end
 }
 
 // A step from a pc of a block; nothing follows one past the code's end.
@@ -116,34 +116,34 @@ fn inside(
     block: Block,
     slot: usize,
     pc: usize,
-    q: usize,
+    to: usize,
 ) -> Move
     requires { ⌜ Ready (now map) ⌝ }
     requires { ⌜ Index (now map) (now work) rows ⌝ }
     requires { ⌜ Stood (now map) block slot ⌝ }
-    ensures { λ r. ⌜ InsideSo (now (map .entry)) (now (code .entry)) block slot pc q r ⌝ }
+    ensures { λ r. ⌜ InsideSo (now (map .entry)) (now (code .entry)) block slot pc to r ⌝ }
 {
     if code.len() <= pc {
         return Move::No;
     }
     if pc == block.end {
-        return edge(map, work, rows, block, slot, q);
+        return edge(map, work, rows, block, slot, to);
     }
-    if goes_on(code, pc, q, block.end) {
+    if goes_on(code, pc, to, block.end) {
         return Move::Stays { block, slot };
     }
     Move::No
 }
 
 // A step, from wherever.
-pub fn step(map: &[u8], work: &[u8], rows: usize, code: &[u8], s: Stand, q: usize) -> Move
+pub fn step(map: &[u8], work: &[u8], rows: usize, code: &[u8], stand: Stand, to: usize) -> Move
     requires { ⌜ Ready (now map) ⌝ }
     requires { ⌜ Index (now map) (now work) rows ⌝ }
-    requires { ⌜ Standing (now map) s ⌝ }
-    ensures { λ r. ⌜ StepsSo (now (map .entry)) (now (code .entry)) s q r ⌝ }
+    requires { ⌜ Standing (now map) stand ⌝ }
+    ensures { λ r. ⌜ StepsSo (now (map .entry)) (now (code .entry)) stand to r ⌝ }
 {
-    match s {
-        Stand::Outside => begin(map, work, rows, q),
-        Stand::Inside { block, slot, pc } => inside(map, work, rows, code, block, slot, pc, q),
+    match stand {
+        Stand::Outside => begin(map, work, rows, to),
+        Stand::Inside { block, slot, pc } => inside(map, work, rows, code, block, slot, pc, to),
     }
 }

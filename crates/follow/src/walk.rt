@@ -15,7 +15,7 @@ ghost use Rattle.follow.specs.Stepping.{Standing};
 ghost use Rattle.follow.specs.Walking.{bumpAt, Turned, Zeroed, Walked};
 
 // The step is in the map, and the follower stands so behind it; or it is not.
-pub enum Turn {
+pub enum Went {
     On(Stand),
     Off,
 }
@@ -25,8 +25,8 @@ fn bump(counts: &mut [u8], slot: usize)
     requires { ⌜ 8 * slot + 8 ≤ length (now counts) ⌝ }
     ensures { λ _. ⌜ now (counts .exit) ≡ bumpAt (now (counts .entry)) slot ⌝ }
 {
-    let n = get64(counts, 8 * slot);
-    put64(counts, 8 * slot, wrapping_add_usize(n, 1));
+    let count = get64(counts, 8 * slot);
+    put64(counts, 8 * slot, wrapping_add_usize(count, 1));
 }
 
 // One step, counted.
@@ -36,26 +36,38 @@ fn count_step(
     work: &[u8],
     rows: usize,
     counts: &mut [u8],
-    s: Stand,
-    q: usize,
-) -> Turn
+    stand: Stand,
+    to: usize,
+) -> Went
     requires { ⌜ Ready (now map) ⌝ }
     requires { ⌜ Index (now map) (now work) rows ⌝ }
-    requires { ⌜ Standing (now map) s ⌝ }
+    requires { ⌜ Standing (now map) stand ⌝ }
     requires { ⌜ 8 * slotsOf (finalsAt (now map) 0) ≤ length (now counts) ⌝ }
-    ensures { λ r. ⌜ Turned (now (map .entry)) (now (code .entry)) s q (now (counts .entry)) (now (counts .exit)) r ⌝ }
+    ensures { λ r. ⌜ Turned (now (map .entry)) (now (code .entry)) stand to (now (counts .entry)) (now (counts .exit)) r ⌝ }
 {
-    match step(map, work, rows, code, s, q) {
-        Move::No => Turn::Off,
-        Move::Stays { block, slot } => Turn::On(Stand::Inside { block, slot, pc: q }),
+    match step(map, work, rows, code, stand, to) {
+        Move::No => Went::Off,
+        Move::Stays { block, slot } => Went::On(Stand::Inside {
+            block,
+            slot,
+            pc: to,
+        }),
         Move::Begins { block, slot } => {
             bump(counts, slot);
-            Turn::On(Stand::Inside { block, slot, pc: q })
+            Went::On(Stand::Inside {
+                block,
+                slot,
+                pc: to,
+            })
         }
         Move::Takes { edge, block, slot } => {
             bump(counts, edge);
             bump(counts, slot);
-            Turn::On(Stand::Inside { block, slot, pc: q })
+            Went::On(Stand::Inside {
+                block,
+                slot,
+                pc: to,
+            })
         }
     }
 }
@@ -74,20 +86,20 @@ pub fn walk(
     requires { ⌜ Zeroed (now map) (now counts) ⌝ }
     ensures { λ r. ⌜ Walked (now (map .entry)) (now (code .entry)) (now (log .entry)) (now (counts .entry)) (now (counts .exit)) r ⌝ }
 {
-    let n = log.len() / 8;
-    let mut s = Stand::Outside;
+    let steps = log.len() / 8;
+    let mut stand = Stand::Outside;
     let mut i = 0;
-    while i < n {
-        let q = get64(log, 8 * i);
-        match count_step(map, code, work, rows, counts, s, q) {
-            Turn::On(t) => {
-                s = t;
+    while i < steps {
+        let to = get64(log, 8 * i);
+        match count_step(map, code, work, rows, counts, stand, to) {
+            Went::On(next) => {
+                stand = next;
                 i += 1;
             }
-            Turn::Off => {
+            Went::Off => {
                 return i;
             }
         }
     }
-    n
+    steps
 }

@@ -15,7 +15,7 @@ use Rattle.tables.proofs.Addrs.{addrs-length}
 use Rattle.reachable.specs.Pruning.{EdgeRow, Prunes}
 use Rattle.reachable.proofs.Within.{blocks-within}
 use Rattle.graph.specs.Notes.{edgeTo}
-use Rattle.graph.specs.Contracts.{Notes, Settled, Rewrites, Rewrote, Lies, Fits, Graphs}
+use Rattle.graph.specs.Contracts.{Notes, MergedAll, Rewrites, Rewrote, Lies, Fits, Graphs}
 use Rattle.graph.proofs.Recs.{rec-in, rec-destination, path-last, last-in}
 use Rattle.graph.proofs.Edges.{RowOf, leading, dest-in}
 use Rattle.graph.proofs.Sides.{block-sides}
@@ -47,7 +47,7 @@ module _ {mode : ℕ} {code s : List ℕ} {room n m : ℕ} {w r q : List ℕ} (f
 pub notes-asked : {n m : ℕ} {w r q : List ℕ} → Graphs n m w r q → Notes n m w r
 notes-asked g = record { lent = g .fits .lent; each = λ i h. record { inR = g .fits .rows i h .inR; start = start-lies (g .fits) i h } }
 
-pub rewrites-asked : {n m : ℕ} {w r q w₁ : List ℕ} → Graphs n m w r q → Settled n m w r w₁ → Rewrites m w₁ r q
+pub rewrites-asked : {n m : ℕ} {w r q w₁ : List ℕ} → Graphs n m w r q → MergedAll n m w r w₁ → Rewrites m w₁ r q
 unfolding endOf
 rewrites-asked g t = record {
   each = λ i h. record {
@@ -58,7 +58,7 @@ rewrites-asked g t = record {
   };
 }
 
-module _ {mode : ℕ} {code s : List ℕ} {room n m : ℕ} {w r q w₁ r₁ : List ℕ} (f : Fits mode code s room n m w r q) (t : Settled n m w r w₁) (e : Rewrote m w₁ r q r₁) where
+module _ {mode : ℕ} {code s : List ℕ} {room n m : ℕ} {w r q w₁ r₁ : List ℕ} (f : Fits mode code s room n m w r q) (t : MergedAll n m w r w₁) (e : Rewrote m w₁ r q r₁) where
   pub row-of : (i : ℕ) → i < m → RowOf w₁ r₁ i (recAt r q s room i)
   unfolding recAt
   row-of i h = record {
@@ -82,5 +82,5 @@ module _ {mode : ℕ} {code s : List ℕ} {room n m : ℕ} {w r q w₁ r₁ : Li
     rows = record { few = f .few; away = omega (arith, f .lent .short); each = edge-row };
   }
 
-pub prunes-asked : {n m : ℕ} {w r q w₁ r₁ : List ℕ} → Graphs n m w r q → Settled n m w r w₁ → Rewrote m w₁ r q r₁ → Prunes n m w₁ r₁
+pub prunes-asked : {n m : ℕ} {w r q w₁ r₁ : List ℕ} → Graphs n m w r q → MergedAll n m w r w₁ → Rewrote m w₁ r q r₁ → Prunes n m w₁ r₁
 prunes-asked g t e = asks (g .fits) t e

@@ -27,7 +27,7 @@ use Rattle.initial.proofs.Rows.{here-prefix, here-suffix, here-block, by-row, b
 use Rattle.initial.proofs.Writing.{put-here}
 use Rattle.reachable.specs.Contracts.{Room}
 use Rattle.graph.specs.Notes.{noteOf, byNote, mergedKind, mergedBy, mergedBlock, mergedRow}
-use Rattle.graph.specs.Contracts.{Noted, MergedRow, Merged, Settled}
+use Rattle.graph.specs.Contracts.{Noted, MergedRow, Merged, MergedAll}
 
 -- ---- by a note
 
@@ -190,8 +190,8 @@ map-agrees : (f g : Block → Block) (bs : List Block) → ((b : Block) → In b
 map-agrees f g [] h = refl
 map-agrees f g (b ∷ bs) h = ap₂ {C = List Block} (λ (x : Block) (xs : List Block). x ∷ xs) (h b here) (map-agrees f g bs (λ c i. h c (there i)))
 
-pub settled : {n m : ℕ} {w r w₁ w₂ : List ℕ} → Noted n m w r w₁ → Merged n w₁ w₂ → Settled n m w r w₂
-settled {n} {m} {w} {r} {w₁} {w₂} t g = record {
+pub merged-all : {n m : ℕ} {w r w₁ w₂ : List ℕ} → Noted n m w r w₁ → Merged n w₁ w₂ → MergedAll n m w r w₂
+merged-all {n} {m} {w} {r} {w₁} {w₂} t g = record {
   blocks = g .blocks
       ∙ map-agrees (mergedBlock n (noteAt w₁ n)) (mergedBlock n (λ (a : ℕ). noteOf r a m)) (blocksAt w₁ n)
       (λ b i. ap (λ (note : ℕ). mergedBy n note b) (t .notes (b .start) (found w₁ n i .0)))

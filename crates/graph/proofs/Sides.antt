@@ -18,7 +18,7 @@ use Rattle.theorems.proofs.Counts.{lawful}
 use Rattle.theorems.proofs.Sides.{Within, node-within, sides-within}
 use Rattle.initial.specs.Rows.{blocksAt}
 use Rattle.graph.specs.Notes.{noteOf, byNote, mergedKind, mergedBlock}
-use Rattle.graph.specs.Contracts.{Settled, Fits}
+use Rattle.graph.specs.Contracts.{MergedAll, Fits}
 
 prepared-within : (mode : ℕ) (code : List ℕ) {x : Node} → In x (prepared (in-mode mode) code) → Within (length code) (x .block .kind)
 unfolding prepared
@@ -36,7 +36,7 @@ merged-sides n note dynamic-jump h {t} i =
     (λ _. both (λ (k : Kind). In t (sides k) → t ≤ n) (leb note (n + 1)) (λ e j. omega (arith, leb-true note (n + 1) e, in-only j)) (λ _ j. elim j [ ])) i
 merged-sides n note (dynamic-jumpi f) h i = sides-within n (dynamic-jumpi f) h i
 
-module _ {mode : ℕ} {code s : List ℕ} {room n m : ℕ} {w r q w₁ : List ℕ} (f : Fits mode code s room n m w r q) (t : Settled n m w r w₁) where
+module _ {mode : ℕ} {code s : List ℕ} {room n m : ℕ} {w r q w₁ : List ℕ} (f : Fits mode code s room n m w r q) (t : MergedAll n m w r w₁) where
   pub block-sides : (b : Block) (u : ℕ) → In b (blocksAt w₁ n) → In u (sides (b .kind)) → u ≤ n
   block-sides b u i j =
       let g = in-map (mergedBlock n (λ (a : ℕ). noteOf r a m)) (blocksAt w n) (subst (λ (bs : List Block). In b bs) (t .blocks) i) in

@@ -61,7 +61,7 @@ pub record Merged (n : ℕ) (w w′ : List ℕ) : Type 0 where
   pub beyond : PastRows n w w′
   pub long : length w′ ≡ length w
 
-pub record Settled (n m : ℕ) (w r w′ : List ℕ) : Type 0 where
+pub record MergedAll (n m : ℕ) (w r w′ : List ℕ) : Type 0 where
   pub blocks : blocksAt w′ n ≡ map (mergedBlock n (λ (a : ℕ). noteOf r a m)) (blocksAt w n)
   pub bytes : (a : ℕ) → a ≤ n → take ROW (drop (rowPlace a) w′) ≡ mergedRow n (noteOf r a m) w a
   pub beyond : PastFields n w w′

@@ -13,51 +13,51 @@ use lent::get16;
 use lent::get32;
 ghost use Prim.Native.Nat.{_≤_};
 ghost use Rattle.reachable.specs.Contracts.{Room};
-ghost use Rattle.graph.specs.Contracts.{Notes, MergedRow, Merged, Settled};
+ghost use Rattle.graph.specs.Contracts.{Notes, MergedRow, Merged, MergedAll};
 
-// Merges the blocks by the m records.
-pub fn settle(w: &mut [u8], n: usize, r: &[u8], m: usize)
-    requires { ⌜ Notes n m (now w) (now r) ⌝ }
-    ensures { λ _. ⌜ Settled n m (now (w .entry)) (now (r .entry)) (now (w .exit)) ⌝ }
+// Merges the blocks by the records.
+pub fn merge_all(w: &mut [u8], size: usize, r: &[u8], records: usize)
+    requires { ⌜ Notes size records (now w) (now r) ⌝ }
+    ensures { λ _. ⌜ MergedAll size records (now (w .entry)) (now (r .entry)) (now (w .exit)) ⌝ }
 {
-    note_all(w, n, r, m);
-    merge(w, n);
+    note_all(w, size, r, records);
+    merge(w, size);
 }
 
 // Merges every block by its note.
-fn merge(w: &mut [u8], n: usize)
-    requires { ⌜ Room n (now w) ⌝ }
-    ensures { λ _. ⌜ Merged n (now (w .entry)) (now (w .exit)) ⌝ }
+fn merge(w: &mut [u8], size: usize)
+    requires { ⌜ Room size (now w) ⌝ }
+    ensures { λ _. ⌜ Merged size (now (w .entry)) (now (w .exit)) ⌝ }
 {
-    let mut a = 0;
-    while a <= n {
-        merge_row(w, n, a);
-        a += 1;
+    let mut start = 0;
+    while start <= size {
+        merge_row(w, size, start);
+        start += 1;
     }
 }
 
-// Merges the block that starts at a, if a DynamicJump does.
-fn merge_row(w: &mut [u8], n: usize, a: usize)
-    requires { ⌜ Room n (now w) ⌝ }
-    requires { ⌜ a ≤ n ⌝ }
-    ensures { λ _. ⌜ MergedRow n (now (w .entry)) a (now (w .exit)) ⌝ }
+// Merges the block that starts at `start`, if a DynamicJump does.
+fn merge_row(w: &mut [u8], size: usize, start: usize)
+    requires { ⌜ Room size (now w) ⌝ }
+    requires { ⌜ start ≤ size ⌝ }
+    ensures { λ _. ⌜ MergedRow size (now (w .entry)) start (now (w .exit)) ⌝ }
 {
-    let kind = get8(w, ROW * a);
+    let kind = get8(w, ROW * start);
     if kind != DYNAMIC_JUMP {
         return;
     }
-    let note = get32(w, ROW * (n + 1 + a) + NOTE);
+    let note = get32(w, ROW * (size + 1 + start) + NOTE);
     if note == 0 {
         return;
     }
-    if note > n + 1 {
+    if note > size + 1 {
         return;
     }
-    let end = get16(w, ROW * a + END);
+    let end = get16(w, ROW * start + END);
     let to = BlockType {
         kind: JUMP,
         to: note - 1,
         other: 0,
     };
-    put_block(w, a, end, to);
+    put_block(w, start, end, to);
 }

@@ -17,31 +17,31 @@ ghost use Rattle.graph.specs.Contracts.{Starts, NotedRow, Notes, Noted};
 
 const SEVERAL: usize = 0xFFFF_FFFF;
 
-// Notes the destinations of the m records.
-pub fn note_all(w: &mut [u8], n: usize, r: &[u8], m: usize)
-    requires { ⌜ Notes n m (now w) (now r) ⌝ }
-    ensures { λ _. ⌜ Noted n m (now (w .entry)) (now (r .entry)) (now (w .exit)) ⌝ }
+// Notes the destinations of the records.
+pub fn note_all(w: &mut [u8], size: usize, r: &[u8], records: usize)
+    requires { ⌜ Notes size records (now w) (now r) ⌝ }
+    ensures { λ _. ⌜ Noted size records (now (w .entry)) (now (r .entry)) (now (w .exit)) ⌝ }
 {
-    begin(w, n);
-    let mut i = 0;
-    while i < m {
-        note(w, n, r, i);
-        i += 1;
+    begin(w, size);
+    let mut row = 0;
+    while row < records {
+        note(w, size, r, row);
+        row += 1;
     }
 }
 
-// Notes the destination of record i, if it has one.
-fn note(w: &mut [u8], n: usize, r: &[u8], i: usize)
-    requires { ⌜ Room n (now w) ⌝ }
-    requires { ⌜ Starts n (now r) i ⌝ }
-    ensures { λ _. ⌜ NotedRow n (now (w .entry)) (now (r .entry)) i (now (w .exit)) ⌝ }
+// Notes the destination of a record, if it has one.
+fn note(w: &mut [u8], size: usize, r: &[u8], row: usize)
+    requires { ⌜ Room size (now w) ⌝ }
+    requires { ⌜ Starts size (now r) row ⌝ }
+    ensures { λ _. ⌜ NotedRow size (now (w .entry)) (now (r .entry)) row (now (w .exit)) ⌝ }
 {
-    let to = get16(r, RECORD * i + TO);
+    let to = get16(r, RECORD * row + TO);
     if to == NOWHERE {
         return;
     }
-    let a = get16(r, RECORD * i);
-    let at = ROW * (n + 1 + a) + NOTE;
+    let start = get16(r, RECORD * row);
+    let at = ROW * (size + 1 + start) + NOTE;
     let old = get32(w, at);
     put32(w, at, join(old, to));
 }

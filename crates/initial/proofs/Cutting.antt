@@ -26,8 +26,8 @@ use Rattle.layout.specs.declared.row.BlockType.{BlockType}
 use Rattle.initial.specs.Rows.{typeOf, blocksAt, Laid}
 use Rattle.initial.specs.Turn.{clipped, pushedAt, ahead}
 use Rattle.initial.specs.Contracts.{Lent, Beyond, Written, Stands, lowest, Standing, Ready, after, Turned, last, cutting}
-use Rattle.initial.specs.declared.turn.Mode.{Mode}
-use Rattle.initial.specs.declared.turn.Mode.the-variants.{Opened, Waiting, Ended}
+use Rattle.initial.specs.declared.turn.Walking.{Walking}
+use Rattle.initial.specs.declared.turn.Walking.the-variants.{Opened, Waiting, Ended}
 use Rattle.initial.proofs.Types.{Good, kind-type, good-terminate}
 use Rattle.initial.proofs.Writing.{put-append, put-laid, put-beyond, less-empty, beyond-same, beyond-more, wiped-blocks, wiped-empty, wiped-laid, wiped-beyond}
 use Rattle.initial.proofs.Jumping.{push-low}
@@ -73,7 +73,7 @@ cutting-none (b ∷ code) h = absurd (omega arith)
 
 -- ---- after the last instruction
 
-ahead-last : (code : List ℕ) (at : ℕ) (m : Mode) (prev : ℕ) → walk (drop at code) at 0 ≡ [] → ahead code at m prev ≡ last m prev
+ahead-last : (code : List ℕ) (at : ℕ) (m : Walking) (prev : ℕ) → walk (drop at code) at 0 ≡ [] → ahead code at m prev ≡ last m prev
 unfolding ahead last cuts
 ahead-last code at (Opened start) prev e = rw e
 ahead-last code at Waiting prev e = rw e
@@ -87,7 +87,7 @@ last-beyond : (start prev : ℕ) → prev < start → last (Opened start) prev �
 unfolding last cuts
 last-beyond start prev h = ap (map clipped) (if-false _ _ _ (lt-leb start prev h))
 
-module _ {n : ℕ} {w : List ℕ} {mode : Mode} {prev : ℕ} (r : Standing n w mode prev n) where
+module _ {n : ℕ} {w : List ℕ} {mode : Walking} {prev : ℕ} (r : Standing n w mode prev n) where
   last-none : last mode prev ≡ [] → Written n (blocksAt w n ++ last mode prev) w w
   last-none e = record { blocks = rw e (sym (append-nil (blocksAt w n))); laid = r .laid; beyond = beyond-same n w }
 
@@ -115,12 +115,12 @@ module _ {n : ℕ} {w : List ℕ} {mode : Mode} {prev : ℕ} (r : Standing n w m
           beyond = put-beyond p n inside;
         }
 
-lowest-last : (m : Mode) {at n : ℕ} → at ≤ n → lowest m at ≤ at → (lowest m at ≤ lowest m n) × (lowest m n ≤ n)
+lowest-last : (m : Walking) {at n : ℕ} → at ≤ n → lowest m at ≤ at → (lowest m at ≤ lowest m n) × (lowest m n ≤ n)
 lowest-last (Opened start) h l = (omega arith, omega arith)
 lowest-last Waiting h l = (h, omega arith)
 lowest-last Ended h l = (h, omega arith)
 
-pub last-asks : {n : ℕ} {w : List ℕ} {m : Mode} {prev at : ℕ} → Standing n w m prev at → Standing n w m prev n
+pub last-asks : {n : ℕ} {w : List ℕ} {m : Walking} {prev at : ℕ} → Standing n w m prev at → Standing n w m prev n
 last-asks {n} {w} {m} r =
     let l = lowest-last m (r .inside) (r .low) in
     record { short = r .short; room = r .room; laid = r .laid; empty = less-empty (r .empty) (l .0); low = l .1; inside = omega arith; back = omega arith }
@@ -128,7 +128,7 @@ last-asks {n} {w} {m} r =
 -- ---- the loop
 
 -- what is written and what is still to be cut are the whole
-pub record Going (code w₀ w : List ℕ) (m : Mode) (prev at : ℕ) : Type 0 where
+pub record Going (code w₀ w : List ℕ) (m : Walking) (prev at : ℕ) : Type 0 where
   pub ready : Ready code w m prev at
   pub whole : blocksAt w (length code) ++ ahead code at m prev ≡ map clipped (cutting code)
   pub beyond : Beyond (length code) w₀ w
@@ -164,7 +164,7 @@ module _ {code w w₀ : List ℕ} (l : Lent code w) (s : Stored (rowsEnd (length
   cut-all : {v : List ℕ} → Beyond (length code) w₀ v → Laid v (length code) → blocksAt v (length code) ≡ map clipped (cutting code) → Written (length code) (map clipped (cutting code)) w v
   cut-all b d e = record { blocks = e; laid = d; beyond = beyond-more (wiped-beyond (length code) s) b }
 
-  module _ {v : List ℕ} {m : Mode} {prev at : ℕ} {r : Step} (g : Going code w₀ v m prev at) (e : r ≡ stepAt code at) where
+  module _ {v : List ℕ} {m : Walking} {prev at : ℕ} {r : Step} (g : Going code w₀ v m prev at) (e : r ≡ stepAt code at) where
     pub cut-last : {v′ : List ℕ} → r ≡ step.End → Written (length code) (blocksAt v (length code) ++ last m prev) v v′
         → Written (length code) (map clipped (cutting code)) w v′
     cut-last q t =
@@ -184,7 +184,7 @@ module _ {code w w₀ : List ℕ} (l : Lent code w) (s : Stored (rowsEnd (length
       pub cut-less : length code - to < length code - at
       cut-less = omega (arith, taken .size, taken .inside)
 
-      module _ {v′ : List ℕ} {m′ : Mode} (t : Turned code v m prev pc op v′ m′) where
+      module _ {v′ : List ℕ} {m′ : Walking} (t : Turned code v m prev pc op v′ m′) where
         pub cut-more : Going code w₀ v′ m′ pc to
         cut-more =
             let n : to ≡ after pc op = omega (arith, taken .here, taken .size) in

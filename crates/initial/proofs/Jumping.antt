@@ -22,9 +22,9 @@ use Rattle.initial.specs.declared.jump.Target.{Target}
 use Rattle.initial.specs.declared.jump.Target.the-variants.{Static, Dynamic}
 use Rattle.initial.specs.declared.turn.Cut.{Cut}
 use Rattle.initial.specs.declared.turn.Cut.the-variants.{Jumpdest, Jumpi, Jump, Ends, Unknown, Other}
-use Rattle.initial.specs.declared.turn.Mode.the-variants.{Opened, Waiting, Ended}
-use Rattle.initial.specs.declared.turn.Turn.{Turn}
-use Rattle.initial.specs.declared.turn.Turn.the-variants.{Goes, Closes}
+use Rattle.initial.specs.declared.turn.Walking.the-variants.{Opened, Waiting, Ended}
+use Rattle.initial.specs.declared.turn.Effect.{Effect}
+use Rattle.initial.specs.declared.turn.Effect.the-variants.{Goes, Closes}
 
 -- ---- what the instruction before pushed
 
@@ -122,11 +122,11 @@ module _ (start prev : ℕ) (push : Option ℕ) (pc : ℕ) where
   unknown-own h e = sym (if-false _ _ _ (ne-eqb start 0 h) ∙ if-true _ _ _ (eq-eqb start pc (sym e)))
 
   module _ {c : Cut} where
-    pub at-jumpdest : {r : Turn} → c ≡ Jumpdest → r ≡ turnOf start prev none pc Jumpdest → r ≡ turnOf start prev push pc c
+    pub at-jumpdest : {r : Effect} → c ≡ Jumpdest → r ≡ turnOf start prev none pc Jumpdest → r ≡ turnOf start prev push pc c
     unfolding turnOf
     at-jumpdest e q = rw e q
 
-    pub at-unknown : {r : Turn} → c ≡ Unknown → r ≡ turnOf start prev none pc Unknown → r ≡ turnOf start prev push pc c
+    pub at-unknown : {r : Effect} → c ≡ Unknown → r ≡ turnOf start prev none pc Unknown → r ≡ turnOf start prev push pc c
     unfolding turnOf
     at-unknown e q = rw e q
 

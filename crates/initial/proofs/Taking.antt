@@ -20,10 +20,10 @@ use Rattle.initial.specs.Turn.{pushedAt, cutOf, turnOf, closed, then, ah
 use Rattle.initial.specs.Contracts.{Beyond, Stands, Whole, Behind, lowest, Empty, Ready, after, Turned}
 use Rattle.initial.specs.declared.turn.Cut.{Cut}
 use Rattle.initial.specs.declared.turn.Cut.the-variants.{Jumpdest, Jumpi, Jump, Ends, Unknown, Other}
-use Rattle.initial.specs.declared.turn.Mode.{Mode}
-use Rattle.initial.specs.declared.turn.Mode.the-variants.{Opened, Waiting, Ended}
-use Rattle.initial.specs.declared.turn.Turn.{Turn}
-use Rattle.initial.specs.declared.turn.Turn.the-variants.{Goes, Closes}
+use Rattle.initial.specs.declared.turn.Walking.{Walking}
+use Rattle.initial.specs.declared.turn.Walking.the-variants.{Opened, Waiting, Ended}
+use Rattle.initial.specs.declared.turn.Effect.{Effect}
+use Rattle.initial.specs.declared.turn.Effect.the-variants.{Goes, Closes}
 use Rattle.initial.proofs.Types.{Good, good-terminate, good-jump, good-jumping, good-branching}
 use Rattle.initial.proofs.Writing.{put-append, put-laid, put-empty, put-beyond, less-empty, beyond-same}
 use Rattle.initial.proofs.Turning.{ahead-open, ahead-found, ahead-waits, ahead-ended}
@@ -31,16 +31,16 @@ use Rattle.initial.proofs.Turning.{ahead-open, ahead-found, ahead-waits
 -- ---- a turn fits the rows: what it closes can be written, and the next block starts past it
 
 -- the walk goes on at next, and no block that starts before lo is still to be written
-record Onward (lo next : ℕ) (m : Mode) : Type 0 where
+record Onward (lo next : ℕ) (m : Walking) : Type 0 where
   past : lo ≤ lowest m next
   low : lowest m next ≤ next
 
-record Closing (start next end : ℕ) (t : BlockType) (m : Mode) : Type 0 where
+record Closing (start next end : ℕ) (t : BlockType) (m : Walking) : Type 0 where
   good : Good t
   small : end < 65536
   on : Onward (suc start) next m
 
-abbrev Fine : ℕ → ℕ → Turn → Type 0
+abbrev Fine : ℕ → ℕ → Effect → Type 0
 Fine start next (Goes m) = Onward start next m
 Fine start next (Closes end t m) = Closing start next end t m
 
@@ -51,7 +51,7 @@ module _ (start prev : ℕ) (push : Option ℕ) (pc next : ℕ) (h : start ≤ p
   opens : (end at : ℕ) {t : BlockType} → end ≤ pc → start < at → at ≤ next → Good t → Closing start next end t (Opened at)
   opens end at e l k g = record { good = g; small = omega arith; on = record { past = l; low = k } }
 
-  goes : {m : Mode} → start ≤ lowest m next → lowest m next ≤ next → Onward start next m
+  goes : {m : Walking} → start ≤ lowest m next → lowest m next ≤ next → Onward start next m
   goes l k = record { past = l; low = k }
 
   fine : (c : Cut) → Fine start next (turnOf start prev push pc c)
@@ -70,7 +70,7 @@ module _ (start prev : ℕ) (push : Option ℕ) (pc next : ℕ) (h : start ≤ p
 
 -- ---- the ways out of the turn
 
-module _ {code w : List ℕ} {mode : Mode} {prev pc op : ℕ} (r : Ready code w mode prev pc) (i : Stands code pc op) where
+module _ {code w : List ℕ} {mode : Walking} {prev pc op : ℕ} (r : Ready code w mode prev pc) (i : Stands code pc op) where
   -- the instruction before stands whole, or is this one
   before-whole : Whole code prev
   before-whole = go (decLt prev pc)
@@ -85,7 +85,7 @@ module _ {code w : List ℕ} {mode : Mode} {prev pc op : ℕ} (r : Ready code w 
   pub turn-room : {start : ℕ} → mode ≡ Opened start → rowPlace start + BLOCK ≤ length w
   turn-room o = omega (arith, rw o at (r .rows .low), r .rows .inside, r .rows .room)
 
-  readied : {w′ : List ℕ} {m : Mode} → Beyond (length code) w w′ → Laid w′ (length code) → Empty w′ (lowest m (after pc op)) (length code)
+  readied : {w′ : List ℕ} {m : Walking} → Beyond (length code) w w′ → Laid w′ (length code) → Empty w′ (lowest m (after pc op)) (length code)
       → lowest m (after pc op) ≤ after pc op → Ready code w′ m pc (after pc op)
   readied b l e k = record {
     rows = record {
@@ -101,7 +101,7 @@ module _ {code w : List ℕ} {mode : Mode} {prev pc op : ℕ} (r : Ready code w 
   }
 
   -- nothing is written
-  goes-on : {m : Mode} → ahead code pc mode prev ≡ ahead code (after pc op) m pc → Onward (lowest mode pc) (after pc op) m → Turned code w mode prev pc op w m
+  goes-on : {m : Walking} → ahead code pc mode prev ≡ ahead code (after pc op) m pc → Onward (lowest mode pc) (after pc op) m → Turned code w mode prev pc op w m
   goes-on e f = record {
     same = ap (λ (bs : List Block). blocksAt w (length code) ++ bs) (sym e);
     ready = readied (beyond-same _ w) (r .rows .laid) (less-empty (r .rows .empty) (f .past)) (f .low);
@@ -117,17 +117,17 @@ module _ {code w : List ℕ} {mode : Mode} {prev pc op : ℕ} (r : Ready code w 
   pub turn-ended : mode ≡ Ended → Turned code w mode prev pc op w Ended
   turn-ended o = goes-on (rw o (simp ahead-ended)) (rw o (record { past = omega arith; low = omega arith }))
 
-  module _ {start : ℕ} {c : Cut} {t : Turn} (o : mode ≡ Opened start) (d : c ≡ cutOf (cut row op)) (e : t ≡ turnOf start prev (pushedAt code prev) pc c) where
+  module _ {start : ℕ} {c : Cut} {t : Effect} (o : mode ≡ Opened start) (d : c ≡ cutOf (cut row op)) (e : t ≡ turnOf start prev (pushedAt code prev) pc c) where
     turn-fine : Fine start (after pc op) t
     turn-fine = rw e (fine start prev (pushedAt code prev) pc (after pc op) (rw o at (r .rows .low)) (r .rows .back) (omega arith) (omega (arith, i .whole, r .rows .short)) c)
 
     turn-ahead : ahead code pc mode prev ≡ closed start t ++ ahead code (after pc op) (then t) pc
     turn-ahead = rw (o, e, d) (ahead-open code pc op i prev start (omega (arith, i .whole, r .rows .short)))
 
-    pub turn-goes : {m : Mode} → t ≡ Goes m → Turned code w mode prev pc op w m
+    pub turn-goes : {m : Walking} → t ≡ Goes m → Turned code w mode prev pc op w m
     turn-goes g = goes-on (turn-ahead ∙ rw g) (rw o (subst (Fine start (after pc op)) g turn-fine))
 
-    pub turn-closes : {w′ : List ℕ} {end : ℕ} {k : BlockType} {m : Mode} → t ≡ Closes end k m → Put w start end k w′ → Turned code w mode prev pc op w′ m
+    pub turn-closes : {w′ : List ℕ} {end : ℕ} {k : BlockType} {m : Walking} → t ≡ Closes end k m → Put w start end k w′ → Turned code w mode prev pc op w′ m
     turn-closes {w′} {end} {k} {m} g p =
         let f : Closing start (after pc op) end k m = subst (Fine start (after pc op)) g turn-fine in
         let z : Empty w start (length code) = rw o at (r .rows .empty) in

@@ -18,19 +18,19 @@ use Rattle.evm.proofs.Walks.{walk-whole}
 use Rattle.laws.proofs.Branch.{if-true, if-false}
 use Rattle.initial.specs.Turn.{clipped, pushedAt, cutOf, turnOf, closed, then, resume, ahead}
 use Rattle.initial.specs.Contracts.{Stands}
-use Rattle.initial.specs.declared.turn.Mode.{Mode}
-use Rattle.initial.specs.declared.turn.Mode.the-variants.{Opened, Waiting, Ended}
-use Rattle.initial.specs.declared.turn.Turn.{Turn}
+use Rattle.initial.specs.declared.turn.Walking.{Walking}
+use Rattle.initial.specs.declared.turn.Walking.the-variants.{Opened, Waiting, Ended}
+use Rattle.initial.specs.declared.turn.Effect.{Effect}
 use Rattle.initial.proofs.Types.{kind-type}
 
 -- ---- what is closed, and what is still to be cut
 
 module _ (start prev : ℕ) (push : Option ℕ) (pc : ℕ) (on : spec.Mode → List Block) where
   -- the turn t does what is done by `closes` where that is bs
-  record Agrees (t : Turn) (bs : List Block) : Type 0 where
+  record Agrees (t : Effect) (bs : List Block) : Type 0 where
     same : map clipped bs ≡ closed start t ++ map clipped (resume on (then t))
 
-  agrees-if : (b : Bool) {t u : Turn} {xs ys : List Block} → Agrees t xs → Agrees u ys → Agrees (if b t u) (if b xs ys)
+  agrees-if : (b : Bool) {t u : Effect} {xs ys : List Block} → Agrees t xs → Agrees u ys → Agrees (if b t u) (if b xs ys)
   unfolding if
   agrees-if true p q = p
   agrees-if false p q = q

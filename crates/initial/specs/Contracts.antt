@@ -12,8 +12,8 @@ use Rattle.layout.specs.Parts.{rowPlace, rowsEnd, PastRows}
 use Rattle.layout.specs.Rows.{tagAt}
 use Rattle.initial.specs.Rows.{rowBlocks, blocksAt, Laid}
 use Rattle.initial.specs.Turn.{clipped, rest, ahead}
-use Rattle.initial.specs.declared.turn.Mode.{Mode}
-use Rattle.initial.specs.declared.turn.Mode.the-variants.{Opened, Waiting, Ended}
+use Rattle.initial.specs.declared.turn.Walking.{Walking}
+use Rattle.initial.specs.declared.turn.Walking.the-variants.{Opened, Waiting, Ended}
 
 -- ---- what the callers of the whole lend: over 49,152 bytes of code are refused, and W short of "64 × code length + 256 bytes"
 
@@ -49,7 +49,7 @@ pub record Behind (code : List ℕ) (prev pc : ℕ) : Type 0 where
   pub inside : pc < length code
 
 -- no block that starts before this address is still to be written
-abbrev pub lowest : Mode → ℕ → ℕ
+abbrev pub lowest : Walking → ℕ → ℕ
 lowest (Opened start) at = start
 lowest Waiting at = at
 lowest Ended at = at
@@ -59,7 +59,7 @@ pub record Empty (w : List ℕ) (lo n : ℕ) : Type 0 where
   pub none : (a : ℕ) → lo ≤ a → a ≤ n → tagAt w a ≡ 0
 
 -- how the rows of a code of n bytes stand where the walk is at a place, with the last instruction at prev
-pub record Standing (n : ℕ) (w : List ℕ) (m : Mode) (prev at : ℕ) : Type 0 where
+pub record Standing (n : ℕ) (w : List ℕ) (m : Walking) (prev at : ℕ) : Type 0 where
   pub short : n ≤ longest
   pub room : rowsEnd n ≤ length w
   pub laid : Laid w n
@@ -69,7 +69,7 @@ pub record Standing (n : ℕ) (w : List ℕ) (m : Mode) (prev at : ℕ) : Type 0
   pub back : prev ≤ at
 
 -- so, and that instruction stands whole, unless there is none yet
-pub record Ready (code w : List ℕ) (m : Mode) (prev at : ℕ) : Type 0 where
+pub record Ready (code w : List ℕ) (m : Walking) (prev at : ℕ) : Type 0 where
   pub rows : Standing (length code) w m prev at
   pub before : prev < at → Whole code prev
 
@@ -78,13 +78,13 @@ abbrev pub after : ℕ → ℕ → ℕ
 after pc op = pc + suc (argument op)
 
 -- One instruction was taken: what is written and what is still to be cut are together what they were.
-pub record Turned (code w : List ℕ) (m : Mode) (prev pc op : ℕ) (w′ : List ℕ) (m′ : Mode) : Type 0 where
+pub record Turned (code w : List ℕ) (m : Walking) (prev pc op : ℕ) (w′ : List ℕ) (m′ : Walking) : Type 0 where
   pub same : blocksAt w′ (length code) ++ ahead code (after pc op) m′ pc ≡ blocksAt w (length code) ++ ahead code pc m prev
   pub ready : Ready code w′ m′ pc (after pc op)
   pub beyond : Beyond (length code) w w′
 
 -- the block that is left open where the walk ends, if it is kept
-unfoldable pub last : Mode → ℕ → List Block
+unfoldable pub last : Walking → ℕ → List Block
 last m prev = map clipped (rest [] m prev none)
 
 -- the code's blocks before the checks

@@ -15,10 +15,10 @@ use Rattle.initial.specs.declared.jump.Target.{Target}
 use Rattle.initial.specs.declared.jump.Target.the-variants.{Static, Dynamic}
 use Rattle.initial.specs.declared.turn.Cut.{Cut}
 use Rattle.initial.specs.declared.turn.Cut.the-variants.{Jumpdest, Jumpi, Jump, Ends, Unknown, Other}
-use Rattle.initial.specs.declared.turn.Mode.{Mode}
-use Rattle.initial.specs.declared.turn.Mode.the-variants.{Opened, Waiting, Ended}
-use Rattle.initial.specs.declared.turn.Turn.{Turn}
-use Rattle.initial.specs.declared.turn.Turn.the-variants.{Goes, Closes}
+use Rattle.initial.specs.declared.turn.Walking.{Walking}
+use Rattle.initial.specs.declared.turn.Walking.the-variants.{Opened, Waiting, Ended}
+use Rattle.initial.specs.declared.turn.Effect.{Effect}
+use Rattle.initial.specs.declared.turn.Effect.the-variants.{Goes, Closes}
 
 -- A destination is kept in two bytes: 0xffff stands for one above, which is past the end of any code too.
 abbrev pub clip : Kind → Kind
@@ -50,7 +50,7 @@ cutOf UNKNOWN = Unknown
 cutOf OTHER = Other
 
 -- one instruction at pc, in the block that is open from start on
-unfoldable pub turnOf : ℕ → ℕ → Option ℕ → ℕ → Cut → Turn
+unfoldable pub turnOf : ℕ → ℕ → Option ℕ → ℕ → Cut → Effect
 turnOf start prev push pc Jumpdest = if (eqb start pc) (Goes (Opened start)) (Closes prev (typeOf (jump pc)) (Opened pc))
 turnOf start prev push pc Jumpi = Closes pc (typeOf (clip (branching push (pc + 1)))) (Opened (pc + 1))
 turnOf start prev push pc Jump = Closes pc (typeOf (clip (jumping push))) Waiting
@@ -61,24 +61,24 @@ turnOf start prev push pc Unknown =
 turnOf start prev push pc Other = Goes (Opened start)
 
 -- the block that a turn closes, if it closes one
-abbrev pub closed : ℕ → Turn → List Block
+abbrev pub closed : ℕ → Effect → List Block
 closed start (Goes m) = []
 closed start (Closes end t m) = block start start end (kindOf t) ∷ []
 
-abbrev pub then : Turn → Mode
+abbrev pub then : Effect → Walking
 then (Goes m) = m
 then (Closes end t m) = m
 
 -- how the cutting goes on, `on` at a mode; no more where it has ended
-abbrev pub resume : (spec.Mode → List Block) → Mode → List Block
+abbrev pub resume : (spec.Mode → List Block) → Walking → List Block
 resume on (Opened start) = on (opened start start)
 resume on Waiting = on waiting
 resume on Ended = []
 
 -- the blocks that are still to be cut, of these instructions
-abbrev pub rest : List Ins → Mode → ℕ → Option ℕ → List Block
+abbrev pub rest : List Ins → Walking → ℕ → Option ℕ → List Block
 rest is m prev push = resume (λ (n : spec.Mode). cuts row is n prev push) m
 
 -- those of the code from a place on, as the rows have them
-unfoldable pub ahead : List ℕ → ℕ → Mode → ℕ → List Block
+unfoldable pub ahead : List ℕ → ℕ → Walking → ℕ → List Block
 ahead code at m prev = map clipped (rest (walk (drop at code) at 0) m prev (pushedAt code prev))

@@ -27,31 +27,31 @@ pub fn check(code: &[u8], w: &mut [u8])
     ensures { λ _. ⌜ Written (length (now (code .entry))) (check-all (now (code .entry)) (blocksAt (now (w .entry)) (length (now (code .entry)))))
         (now (w .entry)) (now (w .exit)) ⌝ }
 {
-    let n = code.len();
-    let mut a = 0;
-    while a <= n {
-        check_row(code, w, a);
-        a += 1;
+    let size = code.len();
+    let mut start = 0;
+    while start <= size {
+        check_row(code, w, start);
+        start += 1;
     }
 }
 
-// The checks of the block that starts at a, if one does.
-fn check_row(code: &[u8], w: &mut [u8], a: usize)
+// The checks of the block that starts at `start`, if one does.
+fn check_row(code: &[u8], w: &mut [u8], start: usize)
     requires { ⌜ Rows (now code) (now w) ⌝ }
-    requires { ⌜ a ≤ length (now code) ⌝ }
-    ensures { λ _. ⌜ CheckedRow (now (code .entry)) (now (w .entry)) a (now (w .exit)) ⌝ }
+    requires { ⌜ start ≤ length (now code) ⌝ }
+    ensures { λ _. ⌜ CheckedRow (now (code .entry)) (now (w .entry)) start (now (w .exit)) ⌝ }
 {
-    let t = type_at(w, a);
-    if t.kind == JUMP {
-        let end = get16(w, ROW * a + END);
-        let to = checked_jump(code, w, t.to);
-        put_block(w, a, end, to);
+    let block = type_at(w, start);
+    if block.kind == JUMP {
+        let end = get16(w, ROW * start + END);
+        let to = checked_jump(code, w, block.to);
+        put_block(w, start, end, to);
         return;
     }
-    if t.kind == JUMPI {
-        let end = get16(w, ROW * a + END);
-        let to = checked_jumpi(code, w, t.to, t.other);
-        put_block(w, a, end, to);
+    if block.kind == JUMPI {
+        let end = get16(w, ROW * start + END);
+        let to = checked_jumpi(code, w, block.to, block.other);
+        put_block(w, start, end, to);
     }
 }
 
@@ -102,27 +102,27 @@ fn checked_jumpi(code: &[u8], w: &[u8], to: usize, other: usize) -> BlockType
     }
 }
 
-// Does a block start at t?
-fn starts(code: &[u8], w: &[u8], t: usize) -> bool
+// Does a block start at `to`?
+fn starts(code: &[u8], w: &[u8], to: usize) -> bool
     requires { ⌜ rowsEnd (length (now code)) ≤ length (now w) ⌝ }
-    ensures { λ r. ⌜ r ≡ mem t (starts (blocksAt (now (w .entry)) (length (now (code .entry))))) ⌝ }
+    ensures { λ r. ⌜ r ≡ mem to (starts (blocksAt (now (w .entry)) (length (now (code .entry))))) ⌝ }
 {
-    if code.len() < t {
+    if code.len() < to {
         return false;
     }
-    get8(w, ROW * t) != 0
+    get8(w, ROW * to) != 0
 }
 
-// Does a block start at t, with a JUMPDEST?
-fn lands(code: &[u8], w: &[u8], t: usize) -> bool
+// Does a block start at `to`, with a JUMPDEST?
+fn lands(code: &[u8], w: &[u8], to: usize) -> bool
     requires { ⌜ rowsEnd (length (now code)) ≤ length (now w) ⌝ }
-    ensures { λ r. ⌜ r ≡ lands (now (code .entry)) (starts (blocksAt (now (w .entry)) (length (now (code .entry))))) t ⌝ }
+    ensures { λ r. ⌜ r ≡ lands (now (code .entry)) (starts (blocksAt (now (w .entry)) (length (now (code .entry))))) to ⌝ }
 {
-    if code.len() <= t {
+    if code.len() <= to {
         return false;
     }
-    if code[t] != JUMPDEST {
+    if code[to] != JUMPDEST {
         return false;
     }
-    starts(code, w, t)
+    starts(code, w, to)
 }

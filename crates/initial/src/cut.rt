@@ -1,7 +1,7 @@
 // Cutting code into blocks, one instruction a turn.
 // "Empty code has no blocks. ... A last open block is kept, Terminate false, if its start is not beyond the last instruction."
-use crate::turn::Mode;
-use crate::turn::Turn;
+use crate::turn::Effect;
+use crate::turn::Walking;
 use crate::turn::closes;
 use crate::turn::cut_of;
 use crate::turn::terminate;
@@ -23,23 +23,23 @@ pub fn cut(code: &[u8], w: &mut [u8])
     ensures { λ _. ⌜ Written (length (now (code .entry))) (map clipped (cutting (now (code .entry))))
         (now (w .entry)) (now (w .exit)) ⌝ }
 {
-    let n = code.len();
-    wipe_part(w, 0, ROW * (n + 1));
-    if n == 0 {
+    let size = code.len();
+    wipe_part(w, 0, ROW * (size + 1));
+    if size == 0 {
         return;
     }
-    let mut mode = Mode::Opened(0);
+    let mut walking = Walking::Opened(0);
     let mut prev = 0;
     let mut at = 0;
     loop {
         match step_from(code, at) {
             Step::End => {
-                last(w, n, mode, prev);
+                last(w, size, walking, prev);
                 return;
             }
             Step::Whole { pc, op, next } => {
-                mode = turn(code, w, mode, prev, pc, op);
-                if let Mode::Ended = mode {
+                walking = turn(code, w, walking, prev, pc, op);
+                if let Walking::Ended = walking {
                     return;
                 }
                 prev = pc;
@@ -50,42 +50,42 @@ pub fn cut(code: &[u8], w: &mut [u8])
 }
 
 // One instruction, at pc: the block that it closes is written.
-fn turn(code: &[u8], w: &mut [u8], mode: Mode, prev: usize, pc: usize, op: u8) -> Mode
-    requires { ⌜ Ready (now code) (now w) mode prev pc ⌝ }
+fn turn(code: &[u8], w: &mut [u8], walking: Walking, prev: usize, pc: usize, op: u8) -> Walking
+    requires { ⌜ Ready (now code) (now w) walking prev pc ⌝ }
     requires { ⌜ Stands (now code) pc op ⌝ }
-    ensures { λ r. ⌜ Turned (now (code .entry)) (now (w .entry)) mode prev pc op (now (w .exit)) r ⌝ }
+    ensures { λ r. ⌜ Turned (now (code .entry)) (now (w .entry)) walking prev pc op (now (w .exit)) r ⌝ }
 {
-    match mode {
-        Mode::Opened(start) => match closes(code, start, prev, pc, cut_of(op)) {
-            Turn::Goes(m) => m,
-            Turn::Closes { end, kind, then } => {
+    match walking {
+        Walking::Opened(start) => match closes(code, start, prev, pc, cut_of(op)) {
+            Effect::Goes(next) => next,
+            Effect::Closes { end, kind, then } => {
                 put_block(w, start, end, kind);
                 then
             }
         },
-        Mode::Waiting => {
+        Walking::Waiting => {
             if op == JUMPDEST {
-                Mode::Opened(pc)
+                Walking::Opened(pc)
             } else {
-                Mode::Waiting
+                Walking::Waiting
             }
         }
-        Mode::Ended => Mode::Ended,
+        Walking::Ended => Walking::Ended,
     }
 }
 
 // A last open block is kept if its start is not beyond the last instruction.
-fn last(w: &mut [u8], n: usize, mode: Mode, prev: usize)
-    requires { ⌜ Standing n (now w) mode prev n ⌝ }
-    ensures { λ _. ⌜ Written n (blocksAt (now (w .entry)) n ++ last mode prev) (now (w .entry)) (now (w .exit)) ⌝ }
+fn last(w: &mut [u8], size: usize, walking: Walking, prev: usize)
+    requires { ⌜ Standing size (now w) walking prev size ⌝ }
+    ensures { λ _. ⌜ Written size (blocksAt (now (w .entry)) size ++ last walking prev) (now (w .entry)) (now (w .exit)) ⌝ }
 {
-    match mode {
-        Mode::Opened(start) => {
+    match walking {
+        Walking::Opened(start) => {
             if start <= prev {
                 put_block(w, start, prev, terminate(false));
             }
         }
-        Mode::Waiting => {}
-        Mode::Ended => {}
+        Walking::Waiting => {}
+        Walking::Ended => {}
     }
 }

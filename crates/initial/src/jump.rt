@@ -32,9 +32,9 @@ fn is_static_jump(code: &[u8], prev: usize) -> Target
     if PUSH4 < op {
         return Target::Dynamic;
     }
-    let v = argument_at(code, prev, (op - PUSH0) as usize);
-    if v < 0xffff {
-        Target::Static(v as usize)
+    let value = argument_at(code, prev, (op - PUSH0) as usize);
+    if value < 0xffff {
+        Target::Static(value as usize)
     } else {
         Target::Static(0xffff)
     }

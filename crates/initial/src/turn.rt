@@ -29,19 +29,19 @@ pub enum Cut {
 }
 
 // How the walk stands: a block is open from its start on, a JUMPDEST is waited for, or cutting has ended for the whole code.
-pub enum Mode {
+pub enum Walking {
     Opened(usize),
     Waiting,
     Ended,
 }
 
 // What an instruction does in the open block: it goes on, or closes the block, whose last instruction is at end.
-pub enum Turn {
-    Goes(Mode),
+pub enum Effect {
+    Goes(Walking),
     Closes {
         end: usize,
         kind: BlockType,
-        then: Mode,
+        then: Walking,
     },
 }
 
@@ -71,67 +71,67 @@ pub fn terminate(success: bool) -> BlockType
 }
 
 // A JUMPDEST past its block's start ends the block before it, as a Jump to it.
-fn at_jumpdest(start: usize, prev: usize, pc: usize) -> Turn
+fn at_jumpdest(start: usize, prev: usize, pc: usize) -> Effect
     ensures { λ r. ⌜ r ≡ turnOf start prev none pc Jumpdest ⌝ }
 {
     if start == pc {
-        return Turn::Goes(Mode::Opened(start));
+        return Effect::Goes(Walking::Opened(start));
     }
-    Turn::Closes {
+    Effect::Closes {
         end: prev,
         kind: BlockType {
             kind: JUMP,
             to: pc,
             other: 0,
         },
-        then: Mode::Opened(pc),
+        then: Walking::Opened(pc),
     }
 }
 
 // An unknown byte ends the block before it, which is kept unless it starts there; from start 0 on it is kept, and cutting ends.
-fn at_unknown(start: usize, prev: usize, pc: usize) -> Turn
+fn at_unknown(start: usize, prev: usize, pc: usize) -> Effect
     ensures { λ r. ⌜ r ≡ turnOf start prev none pc Unknown ⌝ }
 {
     if start == 0 {
-        return Turn::Closes {
+        return Effect::Closes {
             end: prev,
             kind: terminate(false),
-            then: Mode::Ended,
+            then: Walking::Ended,
         };
     }
     if pc == start {
-        return Turn::Goes(Mode::Waiting);
+        return Effect::Goes(Walking::Waiting);
     }
-    Turn::Closes {
+    Effect::Closes {
         end: prev,
         kind: terminate(false),
-        then: Mode::Waiting,
+        then: Walking::Waiting,
     }
 }
 
 // One instruction at pc, in the block that is open from start on; prev is the instruction before.
-pub fn closes(code: &[u8], start: usize, prev: usize, pc: usize, c: Cut) -> Turn
+pub fn closes(code: &[u8], start: usize, prev: usize, pc: usize, cut: Cut) -> Effect
     requires { ⌜ Behind (now code) prev pc ⌝ }
-    ensures { λ r. ⌜ r ≡ turnOf start prev (pushedAt (now (code .entry)) prev) pc c ⌝ }
+    ensures { λ r. ⌜ r ≡ turnOf start prev (pushedAt (now (code .entry)) prev) pc cut ⌝ }
 {
-    match c {
+    match cut {
         Cut::Jumpdest => at_jumpdest(start, prev, pc),
-        Cut::Jumpi => Turn::Closes {
+        Cut::Jumpi => Effect::Closes {
             end: pc,
             kind: branching(code, prev, pc + 1),
-            then: Mode::Opened(pc + 1),
+            then: Walking::Opened(pc + 1),
         },
-        Cut::Jump => Turn::Closes {
+        Cut::Jump => Effect::Closes {
             end: pc,
             kind: jumping(code, prev),
-            then: Mode::Waiting,
+            then: Walking::Waiting,
         },
-        Cut::Ends(success) => Turn::Closes {
+        Cut::Ends(success) => Effect::Closes {
             end: pc,
             kind: terminate(success),
-            then: Mode::Waiting,
+            then: Walking::Waiting,
         },
         Cut::Unknown => at_unknown(start, prev, pc),
-        Cut::Other => Turn::Goes(Mode::Opened(start)),
+        Cut::Other => Effect::Goes(Walking::Opened(start)),
     }
 }

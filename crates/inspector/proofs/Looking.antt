@@ -13,12 +13,12 @@ use Rattle.spec.specs.Rooms.{longest, work-need}
 use Rattle.state.specs.Symbols.{symOf}
 use Rattle.state.specs.Cells.{stackAt, depth, reach}
 use Rattle.state.specs.Stored.{Readable}
-use Rattle.state.specs.Owns.{goesOf, far, roomOf, Runs, Inside, Owned}
+use Rattle.exec.specs.Owns.{goesOf, far, roomOf, Runs, Inside, Owned}
 use Rattle.state.specs.declared.sym.StackSym.{StackSym}
 use Rattle.state.specs.declared.sym.StackSym.the-variants.{Before, Constant, Jumpdest, Other}
-use Rattle.state.specs.declared.run.Goes.{Goes}
-use Rattle.state.specs.declared.run.Goes.the-variants.{To, Nowhere}
-use Rattle.state.specs.declared.run.Own.{Own}
+use Rattle.exec.specs.declared.run.Goes.{Goes}
+use Rattle.exec.specs.declared.run.Goes.the-variants.{To, Nowhere}
+use Rattle.exec.specs.declared.run.Own.{Own}
 use Rattle.state.proofs.Reach.{depth-read}
 use Rattle.inspector.specs.Symbols.{Lent, step, takenOf, Taken, Looks, Looked}
 

@@ -19,7 +19,7 @@ use Rattle.theorems.proofs.ReaderPlaces.{never}
 use Rattle.lent.specs.Bytes.{numAt, Holds, Stored}
 use Rattle.lent.proofs.Numbers.{num-zeros, num-prefix}
 use Rattle.lent.proofs.Stored.{kept-num, read-back}
-use Rattle.state.specs.Owns.{roomOf, Inside}
+use Rattle.exec.specs.Owns.{roomOf, Inside}
 use Rattle.reader.specs.Walks.{itemsFrom}
 use Rattle.reader.proofs.Onward.{from-end}
 use Rattle.inspector.specs.Edges.{edgeAmong, edgeIn, Stands, Sought, pairOf}

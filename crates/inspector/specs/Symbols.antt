@@ -9,7 +9,7 @@ use Rattle.spec.specs.Stacks.{Sym, other, through, own}
 use Rattle.spec.specs.Rooms.{longest, work-need}
 use Rattle.state.specs.Symbols.{symOf}
 use Rattle.state.specs.Cells.{depth}
-use Rattle.state.specs.Owns.{Inside}
+use Rattle.exec.specs.Owns.{Inside}
 use Rattle.state.specs.declared.sym.StackSym.{StackSym}
 
 -- W has its room

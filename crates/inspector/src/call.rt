@@ -2,18 +2,18 @@
 use crate::entries::Finding;
 use crate::fill::fill;
 use crate::list::listed;
+use exec::mode::Mode;
+use exec::mode::mode_of;
 use layout::LONGEST;
 use layout::part::NEED;
 use layout::part::NEED_MORE;
 use lent::copy;
 use lent::wipe;
 use reader::read;
-use state::mode::Mode;
-use state::mode::mode_of;
 ghost use mathlib.Core.Path.{_≡_};
 ghost use Prim.Native.Nat.{_≤_};
 ghost use lib.ListN.{length};
-ghost use Rattle.state.specs.Modes.{modeOf};
+ghost use Rattle.exec.specs.Modes.{modeOf};
 ghost use Rattle.inspector.specs.Edges.{Ready};
 ghost use Rattle.inspector.specs.Symbols.{Lent};
 ghost use Rattle.inspector.specs.Calling.{refusedBy, Found, Tells, InspectedFrom, InspectedAs};
@@ -29,17 +29,17 @@ pub struct Inspected {
     pub value: usize,
 }
 
-// The first of 1, 13 and 3 that applies to a code of n bytes, a mode, and a W of so many bytes; 0 if none does.
-fn early(n: usize, mode: usize, w: usize) -> usize
-    ensures { λ r. ⌜ r ≡ refusedBy n mode w ⌝ }
+// The first of 1, 13 and 3 that applies to a code of `size` bytes, a mode, and a W of so many bytes; 0 if none does.
+fn early(size: usize, mode: usize, lent: usize) -> usize
+    ensures { λ r. ⌜ r ≡ refusedBy size mode lent ⌝ }
 {
-    if LONGEST < n {
+    if LONGEST < size {
         return 1;
     }
     if 1 < mode {
         return 13;
     }
-    if w < NEED * n + NEED_MORE {
+    if lent < NEED * size + NEED_MORE {
         return 3;
     }
     0
@@ -53,9 +53,9 @@ fn found(mode: Mode, code: &[u8], map: &[u8], w: &mut [u8], from: usize, rows: &
 {
     wipe(w); // What the caller left there is no table.
     fill(map, code, w);
-    let r = listed(mode, code, map, w, from, rows);
+    let finding = listed(mode, code, map, w, from, rows);
     wipe(w); // It is lent for the call, and tells nothing afterwards.
-    r
+    finding
 }
 
 // Inspects the path entries of a stored map that stand at the offset `from` or later against a code, in mode 0 or 1.
@@ -73,12 +73,12 @@ pub fn inspect_from(
     if number != 0 {
         return Inspected { number, value: 0 };
     }
-    let r = read(map);
-    if r.number != 0 {
+    let reading = read(map);
+    if reading.number != 0 {
         wipe(w);
         return Inspected {
             number: BAD,
-            value: r.offset,
+            value: reading.offset,
         };
     }
     match found(mode_of(mode), code, map, w, from, rows) {
@@ -109,9 +109,9 @@ pub fn inspect(mode: usize, code: &[u8], map: &[u8], w: &mut [u8], place: &mut [
     ensures { λ r. ⌜ InspectedAs mode (now (code .entry)) (now (map .entry)) (now (w .entry)) (now (place .entry)) (now (w .exit)) (now (place .exit)) r ⌝ }
 {
     let mut row = [0u8; 16];
-    let i = inspect_from(mode, code, map, 0, w, &mut row);
-    if i.number == WRONG {
+    let inspected = inspect_from(mode, code, map, 0, w, &mut row);
+    if inspected.number == WRONG {
         tell(place, &row);
     }
-    i
+    inspected
 }

@@ -28,8 +28,8 @@ pub fn joined(map: &[u8], code: &[u8], w: &mut [u8], from: usize, to: usize) -> 
     requires { ⌜ Between (now code) from to ⌝ }
     ensures { λ r. ⌜ Joined (now (map .entry)) (now (code .entry)) (now (w .entry)) from to (now (w .exit)) r ⌝ }
 {
-    let n = code.len();
-    let at = 8 * (n + (from * 251 + to) % (5 * n));
+    let size = code.len();
+    let at = 8 * (size + (from * 251 + to) % (5 * size));
     let pair = from * 65536 + to + 1;
     if get64(w, at) == pair {
         return true;

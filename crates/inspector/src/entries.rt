@@ -3,13 +3,13 @@
 use crate::path::Path;
 use crate::path::Place;
 use crate::path::judge;
+use exec::mode::Mode;
 use reader::Destination;
 use reader::Entry;
 use reader::Walk;
 use reader::next;
-use state::mode::Mode;
 ghost use mathlib.Core.Path.{_≡_};
-ghost use Rattle.state.specs.Modes.{modeOf};
+ghost use Rattle.exec.specs.Modes.{modeOf};
 ghost use Rattle.inspector.specs.Edges.{Ready};
 ghost use Rattle.inspector.specs.Tables.{Tables};
 ghost use Rattle.reader.specs.Walks.{Walking};
@@ -56,10 +56,10 @@ fn shown_by(
 }
 
 // What an entry shows; `asked` says that it stands where entries are asked of.
-pub fn shown_in(e: Entry, owner: usize, asked: bool) -> Shown
-    ensures { λ r. ⌜ r ≡ shownOf e owner asked ⌝ }
+pub fn shown_in(entry: Entry, owner: usize, asked: bool) -> Shown
+    ensures { λ r. ⌜ r ≡ shownOf entry owner asked ⌝ }
 {
-    match e {
+    match entry {
         Entry::Way { to, path, count } => shown_by(asked, owner, owner, to, path, count),
         Entry::Record {
             start,

@@ -15,10 +15,10 @@ ghost use Rattle.inspector.specs.Tables.{TablesTo, Filled, Noted};
 ghost use Rattle.inspector.specs.Entries.{startIn};
 
 // The start of a block; of another entry the number that is given.
-fn start_of(e: Entry, none: usize) -> usize
-    ensures { λ r. ⌜ r ≡ startIn e none ⌝ }
+fn start_of(entry: Entry, none: usize) -> usize
+    ensures { λ r. ⌜ r ≡ startIn entry none ⌝ }
 {
-    match shown_in(e, none, false) {
+    match shown_in(entry, none, false) {
         Shown::Of(start) => start,
         Shown::Path { owner, .. } => owner,
     }

@@ -2,11 +2,11 @@
 // "Otherwise it names the place in the path of the first block that fails" "path entry not right, with its offset"
 use crate::entries::Finding;
 use crate::entries::entries;
+use exec::mode::Mode;
 use lent::put64;
-use state::mode::Mode;
 ghost use Prim.Native.Nat.{_≤_};
 ghost use lib.ListN.{length};
-ghost use Rattle.state.specs.Modes.{modeOf};
+ghost use Rattle.exec.specs.Modes.{modeOf};
 ghost use Rattle.reader.specs.Walks.{Walking};
 ghost use Rattle.inspector.specs.Edges.{Ready};
 ghost use Rattle.inspector.specs.Tables.{Tables};

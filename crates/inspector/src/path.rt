@@ -5,10 +5,10 @@ use crate::known::is_sound;
 use crate::symbol::is_jumpdest;
 use crate::symbol::looked;
 use crate::symbol::taken;
+use exec::mode::Mode;
 use reader::address;
-use state::mode::Mode;
 use state::sym::StackSym;
-ghost use Rattle.state.specs.Modes.{modeOf};
+ghost use Rattle.exec.specs.Modes.{modeOf};
 ghost use Rattle.state.specs.Symbols.{symOf};
 ghost use Rattle.inspector.specs.Edges.{Ready};
 ghost use Rattle.inspector.specs.Tables.{Tables};
@@ -33,56 +33,56 @@ fn along(
     code: &[u8],
     map: &[u8],
     w: &mut [u8],
-    p: Path,
+    path: Path,
     first: usize,
     symbol: StackSym,
 ) -> Place
     requires { ⌜ Ready (now map) ⌝ }
     requires { ⌜ Tables (now map) (now code) (now w) ⌝ }
-    requires { ⌜ InPath (now map) p ⌝ }
-    requires { ⌜ Begins p first (symOf symbol) ⌝ }
-    ensures { λ r. ⌜ Along (modeOf mode) (now (map .entry)) (now (code .entry)) (now (w .entry)) p first symbol (now (w .exit)) r ⌝ }
+    requires { ⌜ InPath (now map) path ⌝ }
+    requires { ⌜ Begins path first (symOf symbol) ⌝ }
+    ensures { λ r. ⌜ Along (modeOf mode) (now (map .entry)) (now (code .entry)) (now (w .entry)) path first symbol (now (w .exit)) r ⌝ }
 {
-    let count = p.count;
-    let mut i = 1;
+    let count = path.count;
+    let mut place = 1;
     let mut last = first;
-    let mut x = symbol;
-    while i < count {
-        let a = address(map, p.at, count, i);
-        if !is_sound(code, a) {
-            return Place::Fails(i);
+    let mut found = symbol;
+    while place < count {
+        let start = address(map, path.at, count, place);
+        if !is_sound(code, start) {
+            return Place::Fails(place);
         }
-        if !joined(map, code, w, a, last) {
-            return Place::Fails(i);
+        if !joined(map, code, w, start, last) {
+            return Place::Fails(place);
         }
-        x = looked(mode, code, w, a, x);
-        last = a;
-        i += 1;
+        found = looked(mode, code, w, start, found);
+        last = start;
+        place += 1;
     }
-    if is_jumpdest(x, p.to) {
+    if is_jumpdest(found, path.to) {
         return Place::Right;
     }
     Place::Fails(0)
 }
 
 // A path entry of the block at `owner`.
-pub fn judge(mode: Mode, code: &[u8], map: &[u8], w: &mut [u8], owner: usize, p: Path) -> Place
+pub fn judge(mode: Mode, code: &[u8], map: &[u8], w: &mut [u8], owner: usize, path: Path) -> Place
     requires { ⌜ Ready (now map) ⌝ }
     requires { ⌜ Tables (now map) (now code) (now w) ⌝ }
-    requires { ⌜ InPath (now map) p ⌝ }
-    ensures { λ r. ⌜ Judged (modeOf mode) (now (map .entry)) (now (code .entry)) (now (w .entry)) owner p (now (w .exit)) r ⌝ }
+    requires { ⌜ InPath (now map) path ⌝ }
+    ensures { λ r. ⌜ Judged (modeOf mode) (now (map .entry)) (now (code .entry)) (now (w .entry)) owner path (now (w .exit)) r ⌝ }
 {
-    let count = p.count;
+    let count = path.count;
     if count == 0 {
         return Place::Fails(0);
     }
-    let first = address(map, p.at, count, 0);
+    let first = address(map, path.at, count, 0);
     if !is_sound(code, first) {
         return Place::Fails(0);
     }
     if owner != first {
         return Place::Fails(0);
     }
-    let x = taken(mode, code, w, first);
-    along(mode, code, map, w, p, first, x)
+    let symbol = taken(mode, code, w, first);
+    along(mode, code, map, w, path, first, symbol)
 }

@@ -54,15 +54,15 @@ fn seven(to: usize, found: Destination) -> bool
 {
     match found {
         Destination::Missing => false,
-        Destination::At(t) => to == t,
+        Destination::At(side) => to == side,
     }
 }
 
 // What an entry is to the edge between two starts; `mine` says that the block before it is the one that the edge leaves.
-fn sight_of(e: Entry, mine: bool, from: usize, to: usize) -> Sight
-    ensures { λ r. ⌜ r ≡ sightOf e mine from to ⌝ }
+fn sight_of(entry: Entry, mine: bool, from: usize, to: usize) -> Sight
+    ensures { λ r. ⌜ r ≡ sightOf entry mine from to ⌝ }
 {
-    match e {
+    match entry {
         Entry::Terminate { start, .. } => sight_by(from == start, false),
         Entry::Jump {
             start,

@@ -10,25 +10,25 @@ ghost use Rattle.entries.specs.Rows.{kept, keptBelow};
 ghost use Rattle.entries.specs.Contracts.{PutsFew, PutsBlock, PutsBlocks};
 ghost use Rattle.json.specs.Rows.{lined, next, blockText};
 
-// The block at a, if it is kept.
+// The block at `start`, if it is kept.
 fn add_kept(
     out: &mut [u8],
     begin: usize,
     at: usize,
     w: &[u8],
-    n: usize,
+    size: usize,
     r: &[u8],
     q: &[u8],
-    m: usize,
-    a: usize,
+    rows: usize,
+    start: usize,
 ) -> usize
-    requires { ⌜ (PutsBlock n m (now w) (now r) (now q) a at) × (at + 1 ≤ 2 ^ 60) ⌝ }
+    requires { ⌜ (PutsBlock size rows (now w) (now r) (now q) start at) × (at + 1 ≤ 2 ^ 60) ⌝ }
     ensures { λ end. ⌜ PutsFew (2 ^ 37) (now (out .entry)) at
-        (next begin at (blockText (now (w .entry)) (now (r .entry)) (now (q .entry)) m) (keep (kept (now (w .entry)) n) (a ∷ []))) (now (out .exit)) end ⌝ }
+        (next begin at (blockText (now (w .entry)) (now (r .entry)) (now (q .entry)) rows) (keep (kept (now (w .entry)) size) (start ∷ []))) (now (out .exit)) end ⌝ }
 {
-    if is_kept(w, n, a) {
+    if is_kept(w, size, start) {
         let place = add_comma(out, begin, at);
-        return add_block(out, place, w, n, r, q, m, a);
+        return add_block(out, place, w, size, r, q, rows, start);
     }
     at
 }
@@ -38,20 +38,20 @@ pub fn add_blocks(
     out: &mut [u8],
     at: usize,
     w: &[u8],
-    n: usize,
+    size: usize,
     r: &[u8],
     q: &[u8],
-    m: usize,
+    rows: usize,
 ) -> usize
-    requires { ⌜ (PutsBlocks n m (now w) (now r) (now q) at) × (at ≤ 2 ^ 32) ⌝ }
+    requires { ⌜ (PutsBlocks size rows (now w) (now r) (now q) at) × (at ≤ 2 ^ 32) ⌝ }
     ensures { λ end. ⌜ PutsFew (2 ^ 53) (now (out .entry)) at
-        (lined (blockText (now (w .entry)) (now (r .entry)) (now (q .entry)) m) (keptBelow (now (w .entry)) n (n + 1))) (now (out .exit)) end ⌝ }
+        (lined (blockText (now (w .entry)) (now (r .entry)) (now (q .entry)) rows) (keptBelow (now (w .entry)) size (size + 1))) (now (out .exit)) end ⌝ }
 {
     let mut end = at;
-    let mut a = 0;
-    while a <= n {
-        end = add_kept(out, at, end, w, n, r, q, m, a);
-        a += 1;
+    let mut start = 0;
+    while start <= size {
+        end = add_kept(out, at, end, w, size, r, q, rows, start);
+        start += 1;
     }
     end
 }

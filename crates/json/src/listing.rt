@@ -13,48 +13,48 @@ ghost use Rattle.entries.specs.Contracts.{PutsFew, RowsIn, LinkedAt};
 ghost use Rattle.json.specs.Rows.{lined, next, wayText};
 ghost use Rattle.json.specs.Contracts.{PutsWay};
 
-// Row i, if a block of the kind lists it.
+// A row, if a block of the kind lists it.
 fn add_row(
     out: &mut [u8],
     begin: usize,
     at: usize,
     r: &[u8],
     q: &[u8],
-    i: usize,
+    row: usize,
     kind: usize,
 ) -> usize
-    requires { ⌜ PutsWay (now r) (now q) i at 23 ⌝ }
-    ensures { λ end. ⌜ PutsFew (23 + 6 * stepsOf (now (r .entry)) i) (now (out .entry)) at
-        (next begin at (wayText (now (r .entry)) (now (q .entry))) (keep (listed (now (r .entry)) kind) (i ∷ []))) (now (out .exit)) end ⌝ }
+    requires { ⌜ PutsWay (now r) (now q) row at 23 ⌝ }
+    ensures { λ end. ⌜ PutsFew (23 + 6 * stepsOf (now (r .entry)) row) (now (out .entry)) at
+        (next begin at (wayText (now (r .entry)) (now (q .entry))) (keep (listed (now (r .entry)) kind) (row ∷ []))) (now (out .exit)) end ⌝ }
 {
-    if is_listed(r, i, kind) {
+    if is_listed(r, row, kind) {
         let place = add_comma(out, begin, at);
-        return add_way(out, place, r, q, i);
+        return add_way(out, place, r, q, row);
     }
     at
 }
 
-// All that the block at a lists.
+// All that the block at `start` lists.
 pub fn add_ways(
     out: &mut [u8],
     at: usize,
     w: &[u8],
-    n: usize,
+    size: usize,
     r: &[u8],
     q: &[u8],
-    m: usize,
-    a: usize,
+    rows: usize,
+    start: usize,
     kind: usize,
 ) -> usize
-    requires { ⌜ (LinkedAt n m (now w) (now r) a) × (RowsIn (now r) (now q) m) × (at ≤ 2 ^ 61) ⌝ }
+    requires { ⌜ (LinkedAt size rows (now w) (now r) start) × (RowsIn (now r) (now q) rows) × (at ≤ 2 ^ 61) ⌝ }
     ensures { λ end. ⌜ PutsFew (2 ^ 36) (now (out .entry)) at
-        (lined (wayText (now (r .entry)) (now (q .entry))) (chosen (now (r .entry)) m a kind)) (now (out .exit)) end ⌝ }
+        (lined (wayText (now (r .entry)) (now (q .entry))) (chosen (now (r .entry)) rows start kind)) (now (out .exit)) end ⌝ }
 {
     let mut end = at;
-    let mut k = first_row(w, n, a);
-    while k != 0 {
-        end = add_row(out, at, end, r, q, k - 1, kind);
-        k = next_row(r, k - 1);
+    let mut link = first_row(w, size, start);
+    while link != 0 {
+        end = add_row(out, at, end, r, q, link - 1, kind);
+        link = next_row(r, link - 1);
     }
     end
 }

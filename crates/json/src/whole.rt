@@ -10,24 +10,24 @@ ghost use Rattle.json.specs.Rows.{mapText};
 ghost use Rattle.json.specs.Contracts.{Sized, Written};
 
 // The whole: put where it ends within the buffer, counted in any case.
-fn add_map(out: &mut [u8], w: &[u8], n: usize, r: &[u8], q: &[u8], m: usize) -> usize
-    requires { ⌜ PutsBlocks n m (now w) (now r) (now q) 0 ⌝ }
-    ensures { λ end. ⌜ PutsFew (2 ^ 54) (now (out .entry)) 0 (mapText (now (w .entry)) (now (r .entry)) (now (q .entry)) n m) (now (out .exit)) end ⌝ }
+fn add_map(out: &mut [u8], w: &[u8], size: usize, r: &[u8], q: &[u8], rows: usize) -> usize
+    requires { ⌜ PutsBlocks size rows (now w) (now r) (now q) 0 ⌝ }
+    ensures { λ end. ⌜ PutsFew (2 ^ 54) (now (out .entry)) 0 (mapText (now (w .entry)) (now (r .entry)) (now (q .entry)) size rows) (now (out .exit)) end ⌝ }
 {
     let blocks = add_text(out, 0, b"[");
-    let end = add_blocks(out, blocks, w, n, r, q, m);
+    let end = add_blocks(out, blocks, w, size, r, q, rows);
     add_text(out, end, b"]")
 }
 
 // How many bytes the text has: it is put into a byte that nobody reads. Energy and choice are no part of it.
-pub fn text_size(w: &[u8], r: &[u8], q: &[u8], n: usize, m: usize) -> usize
-    requires { ⌜ Writes (now w) (now r) (now q) n m 0 ⌝ }
-    ensures { λ size. ⌜ Sized (now (w .entry)) (now (r .entry)) (now (q .entry)) n m size ⌝ }
+pub fn text_size(w: &[u8], r: &[u8], q: &[u8], size: usize, rows: usize) -> usize
+    requires { ⌜ Writes (now w) (now r) (now q) size rows 0 ⌝ }
+    ensures { λ long. ⌜ Sized (now (w .entry)) (now (r .entry)) (now (q .entry)) size rows long ⌝ }
 {
     // Read for its bound: the paths end below 2^32, so that no count passes 64 bits.
-    let _ends = begin_of(r, m);
+    let _ends = begin_of(r, rows);
     let mut none = [0u8; 1];
-    add_map(&mut none, w, n, r, q, m)
+    add_map(&mut none, w, size, r, q, rows)
 }
 
 // Writes the text of that size, where `out` has room for it: the number of bytes, or 0, and then `out` stays as it was.
@@ -36,16 +36,16 @@ pub fn write_text(
     r: &[u8],
     q: &[u8],
     out: &mut [u8],
-    n: usize,
-    m: usize,
     size: usize,
+    rows: usize,
+    long: usize,
 ) -> usize
-    requires { ⌜ (Writes (now w) (now r) (now q) n m 0) × (Sized (now w) (now r) (now q) n m size) ⌝ }
-    ensures { λ end. ⌜ Written (now (w .entry)) (now (r .entry)) (now (q .entry)) n m (now (out .entry)) (now (out .exit)) end ⌝ }
+    requires { ⌜ (Writes (now w) (now r) (now q) size rows 0) × (Sized (now w) (now r) (now q) size rows long) ⌝ }
+    ensures { λ end. ⌜ Written (now (w .entry)) (now (r .entry)) (now (q .entry)) size rows (now (out .entry)) (now (out .exit)) end ⌝ }
 {
-    if units(out.len(), 1) < size {
+    if units(out.len(), 1) < long {
         return 0;
     }
-    let _ends = begin_of(r, m);
-    add_map(out, w, n, r, q, m)
+    let _ends = begin_of(r, rows);
+    add_map(out, w, size, r, q, rows)
 }

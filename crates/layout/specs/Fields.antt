@@ -1,6 +1,7 @@
 -- The fields of an address in W, and the worklist and the buckets behind them. A mark (4 bytes), 0 for an address never reached, else one more than the
--- number of records when it was; the first and the last found parent (4 each), as a record's number and 1 more; the count on the path in hand (4); 2 bytes
--- spare; a flag (1 byte), not 0 once the address's own sides have been followed or wait to be; 1 byte spare. Assumes nothing.
+-- number of records when it was; the first and the last found parent (4 each), as a record's number and 1 more; the count on the path in hand (4); the
+-- highest direct parent that is marked (2), as its start and 1 more; a flag (1 byte), not 0 once the address's own sides have been followed or wait to be;
+-- 1 byte spare. Assumes nothing.
 use mathlib.Core.List.{List}
 use Prim.Native.Nat.{ℕ, _+_}
 use Rattle.lent.specs.Bytes.{numAt}
@@ -17,8 +18,8 @@ LAST-FOUND = 8
 abbrev pub COUNT : ℕ
 COUNT = 12
 
-abbrev pub SPARE : ℕ
-SPARE = 16
+abbrev pub HIGHEST : ℕ
+HIGHEST = 16
 
 abbrev pub FLAG : ℕ
 FLAG = 18
@@ -46,6 +47,9 @@ lastFoundAt w n a = numAt 4 w (fieldsPlace n a + LAST-FOUND)
 
 abbrev pub countAt : List ℕ → ℕ → ℕ → ℕ
 countAt w n a = numAt 4 w (fieldsPlace n a + COUNT)
+
+abbrev pub highAt : List ℕ → ℕ → ℕ → ℕ
+highAt w n a = numAt 2 w (fieldsPlace n a + HIGHEST)
 
 abbrev pub flagAt : List ℕ → ℕ → ℕ → ℕ
 flagAt w n a = numAt 1 w (fieldsPlace n a + FLAG)

@@ -6,6 +6,9 @@ pub const LAST_FOUND: usize = 8;
 
 pub const COUNT: usize = 12;
 
+// The highest direct parent that is marked, as a link; no link above it leads to a marked one.
+pub const HIGHEST: usize = 16;
+
 // Whether its sides have been followed, or wait to be.
 pub const FLAG: usize = 18;
 

@@ -49,24 +49,24 @@ pub struct BlockType {
     pub other: usize,
 }
 
-// Writes the block that starts at a.
-pub fn put_block(w: &mut [u8], a: usize, end: usize, t: BlockType)
-    requires { ⌜ rowPlace a + BLOCK ≤ length (now w) ⌝ }
-    ensures { λ _. ⌜ Put (now (w .entry)) a end t (now (w .exit)) ⌝ }
+// Writes the block that starts at `start`.
+pub fn put_block(w: &mut [u8], start: usize, end: usize, block: BlockType)
+    requires { ⌜ rowPlace start + BLOCK ≤ length (now w) ⌝ }
+    ensures { λ _. ⌜ Put (now (w .entry)) start end block (now (w .exit)) ⌝ }
 {
-    let at = ROW * a;
-    put16(w, at, t.kind);
+    let at = ROW * start;
+    put16(w, at, block.kind);
     put16(w, at + END, end);
-    put16(w, at + TO, t.to);
-    put16(w, at + OTHER, t.other);
+    put16(w, at + TO, block.to);
+    put16(w, at + OTHER, block.other);
 }
 
-// The type of the block that starts at a.
-pub fn type_at(w: &[u8], a: usize) -> BlockType
-    requires { ⌜ rowPlace a + BLOCK ≤ length (now w) ⌝ }
-    ensures { λ r. ⌜ TypeIs (now (w .entry)) a r ⌝ }
+// The type of the block that starts at `start`.
+pub fn type_at(w: &[u8], start: usize) -> BlockType
+    requires { ⌜ rowPlace start + BLOCK ≤ length (now w) ⌝ }
+    ensures { λ r. ⌜ TypeIs (now (w .entry)) start r ⌝ }
 {
-    let at = ROW * a;
+    let at = ROW * start;
     BlockType {
         kind: get8(w, at),
         to: get16(w, at + TO),

@@ -7,75 +7,75 @@ ghost use Rattle.spec.specs.Lists.{little};
 ghost use Rattle.lent.specs.Bytes.{Holds, Stored};
 
 // A byte as a number.
-fn wide(x: u8) -> usize
-    ensures { λ r. ⌜ (r ≡ x) × (r < 256) ⌝ }
+fn wide(byte: u8) -> usize
+    ensures { λ r. ⌜ (r ≡ byte) × (r < 256) ⌝ }
 {
-    x as usize
+    byte as usize
 }
 
 // The byte at `at`.
-pub fn get8(b: &[u8], at: usize) -> usize
-    requires { ⌜ at + 1 ≤ length (now b) ⌝ }
-    ensures { λ r. ⌜ Holds 1 (now (b .entry)) at r ⌝ }
+pub fn get8(bytes: &[u8], at: usize) -> usize
+    requires { ⌜ at + 1 ≤ length (now bytes) ⌝ }
+    ensures { λ r. ⌜ Holds 1 (now (bytes .entry)) at r ⌝ }
 {
-    wide(b[at])
+    wide(bytes[at])
 }
 
 // The number in the two bytes from `at` on.
-pub fn get16(b: &[u8], at: usize) -> usize
-    requires { ⌜ at + 2 ≤ length (now b) ⌝ }
-    ensures { λ r. ⌜ Holds 2 (now (b .entry)) at r ⌝ }
+pub fn get16(bytes: &[u8], at: usize) -> usize
+    requires { ⌜ at + 2 ≤ length (now bytes) ⌝ }
+    ensures { λ r. ⌜ Holds 2 (now (bytes .entry)) at r ⌝ }
 {
-    get8(b, at) + get8(b, at + 1) * 256
+    get8(bytes, at) + get8(bytes, at + 1) * 256
 }
 
 // The number in the four bytes from `at` on.
-pub fn get32(b: &[u8], at: usize) -> usize
-    requires { ⌜ at + 4 ≤ length (now b) ⌝ }
-    ensures { λ r. ⌜ Holds 4 (now (b .entry)) at r ⌝ }
+pub fn get32(bytes: &[u8], at: usize) -> usize
+    requires { ⌜ at + 4 ≤ length (now bytes) ⌝ }
+    ensures { λ r. ⌜ Holds 4 (now (bytes .entry)) at r ⌝ }
 {
-    get16(b, at) + get16(b, at + 2) * 65536
+    get16(bytes, at) + get16(bytes, at + 2) * 65536
 }
 
 // The number in the eight bytes from `at` on.
-pub fn get64(b: &[u8], at: usize) -> usize
-    requires { ⌜ at + 8 ≤ length (now b) ⌝ }
-    ensures { λ r. ⌜ Holds 8 (now (b .entry)) at r ⌝ }
+pub fn get64(bytes: &[u8], at: usize) -> usize
+    requires { ⌜ at + 8 ≤ length (now bytes) ⌝ }
+    ensures { λ r. ⌜ Holds 8 (now (bytes .entry)) at r ⌝ }
 {
-    get32(b, at) + get32(b, at + 4) * 4294967296
+    get32(bytes, at) + get32(bytes, at + 4) * 4294967296
 }
 
-// Stores the lowest byte of v at `at`.
-pub fn put8(b: &mut [u8], at: usize, v: usize)
-    requires { ⌜ at + 1 ≤ length (now b) ⌝ }
-    ensures { λ _. ⌜ Stored 1 (now (b .entry)) at (little 1 v) (now (b .exit)) ⌝ }
+// Stores the lowest byte of `value` at `at`.
+pub fn put8(bytes: &mut [u8], at: usize, value: usize)
+    requires { ⌜ at + 1 ≤ length (now bytes) ⌝ }
+    ensures { λ _. ⌜ Stored 1 (now (bytes .entry)) at (little 1 value) (now (bytes .exit)) ⌝ }
 {
-    b[at] = (v % 256) as u8;
+    bytes[at] = (value % 256) as u8;
 }
 
-// Stores the two lowest bytes of v from `at` on.
-pub fn put16(b: &mut [u8], at: usize, v: usize)
-    requires { ⌜ at + 2 ≤ length (now b) ⌝ }
-    ensures { λ _. ⌜ Stored 2 (now (b .entry)) at (little 2 v) (now (b .exit)) ⌝ }
+// Stores the two lowest bytes of `value` from `at` on.
+pub fn put16(bytes: &mut [u8], at: usize, value: usize)
+    requires { ⌜ at + 2 ≤ length (now bytes) ⌝ }
+    ensures { λ _. ⌜ Stored 2 (now (bytes .entry)) at (little 2 value) (now (bytes .exit)) ⌝ }
 {
-    put8(b, at, v);
-    put8(b, at + 1, v / 256);
+    put8(bytes, at, value);
+    put8(bytes, at + 1, value / 256);
 }
 
-// Stores the four lowest bytes of v from `at` on.
-pub fn put32(b: &mut [u8], at: usize, v: usize)
-    requires { ⌜ at + 4 ≤ length (now b) ⌝ }
-    ensures { λ _. ⌜ Stored 4 (now (b .entry)) at (little 4 v) (now (b .exit)) ⌝ }
+// Stores the four lowest bytes of `value` from `at` on.
+pub fn put32(bytes: &mut [u8], at: usize, value: usize)
+    requires { ⌜ at + 4 ≤ length (now bytes) ⌝ }
+    ensures { λ _. ⌜ Stored 4 (now (bytes .entry)) at (little 4 value) (now (bytes .exit)) ⌝ }
 {
-    put16(b, at, v);
-    put16(b, at + 2, v / 65536);
+    put16(bytes, at, value);
+    put16(bytes, at + 2, value / 65536);
 }
 
-// Stores the eight bytes of v from `at` on.
-pub fn put64(b: &mut [u8], at: usize, v: usize)
-    requires { ⌜ at + 8 ≤ length (now b) ⌝ }
-    ensures { λ _. ⌜ Stored 8 (now (b .entry)) at (little 8 v) (now (b .exit)) ⌝ }
+// Stores the eight bytes of `value` from `at` on.
+pub fn put64(bytes: &mut [u8], at: usize, value: usize)
+    requires { ⌜ at + 8 ≤ length (now bytes) ⌝ }
+    ensures { λ _. ⌜ Stored 8 (now (bytes .entry)) at (little 8 value) (now (bytes .exit)) ⌝ }
 {
-    put32(b, at, v);
-    put32(b, at + 4, v / 4294967296);
+    put32(bytes, at, value);
+    put32(bytes, at + 4, value / 4294967296);
 }

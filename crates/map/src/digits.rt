@@ -7,26 +7,26 @@ ghost use lib.ListN.{length};
 ghost use Rattle.map.specs.Contracts.{Worth, Decodes};
 
 // What a character is worth as a digit, or 16.
-fn worth(c: usize) -> usize
-    ensures { λ v. ⌜ Worth c v ⌝ }
+fn worth(character: usize) -> usize
+    ensures { λ v. ⌜ Worth character v ⌝ }
 {
-    if c < 0x30 {
+    if character < 0x30 {
         return 16;
     }
-    if c <= 0x39 {
-        return c - 0x30;
+    if character <= 0x39 {
+        return character - 0x30;
     }
-    if c < 0x41 {
+    if character < 0x41 {
         return 16;
     }
-    if c <= 0x46 {
-        return c - 0x37;
+    if character <= 0x46 {
+        return character - 0x37;
     }
-    if c < 0x61 {
+    if character < 0x61 {
         return 16;
     }
-    if c <= 0x66 {
-        return c - 0x57;
+    if character <= 0x66 {
+        return character - 0x57;
     }
     16
 }

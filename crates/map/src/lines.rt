@@ -13,54 +13,54 @@ ghost use Rattle.lent.specs.Bytes.{Stored};
 ghost use Rattle.map.specs.Contracts.{Spells, PutsHex, Lists, Lined, Shows, Prints};
 
 // The character of a digit.
-fn character(v: usize) -> usize
-    requires { ⌜ v < 16 ⌝ }
-    ensures { λ c. ⌜ Spells v c ⌝ }
+fn character(value: usize) -> usize
+    requires { ⌜ value < 16 ⌝ }
+    ensures { λ c. ⌜ Spells value c ⌝ }
 {
-    if v <= 9 {
-        return 0x30 + v;
+    if value <= 9 {
+        return 0x30 + value;
     }
-    0x57 + v
+    0x57 + value
 }
 
 // A byte's two digits.
-fn put_digits(out: &mut [u8], at: usize, b: usize)
-    requires { ⌜ (at + 2 ≤ length (now out)) × (b < 256) ⌝ }
-    ensures { λ _. ⌜ Stored 2 (now (out .entry)) at (hex b) (now (out .exit)) ⌝ }
+fn put_digits(out: &mut [u8], at: usize, byte: usize)
+    requires { ⌜ (at + 2 ≤ length (now out)) × (byte < 256) ⌝ }
+    ensures { λ _. ⌜ Stored 2 (now (out .entry)) at (hex byte) (now (out .exit)) ⌝ }
 {
-    put8(out, at, character(b / 16));
-    put8(out, at + 1, character(b % 16));
+    put8(out, at, character(byte / 16));
+    put8(out, at + 1, character(byte % 16));
 }
 
-// Two digits for each of n bytes of `raw`, from `from` on.
-fn put_hex(raw: &[u8], from: usize, n: usize, out: &mut [u8], at: usize)
-    requires { ⌜ PutsHex (now raw) from n (now out) at (2 * n) ⌝ }
-    ensures { λ _. ⌜ Stored (2 * n) (now (out .entry)) at (gather hex (take n (drop from (now (raw .entry))))) (now (out .exit)) ⌝ }
+// Two digits for each of `count` bytes of `raw`, from `from` on.
+fn put_hex(raw: &[u8], from: usize, count: usize, out: &mut [u8], at: usize)
+    requires { ⌜ PutsHex (now raw) from count (now out) at (2 * count) ⌝ }
+    ensures { λ _. ⌜ Stored (2 * count) (now (out .entry)) at (gather hex (take count (drop from (now (raw .entry))))) (now (out .exit)) ⌝ }
 {
     let mut i = 0;
-    while i < n {
+    while i < count {
         put_digits(out, at + 2 * i, get8(raw, from + i));
         i += 1;
     }
 }
 
 // The same, on a line.
-fn put_line(raw: &[u8], from: usize, n: usize, out: &mut [u8], at: usize)
-    requires { ⌜ PutsHex (now raw) from n (now out) at (2 * n + 1) ⌝ }
-    ensures { λ _. ⌜ Stored (2 * n + 1) (now (out .entry)) at (line (gather hex (take n (drop from (now (raw .entry)))))) (now (out .exit)) ⌝ }
+fn put_line(raw: &[u8], from: usize, count: usize, out: &mut [u8], at: usize)
+    requires { ⌜ PutsHex (now raw) from count (now out) at (2 * count + 1) ⌝ }
+    ensures { λ _. ⌜ Stored (2 * count + 1) (now (out .entry)) at (line (gather hex (take count (drop from (now (raw .entry)))))) (now (out .exit)) ⌝ }
 {
-    put_hex(raw, from, n, out, at);
-    put8(out, at + 2 * n, 0x0A);
+    put_hex(raw, from, count, out, at);
+    put8(out, at + 2 * count, 0x0A);
 }
 
-// A line for each entry that stands in the first n bytes of `raw`; gives where the last line ends.
-pub fn put_lines(raw: &[u8], n: usize, out: &mut [u8]) -> usize
-    requires { ⌜ Lists (now raw) n (now out) ⌝ }
-    ensures { λ end. ⌜ Lined (now (raw .entry)) n (now (out .entry)) (now (out .exit)) end ⌝ }
+// A line for each entry that stands in the first `count` bytes of `raw`; gives where the last line ends.
+pub fn put_lines(raw: &[u8], count: usize, out: &mut [u8]) -> usize
+    requires { ⌜ Lists (now raw) count (now out) ⌝ }
+    ensures { λ end. ⌜ Lined (now (raw .entry)) count (now (out .entry)) (now (out .exit)) end ⌝ }
 {
     let mut at = 0;
     let mut end = 0;
-    while at < n {
+    while at < count {
         let size = get32(raw, at) + 6;
         put_line(raw, at, size, out, end);
         end += 2 * size + 1;

@@ -11,10 +11,11 @@ use Rattle.spec.specs.Opcodes.{row, in-mode}
 use Rattle.spec.specs.Walk.{instructions}
 use Rattle.spec.specs.Blocks.{Block, blocks}
 use Rattle.spec.specs.Stacks.{Sym, before, Stack, Ran, run}
-use Rattle.spec.specs.Search.{Node, node, Taker, takes, takers, sides, Parent, parent, direct}
+use Rattle.spec.specs.Search.{Node, node, Taker, takes, takers, sides, Parent, parent, direct, edges}
+use Rattle.spec.specs.Reach.{edge}
 use Rattle.spec.specs.Answer.{prepared}
 use Rattle.lent.proofs.Numbers.{num-prefix}
-use Rattle.laws.proofs.Members.{In, here, there, in-keep, in-gather, in-map}
+use Rattle.laws.proofs.Members.{In, here, there, in-keep, in-gather, in-map, gather-in, map-in}
 use Rattle.theorems.proofs.Counts.{lawful}
 use Rattle.theorems.proofs.Cutting.{block-afresh}
 use Rattle.layout.specs.Parts.{rowPlace, rowsEnd, SameRows}
@@ -123,6 +124,13 @@ module _ (mode : ℕ) (code : List ℕ) where
       let d = leads i in
       let b = prepares (d .there) in
       omega (arith, ap (λ (q : Parent). q .to) (d .is), sides-within (length code) (d .by .block .kind) (rw (b .is) (node-within (in-mode mode) lawful code (b .there))) (d .has))
+
+  -- it is an edge of the reached set
+  pub direct-edge : {p : Parent} → In p (direct (prepared (in-mode mode) code)) → In (edge (fromOf p) (fromOf p) (p .to)) (edges (prepared (in-mode mode) code))
+  direct-edge i =
+      let d = leads i in
+      rw (d .is)
+      (gather-in (λ (r : Node). map (edge (r .block .start) (r .block .start)) (sides (r .block .kind))) (d .there) (map-in (edge (d .by .block .start) (d .by .block .start)) (d .has)))
 
   pub direct-comes : {p : Parent} → In p (direct (prepared (in-mode mode) code)) → Comes code (fromOf p)
   direct-comes i = let d = leads i in rw (d .is) (node-comes (d .there))

@@ -16,11 +16,11 @@ use Rattle.layout.specs.Parts.{rowPlace}
 use Rattle.layout.specs.Rows.{END, TO, POSITION, FIRST, NEXT, NEXT-OTHER, TAKER, nextAt, typed, tagAt, typeAt, TypeIs, Put}
 use Rattle.layout.specs.declared.row.BlockType.{BlockType}
 use Rattle.state.specs.Symbols.{symOf}
-use Rattle.state.specs.Owns.{goesOf, Runs, Owned}
+use Rattle.exec.specs.Owns.{goesOf, Runs, Owned}
 use Rattle.state.specs.declared.sym.StackSym.{StackSym}
 use Rattle.state.specs.declared.sym.StackSym.the-variants.{Before, Constant, Jumpdest, Other}
-use Rattle.state.specs.declared.run.Goes.the-variants.{To, Nowhere}
-use Rattle.state.specs.declared.run.Own.{Own}
+use Rattle.exec.specs.declared.run.Goes.the-variants.{To, Nowhere}
+use Rattle.exec.specs.declared.run.Own.{Own}
 use Rattle.parents.specs.Writes.{link, linkSides, takeTurn, staticType, place, goesAt}
 use Rattle.state.proofs.States.{own-walked}
 use Rattle.parents.specs.Contracts.{Sides, LinkRoom, Wrote, Settles, Ran, Settled, Placed, Number}

@@ -6,7 +6,7 @@ use native.Mathlib.Omega.{arith}
 use lib.ListN.{length}
 use Rattle.lent.proofs.Once.{Same, Outside, same-both, same-as, same-then, same-rows, same-outside}
 use Rattle.layout.specs.Parts.{rowPlace}
-use Rattle.state.specs.Owns.{roomOf}
+use Rattle.exec.specs.Owns.{roomOf}
 use Rattle.parents.specs.Links.{Turn, Takers, no-taker, next-taker}
 use Rattle.parents.specs.Contracts.{Lent, Wrote, Number, Prepared}
 

@@ -31,7 +31,7 @@ use Rattle.initial.proofs.Types.{Good, good}
 use Rattle.initial.proofs.Rows.{here-empty, here-block, by-row, from-one, block-in}
 use Rattle.parents.specs.Rows.{ownBytes, linkBytes, turnsOf, firstTaker, takerPast, edgeTo, firstTo, ownOf, linksOf, nodesHere, nodesFrom}
 use Rattle.parents.specs.Writes.{linkSides, place, goesAt}
-use Rattle.parents.specs.Contracts.{Lent, Beside, Sides, Wrote, Settles, Settled}
+use Rattle.parents.specs.Contracts.{Lent, Beside, Sides, Wrote, Settles, Settled, PreparesRow, PreparedRow}
 use Rattle.parents.proofs.Slots.{own, first, links, own-type, Rows, rows-ran, rows-sides, rows-placed}
 use Rattle.parents.proofs.Settling.{none-own, none-links, first-zero, block-own, block-links, looks, settles}
 
@@ -298,12 +298,8 @@ module _ {mode : ℕ} {code w₀ : List ℕ} {end : ℕ} (l : Lent code w₀ end
   back : Pass mode code w₀ end w (suc (i - 1)) head
   back = let e : i ≡ suc (i - 1) = omega arith in subst (λ (j : ℕ). Pass mode code w₀ end w j head) e p
 
-  pub pass-settles : Settles code w end (i - 1)
-  pass-settles = settles-row l back
+  pub pass-row : PreparesRow mode code w end (i - 1) head
+  pass-row = record { settles = settles-row l back; sides = λ v r s. settled-sides l back s }
 
-  module _ {w₁ : List ℕ} {r : ℕ} (s : Settled mode code w end (i - 1) head w₁ r) where
-    pub pass-sides : Sides w₁ (i - 1)
-    pass-sides = settled-sides l back s
-
-    pub pass-more : {w₂ : List ℕ} → Wrote w₁ w₂ (linkSides w₁ (i - 1) (typeAt w₁ (i - 1))) → Pass mode code w₀ end w₂ (i - 1) r
-    pass-more d = passed l back s d
+  pub pass-more : {w₂ : List ℕ} {r : ℕ} → PreparedRow mode code w end (i - 1) head w₂ r → Pass mode code w₀ end w₂ (i - 1) r
+  pass-more d = passed l back (d .settled) (d .linked)

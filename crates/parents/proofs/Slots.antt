@@ -26,7 +26,7 @@ use Rattle.initial.specs.Rows.{typeOf}
 use Rattle.theorems.proofs.Sides.{Within}
 use Rattle.parents.specs.Rows.{ownBytes, linkBytes, edgeTo, firstTo, toPast, otherPast}
 use Rattle.parents.specs.Writes.{link, linkSides, takeTurn, staticType, place}
-use Rattle.state.specs.Owns.{roomOf}
+use Rattle.exec.specs.Owns.{roomOf}
 use Rattle.parents.specs.Contracts.{Beside, Ran}
 use Rattle.parents.proofs.Parts.{part-stored}
 

@@ -15,10 +15,10 @@ use Rattle.layout.specs.Parts.{ROW, rowPlace, rowsEnd}
 use Rattle.layout.specs.Rows.{tagAt, typeAt, firstAt, startOf}
 use Rattle.layout.specs.declared.row.BlockType.{BlockType}
 use Rattle.initial.specs.Rows.{blocksAt, Laid}
-use Rattle.state.specs.Owns.{roomOf}
+use Rattle.exec.specs.Owns.{roomOf}
 use Rattle.parents.specs.Links.{Parents, turnOf, Takers, directTo, fromOf}
 use Rattle.parents.specs.Rows.{rowFor}
-use Rattle.parents.specs.Writes.{place, headPast, goesAt}
+use Rattle.parents.specs.Writes.{linkSides, place, headPast, goesAt}
 
 -- ---- what is lent: the rows as `initial_blocks` leaves them, and past them a part for the runs, which ends at `end`
 
@@ -77,6 +77,20 @@ pub record Settled (mode : ℕ) (code w : List ℕ) (end a head : ℕ) (w′ : L
 pub record Placed (w : List ℕ) (a : ℕ) (t : BlockType) (goes : Option Sym) (head : ℕ) (w′ : List ℕ) (r : ℕ) : Type 0 where
   pub is : w′ ≡ place w a t goes head
   pub first : r ≡ headPast a goes head
+  pub kept : length w′ ≡ length w
+
+-- ---- both stages of one row
+
+-- whatever the first stage leaves, the sides lie in the rows
+pub record PreparesRow (mode : ℕ) (code w : List ℕ) (end a head : ℕ) : Type 0 where
+  pub settles : Settles code w end a
+  pub sides : (v : List ℕ) (r : ℕ) → Settled mode code w end a head v r → Sides v a
+
+-- the row is settled, and then its sides are linked
+pub record PreparedRow (mode : ℕ) (code w : List ℕ) (end a head : ℕ) (w′ : List ℕ) (r : ℕ) : Type 0 where
+  pub between : List ℕ
+  pub settled : Settled mode code w end a head between r
+  pub linked : Wrote between w′ (linkSides between a (typeAt between a))
   pub kept : length w′ ≡ length w
 
 -- ---- the whole

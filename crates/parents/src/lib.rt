@@ -6,21 +6,42 @@ pub mod taker;
 
 use crate::link::link_sides;
 use crate::settle::settle;
-use state::mode::Mode;
-ghost use Rattle.state.specs.Modes.{modeOf};
-ghost use Rattle.parents.specs.Contracts.{Lent, Prepared};
+use exec::mode::Mode;
+use layout::row::ROW;
+use lent::get8;
+ghost use Rattle.exec.specs.Modes.{modeOf};
+ghost use Rattle.parents.specs.Contracts.{Lent, Prepared, PreparesRow, PreparedRow};
 
 // Prepares every block, in a mode, from the last to the first, so that each list comes out in address order; gives the link to the first block that takes turns.
 pub fn prepare(mode: Mode, code: &[u8], w: &mut [u8], end: usize) -> usize
     requires { ⌜ Lent (now code) (now w) end ⌝ }
     ensures { λ r. ⌜ Prepared (modeOf mode) (now (code .entry)) (now (w .entry)) end (now (w .exit)) r ⌝ }
 {
-    let mut a = code.len() + 1;
+    let mut start = code.len() + 1;
     let mut head = 0;
-    while a != 0 {
-        a -= 1;
-        head = settle(mode, code, w, end, a, head);
-        link_sides(w, a);
+    while start != 0 {
+        start -= 1;
+        head = prepare_row(mode, code, w, end, start, head);
     }
     head
+}
+
+// Prepares the block that starts at an address, if one does; most rows have none, and that is read first.
+fn prepare_row(
+    mode: Mode,
+    code: &[u8],
+    w: &mut [u8],
+    end: usize,
+    start: usize,
+    head: usize,
+) -> usize
+    requires { ⌜ PreparesRow (modeOf mode) (now code) (now w) end start head ⌝ }
+    ensures { λ r. ⌜ PreparedRow (modeOf mode) (now (code .entry)) (now (w .entry)) end start head (now (w .exit)) r ⌝ }
+{
+    if get8(w, ROW * start) == 0 {
+        return head;
+    }
+    let first = settle(mode, code, w, end, start, head);
+    link_sides(w, start);
+    first
 }

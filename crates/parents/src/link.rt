@@ -19,46 +19,46 @@ ghost use Rattle.layout.specs.Rows.{typeAt, firstAt, startOf, nextAt};
 ghost use Rattle.parents.specs.Writes.{link, linkSides};
 ghost use Rattle.parents.specs.Contracts.{LinkRoom, Sides, Wrote, Number, Link};
 
-// Puts a side of the block at a in front of the parents of t.
-fn link(w: &mut [u8], a: usize, side: usize, t: usize)
-    requires { ⌜ LinkRoom (now w) a side t ⌝ }
-    ensures { λ _. ⌜ Wrote (now (w .entry)) (now (w .exit)) (link (now (w .entry)) a side t) ⌝ }
+// Puts a side of the block at `start` in front of the parents of `to`.
+fn link(w: &mut [u8], start: usize, side: usize, to: usize)
+    requires { ⌜ LinkRoom (now w) start side to ⌝ }
+    ensures { λ _. ⌜ Wrote (now (w .entry)) (now (w .exit)) (link (now (w .entry)) start side to) ⌝ }
 {
-    let first = get16(w, ROW * t + FIRST);
-    put16(w, ROW * a + NEXT + 2 * side, first);
-    put16(w, ROW * t + FIRST, a + 1);
+    let first = get16(w, ROW * to + FIRST);
+    put16(w, ROW * start + NEXT + 2 * side, first);
+    put16(w, ROW * to + FIRST, start + 1);
 }
 
-// Puts every static side of the block at a in front of its parents: equal sides once, of a DynamicJumpi the false side only.
-pub fn link_sides(w: &mut [u8], a: usize)
-    requires { ⌜ Sides (now w) a ⌝ }
-    ensures { λ _. ⌜ Wrote (now (w .entry)) (now (w .exit)) (linkSides (now (w .entry)) a (typeAt (now (w .entry)) a)) ⌝ }
+// Puts every static side of the block at `start` in front of its parents: equal sides once, of a DynamicJumpi the false side only.
+pub fn link_sides(w: &mut [u8], start: usize)
+    requires { ⌜ Sides (now w) start ⌝ }
+    ensures { λ _. ⌜ Wrote (now (w .entry)) (now (w .exit)) (linkSides (now (w .entry)) start (typeAt (now (w .entry)) start)) ⌝ }
 {
-    let t = type_at(w, a);
-    if t.kind == JUMP {
-        link(w, a, 0, t.to);
+    let block = type_at(w, start);
+    if block.kind == JUMP {
+        link(w, start, 0, block.to);
         return;
     }
-    if t.kind == JUMPI {
-        if t.to == t.other {
-            link(w, a, 0, t.to);
+    if block.kind == JUMPI {
+        if block.to == block.other {
+            link(w, start, 0, block.to);
             return;
         }
-        link(w, a, 1, t.other);
-        link(w, a, 0, t.to);
+        link(w, start, 1, block.other);
+        link(w, start, 0, block.to);
         return;
     }
-    if t.kind == DYNAMIC_JUMPI {
-        link(w, a, 1, t.other);
+    if block.kind == DYNAMIC_JUMPI {
+        link(w, start, 1, block.other);
     }
 }
 
-// The link to the first parent of t.
-pub fn first_parent(w: &[u8], t: usize) -> usize
-    requires { ⌜ rowPlace t + ROW ≤ length (now w) ⌝ }
-    ensures { λ r. ⌜ Number r (firstAt (now (w .entry)) t) 2 ⌝ }
+// The link to the first parent of `to`.
+pub fn first_parent(w: &[u8], to: usize) -> usize
+    requires { ⌜ rowPlace to + ROW ≤ length (now w) ⌝ }
+    ensures { λ r. ⌜ Number r (firstAt (now (w .entry)) to) 2 ⌝ }
 {
-    get16(w, ROW * t + FIRST)
+    get16(w, ROW * to + FIRST)
 }
 
 // The start of the block that a link leads to.
@@ -69,13 +69,13 @@ pub fn parent_start(link: usize) -> usize
     link - 1
 }
 
-// The link to the parent of t after the one that a link leads to: past its true side, if this is t, else past its false side.
-pub fn next_parent(w: &[u8], t: usize, link: usize) -> usize
+// The link to the parent of `to` after the one that a link leads to: past its true side, if this is `to`, else past its false side.
+pub fn next_parent(w: &[u8], to: usize, link: usize) -> usize
     requires { ⌜ Link (now w) link ⌝ }
-    ensures { λ r. ⌜ Number r (nextAt (now (w .entry)) t link) 2 ⌝ }
+    ensures { λ r. ⌜ Number r (nextAt (now (w .entry)) to link) 2 ⌝ }
 {
     let at = ROW * (link - 1);
-    if get16(w, at + TO) == t {
+    if get16(w, at + TO) == to {
         return get16(w, at + NEXT);
     }
     get16(w, at + NEXT_OTHER)

@@ -1,6 +1,9 @@
 // The first stage: each dynamic block is run, and what its jump takes settles it.
 // "First, each dynamic block whose own run ends in Jumpdest becomes static, with no test that a block starts there."
 use crate::taker::take_turn;
+use exec::mode::Mode;
+use exec::run::Goes;
+use exec::run::run;
 use layout::row::BlockType;
 use layout::row::DYNAMIC_JUMP;
 use layout::row::END;
@@ -10,51 +13,48 @@ use layout::row::ROW;
 use layout::row::put_block;
 use layout::row::type_at;
 use lent::get16;
-use state::mode::Mode;
-use state::run::Goes;
-use state::run::run;
 use state::sym::StackSym;
 ghost use mathlib.Core.Path.{_≡_};
 ghost use mathlib.Core.Option.{some};
 ghost use Prim.Native.Nat.{_+_, _*_, _≤_};
 ghost use lib.ListN.{length};
 ghost use Rattle.layout.specs.Parts.{ROW, rowPlace};
-ghost use Rattle.state.specs.Modes.{modeOf};
+ghost use Rattle.exec.specs.Modes.{modeOf};
 ghost use Rattle.state.specs.Symbols.{symOf};
 ghost use Rattle.parents.specs.Writes.{staticType};
 ghost use Rattle.parents.specs.Contracts.{Settles, Settled, Placed};
 
-// Settles the block at a, in a mode, if a dynamic one starts there; gives the link to the first block that takes turns.
-pub fn settle(mode: Mode, code: &[u8], w: &mut [u8], end: usize, a: usize, head: usize) -> usize
-    requires { ⌜ Settles (now code) (now w) end a ⌝ }
-    ensures { λ r. ⌜ Settled (modeOf mode) (now (code .entry)) (now (w .entry)) end a head (now (w .exit)) r ⌝ }
+// Settles the block at `start`, in a mode, if a dynamic one starts there; gives the link to the first block that takes turns.
+pub fn settle(mode: Mode, code: &[u8], w: &mut [u8], end: usize, start: usize, head: usize) -> usize
+    requires { ⌜ Settles (now code) (now w) end start ⌝ }
+    ensures { λ r. ⌜ Settled (modeOf mode) (now (code .entry)) (now (w .entry)) end start head (now (w .exit)) r ⌝ }
 {
-    let t = type_at(w, a);
-    if t.kind < DYNAMIC_JUMP {
+    let block = type_at(w, start);
+    if block.kind < DYNAMIC_JUMP {
         return head;
     }
-    let own = run(mode, code, a, w, end);
+    let own = run(mode, code, start, w, end);
     let goes = own.goes;
     match goes {
         Goes::Nowhere => head,
-        Goes::To(x) => place(w, a, t, x, head),
+        Goes::To(symbol) => place(w, start, block, symbol, head),
     }
 }
 
 // A Jumpdest makes the block static, with no test that a block starts there; a Before has it take turns.
-fn place(w: &mut [u8], a: usize, t: BlockType, x: StackSym, head: usize) -> usize
-    requires { ⌜ rowPlace a + ROW ≤ length (now w) ⌝ }
-    ensures { λ r. ⌜ Placed (now (w .entry)) a t (some (symOf x)) head (now (w .exit)) r ⌝ }
+fn place(w: &mut [u8], start: usize, block: BlockType, symbol: StackSym, head: usize) -> usize
+    requires { ⌜ rowPlace start + ROW ≤ length (now w) ⌝ }
+    ensures { λ r. ⌜ Placed (now (w .entry)) start block (some (symOf symbol)) head (now (w .exit)) r ⌝ }
 {
-    match x {
+    match symbol {
         StackSym::Jumpdest(to) => {
-            let last = get16(w, ROW * a + END);
-            put_block(w, a, last, static_type(t, to));
+            let last = get16(w, ROW * start + END);
+            put_block(w, start, last, static_type(block, to));
             head
         }
-        StackSym::Before(p) => {
-            take_turn(w, a, p, head);
-            a + 1
+        StackSym::Before(position) => {
+            take_turn(w, start, position, head);
+            start + 1
         }
         StackSym::Constant(_) => head,
         StackSym::Other(_) => head,
@@ -62,10 +62,10 @@ fn place(w: &mut [u8], a: usize, t: BlockType, x: StackSym, head: usize) -> usiz
 }
 
 // The static type of a dynamic block.
-fn static_type(t: BlockType, to: usize) -> BlockType
-    ensures { λ r. ⌜ r ≡ staticType t to ⌝ }
+fn static_type(block: BlockType, to: usize) -> BlockType
+    ensures { λ r. ⌜ r ≡ staticType block to ⌝ }
 {
-    if t.kind == DYNAMIC_JUMP {
+    if block.kind == DYNAMIC_JUMP {
         return BlockType {
             kind: JUMP,
             to,
@@ -75,6 +75,6 @@ fn static_type(t: BlockType, to: usize) -> BlockType
     BlockType {
         kind: JUMPI,
         to,
-        other: t.other,
+        other: block.other,
     }
 }

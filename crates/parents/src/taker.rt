@@ -14,27 +14,27 @@ ghost use Rattle.layout.specs.Rows.{positionAt, takerAt};
 ghost use Rattle.parents.specs.Writes.{takeTurn};
 ghost use Rattle.parents.specs.Contracts.{Wrote, Number};
 
-// Puts the block at a, which asks for position p, in front of those that take turns.
-pub fn take_turn(w: &mut [u8], a: usize, p: usize, head: usize)
-    requires { ⌜ rowPlace a + ROW ≤ length (now w) ⌝ }
-    ensures { λ _. ⌜ Wrote (now (w .entry)) (now (w .exit)) (takeTurn (now (w .entry)) a p head) ⌝ }
+// Puts the block at `start`, which asks for a position, in front of those that take turns.
+pub fn take_turn(w: &mut [u8], start: usize, position: usize, head: usize)
+    requires { ⌜ rowPlace start + ROW ≤ length (now w) ⌝ }
+    ensures { λ _. ⌜ Wrote (now (w .entry)) (now (w .exit)) (takeTurn (now (w .entry)) start position head) ⌝ }
 {
-    put32(w, ROW * a + POSITION, p);
-    put16(w, ROW * a + TAKER, head);
+    put32(w, ROW * start + POSITION, position);
+    put16(w, ROW * start + TAKER, head);
 }
 
-// The position that the block at a asks for.
-pub fn position_at(w: &[u8], a: usize) -> usize
-    requires { ⌜ rowPlace a + ROW ≤ length (now w) ⌝ }
-    ensures { λ r. ⌜ Number r (positionAt (now (w .entry)) a) 4 ⌝ }
+// The position that the block at `start` asks for.
+pub fn position_at(w: &[u8], start: usize) -> usize
+    requires { ⌜ rowPlace start + ROW ≤ length (now w) ⌝ }
+    ensures { λ r. ⌜ Number r (positionAt (now (w .entry)) start) 4 ⌝ }
 {
-    get32(w, ROW * a + POSITION)
+    get32(w, ROW * start + POSITION)
 }
 
-// The link to the block that takes turns after the one at a.
-pub fn next_taker(w: &[u8], a: usize) -> usize
-    requires { ⌜ rowPlace a + ROW ≤ length (now w) ⌝ }
-    ensures { λ r. ⌜ Number r (takerAt (now (w .entry)) a) 2 ⌝ }
+// The link to the block that takes turns after the one at `start`.
+pub fn next_taker(w: &[u8], start: usize) -> usize
+    requires { ⌜ rowPlace start + ROW ≤ length (now w) ⌝ }
+    ensures { λ r. ⌜ Number r (takerAt (now (w .entry)) start) 2 ⌝ }
 {
-    get16(w, ROW * a + TAKER)
+    get16(w, ROW * start + TAKER)
 }

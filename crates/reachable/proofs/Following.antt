@@ -25,7 +25,7 @@ sides-by : (w : List ℕ) (x : ℕ) (t : BlockType) → t ≡ typeAt w x → sid
 sides-by w x t e = rw e (sides-of w x)
 
 module _ (w : List ℕ) (x : ℕ) (t : BlockType) (e : t ≡ typeAt w x) where
-  sides-none : t .kind < 3 → sidesAt w x ≡ []
+  pub sides-none : t .kind < 3 → sidesAt w x ≡ []
   unfolding if kindOf
   sides-none h = sides-by w x t e ∙ split (ℕ-discrete (t .kind) 0) (ℕ-discrete (t .kind) 1)
     where
@@ -34,7 +34,7 @@ module _ (w : List ℕ) (x : ℕ) (t : BlockType) (e : t ≡ typeAt w x) where
       split (no q) (yes r) = rw r
       split (no q) (no r) = let two : t .kind ≡ 2 = omega arith in rw two
 
-  sides-jump : t .kind ≡ 3 → sidesAt w x ≡ t .to ∷ []
+  pub sides-jump : t .kind ≡ 3 → sidesAt w x ≡ t .to ∷ []
   unfolding if kindOf
   sides-jump q = sides-by w x t e ∙ rw q
 
@@ -42,18 +42,18 @@ module _ (w : List ℕ) (x : ℕ) (t : BlockType) (e : t ≡ typeAt w x) where
   unfolding if kindOf
   sides-jumpi q = sides-by w x t e ∙ rw q
 
-  sides-dynamic-jump : t .kind ≡ 5 → sidesAt w x ≡ []
+  pub sides-dynamic-jump : t .kind ≡ 5 → sidesAt w x ≡ []
   unfolding if kindOf
   sides-dynamic-jump q = sides-by w x t e ∙ rw q
 
-  sides-dynamic-jumpi : 3 ≤ t .kind → (t .kind ≡ 3 → ⊥) → (t .kind ≡ 4 → ⊥) → (t .kind ≡ 5 → ⊥) → sidesAt w x ≡ t .other ∷ []
+  pub sides-dynamic-jumpi : 3 ≤ t .kind → (t .kind ≡ 3 → ⊥) → (t .kind ≡ 4 → ⊥) → (t .kind ≡ 5 → ⊥) → sidesAt w x ≡ t .other ∷ []
   unfolding if kindOf
   sides-dynamic-jumpi h a b c =
       sides-by w x t e
       ∙ rw (ne-eqb (t .kind) 0 (λ q. omega arith), ne-eqb (t .kind) 1 (λ q. omega arith), ne-eqb (t .kind) 2 (λ q. omega arith), ne-eqb (t .kind) 3 a, ne-eqb (t .kind) 4 b, ne-eqb (t .kind) 5 c)
 
   -- equal sides are one
-  jumpi-sides : t .kind ≡ 4 → (y : ℕ) → mem y (sidesAt w x) ≡ mem y (t .to ∷ t .other ∷ [])
+  pub jumpi-sides : t .kind ≡ 4 → (y : ℕ) → mem y (sidesAt w x) ≡ mem y (t .to ∷ t .other ∷ [])
   jumpi-sides q y =
       rw (sides-jumpi q)
       (both (λ (l : List ℕ). mem y l ≡ mem y (t .to ∷ t .other ∷ [])) (eqb (t .to) (t .other)) (λ on. rw (eqb-true (t .to) (t .other) on) (sym (or-self-left (eqb y (t .other)) false))) (λ _. refl))

@@ -11,7 +11,7 @@ use Rattle.lent.proofs.Stored.{kept-take, kept-drop, kept-part, kept-num}
 use Rattle.layout.specs.Fields.{FLAG, LAST, HEADS, markAt, flagAt, entryAt}
 use Rattle.layout.specs.Parts.{ROW, rowsEnd, fieldsPlace, entryPlace, bucketsPlace}
 use Rattle.reachable.specs.Marks.{entries}
-use Rattle.reachable.specs.Contracts.{Kept}
+use Rattle.reachable.specs.Contracts.{Kept, KeptBut}
 
 -- within a part that stays
 module _ (l m : List ℕ) (n i : ℕ) (e : take n (drop i l) ≡ take n (drop i m)) (k a : ℕ) (h : i ≤ a) (g : a + k ≤ i + n) where
@@ -26,6 +26,25 @@ kept-none = record { rows = refl; fields = λ a h. refl; spare = λ a h. refl; b
 
 pub kept-after : {n : ℕ} {w w₁ w₂ : List ℕ} → Kept n w w₁ → Kept n w₁ w₂ → Kept n w w₂
 kept-after p q = record {
+  rows = q .rows ∙ p .rows;
+  fields = λ a h. q .fields a h ∙ p .fields a h;
+  spare = λ a h. q .spare a h ∙ p .spare a h;
+  beyond = q .beyond ∙ p .beyond;
+  long = q .long ∙ p .long;
+}
+
+-- the highest parents left out
+pub kept-but : {n : ℕ} {w w′ : List ℕ} → Kept n w w′ → KeptBut n w w′
+kept-but {n} {w} {w′} k = record {
+  rows = k .rows;
+  fields = λ a h. part-in w′ w 14 (fieldsPlace n a + HEADS) (k .fields a h) 12 (fieldsPlace n a + HEADS) (omega arith) (omega arith);
+  spare = k .spare;
+  beyond = k .beyond;
+  long = k .long;
+}
+
+pub but-after : {n : ℕ} {w w₁ w₂ : List ℕ} → KeptBut n w w₁ → KeptBut n w₁ w₂ → KeptBut n w w₂
+but-after p q = record {
   rows = q .rows ∙ p .rows;
   fields = λ a h. q .fields a h ∙ p .fields a h;
   spare = λ a h. q .spare a h ∙ p .spare a h;

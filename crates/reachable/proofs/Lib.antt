@@ -7,6 +7,7 @@ pub mod Worklist
 pub mod Marks
 pub mod Entering
 pub mod Following
+pub mod Raising
 pub mod Spreading
 pub mod Taking
 pub mod Expanding

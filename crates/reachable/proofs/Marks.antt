@@ -13,7 +13,7 @@ use Rattle.laws.proofs.Branch.{if-true, if-false}
 use Rattle.lent.specs.Bytes.{Holds, Stored, numAt}
 use Rattle.lent.proofs.Numbers.{length-little, num-zeros}
 use Rattle.lent.proofs.Stored.{stored, kept-take, read-back, read-num, read-part}
-use Rattle.layout.specs.Fields.{FLAG, markAt, flagAt, entryAt}
+use Rattle.layout.specs.Fields.{HIGHEST, FLAG, markAt, highAt, flagAt, entryAt}
 use Rattle.layout.specs.Parts.{rowsEnd, fieldsPlace, listPlace, SameRows}
 use Rattle.reachable.specs.Marks.{flagged, markedBy}
 use Rattle.reachable.specs.Contracts.{Address, Kept, Begun, Marked}
@@ -93,6 +93,9 @@ module _ {n : ℕ} {w w′ : List ℕ} (b : Begun n w w′) where
 
   pub begun-marks : (x : ℕ) → x ≤ n → markAt w′ n x ≡ 0
   begun-marks x h = begun-num 4 (fieldsPlace n x) (omega arith) (omega arith)
+
+  pub begun-highs : (x : ℕ) → x ≤ n → highAt w′ n x ≡ 0
+  begun-highs x h = begun-num 2 (fieldsPlace n x + HIGHEST) (omega arith) (omega arith)
 
   pub begun-flags : (x : ℕ) → x ≤ n → flagAt w′ n x ≡ 0
   begun-flags x h = begun-num 1 (fieldsPlace n x + FLAG) (omega arith) (omega arith)

@@ -8,13 +8,14 @@ use lib.ListN.{length}
 use Rattle.spec.specs.Lists.{if, mem}
 use Rattle.lent.proofs.Once.{Bytes, Same, Outside, one-stored, same-num, same-both, same-as, same-then, same-rows, same-whole, same-outside}
 use Rattle.layout.specs.Edges.{E-ENDS}
-use Rattle.layout.specs.Fields.{COUNT, FLAG, LAST, HEADS, markAt, flagAt}
+use Rattle.layout.specs.Fields.{COUNT, HIGHEST, FLAG, LAST, HEADS, markAt, flagAt}
 use Rattle.layout.specs.Parts.{ROW, fieldsPlace, listPlace, bucketsPlace, SameRows, PastList}
 use Rattle.layout.specs.Records.{recordPlace}
 use Rattle.layout.proofs.Once.{same-to-list}
 use Rattle.reachable.specs.Marks.{flagged, remark}
-use Rattle.reachable.specs.Contracts.{Begun, Marked, Expanded, Reaches}
+use Rattle.reachable.specs.Contracts.{Begun, Marked, KeptBut, Highest, Raised, Expanded, Reaches}
 use Rattle.reachable.specs.Pruning.{Pruned}
+use Rattle.reachable.proofs.Raising.{highest-once}
 
 pub one-begun : {n : ℕ} {w v u : List ℕ} → Begun n w v → Begun n w u → v ≡ u
 one-begun p q = one-stored (p .wipes) (q .wipes) .1
@@ -37,28 +38,55 @@ module _ {n : ℕ} {v u : List ℕ} (p : Bytes v) (q : Bytes u) (long : length v
   pub but-worklist : Outside (listPlace n) (2 * (n + 1)) v u
   but-worklist = same-outside (bucketsPlace n) (same-to-list rows address) beyond (omega arith) long
 
+-- ---- the highest parents
+
+-- the fields of others, and the highest parents, which the marks and the rows say
+module _ {n : ℕ} {w v u : List ℕ} (b : Bytes v) (d : Bytes u) (p : KeptBut n w v) (q : KeptBut n w u) (marks : (x : ℕ) → x ≤ n → markAt v n x ≡ markAt u n x) where
+  fields-same : Highest n v → Highest n u → (x : ℕ) → x ≤ n → Same v u (fieldsPlace n x + HEADS) 14
+  fields-same i j x h =
+      let others : Same v u (fieldsPlace n x + HEADS) 12 = same-both (fieldsPlace n x + HEADS) 12 (p .fields x h) (q .fields x h) in
+      let high : Same v u (fieldsPlace n x + HIGHEST) 2 =
+      same-num b d (p .long ∙ sym (q .long)) 2 (fieldsPlace n x + HIGHEST) (highest-once (p .rows ∙ sym (q .rows)) (λ y g ne z. ne (marks y g ∙ z)) (λ y g ne z. ne (sym (marks y g) ∙ z)) i j x h) in
+      same-then others high (omega arith)
+
+pub one-raised : {n a : ℕ} {ts w v u : List ℕ} → Bytes v → Bytes u → Raised n ts w a v → Raised n ts w a u → v ≡ u
+one-raised {n} {v = v} {u} b d p q = same-whole (listPlace n) (same-to-list (p .rows ∙ sym (q .rows)) address) (p .beyond ∙ sym (q .beyond))
+  where
+    address : (x : ℕ) → x ≤ n → Same v u (fieldsPlace n x) ROW
+    address x h =
+        let before : Same v u (fieldsPlace n x) HIGHEST = same-both (fieldsPlace n x) HIGHEST (p .before x h) (q .before x h) in
+        let high : Same v u (fieldsPlace n x + HIGHEST) 2 = same-num b d (p .long ∙ sym (q .long)) 2 (fieldsPlace n x + HIGHEST) (p .highs x h ∙ sym (q .highs x h)) in
+        let after : Same v u (fieldsPlace n x + FLAG) 2 = same-both (fieldsPlace n x + FLAG) 2 (p .after x h) (q .after x h) in
+        same-then (same-then before high refl) after (omega arith)
+
 -- ---- the closures
 
 pub one-expanded : {n when : ℕ} {w seeds v u : List ℕ} → Bytes v → Bytes u → Expanded n w seeds when v → Expanded n w seeds when u
     → Outside (listPlace n) (2 * (n + 1)) v u
 one-expanded {n} {when} {w} {seeds} {v} {u} b d p q =
-    let same : (x : ℕ) → mem x (flagged v n) ≡ mem x (flagged u n) = λ x. p .reached x ∙ sym (q .reached x) in
-    but-worklist b d (p .kept .long ∙ sym (q .kept .long)) (p .kept .rows ∙ sym (q .kept .rows))
-    (λ x h. p .sets .marks x h ∙ ap (λ (is : Bool). remark when (mem x (flagged w n)) is (markAt w n x)) (same x) ∙ sym (q .sets .marks x h))
-    (λ x h. same-both (fieldsPlace n x + HEADS) 14 (p .kept .fields x h) (q .kept .fields x h))
+    but-worklist b d (p .kept .long ∙ sym (q .kept .long)) (p .kept .rows ∙ sym (q .kept .rows)) marks (fields-same b d (p .kept) (q .kept) marks (p .high) (q .high))
     (λ x h. p .sets .flags x h ∙ ap (λ (is : Bool). remark 1 (mem x (flagged w n)) is (flagAt w n x)) (same x) ∙ sym (q .sets .flags x h))
     (λ x h. same-both (fieldsPlace n x + LAST) 1 (p .kept .spare x h) (q .kept .spare x h))
     (p .kept .beyond ∙ sym (q .kept .beyond))
+  where
+    same : (x : ℕ) → mem x (flagged v n) ≡ mem x (flagged u n)
+    same x = p .reached x ∙ sym (q .reached x)
+
+    marks : (x : ℕ) → x ≤ n → markAt v n x ≡ markAt u n x
+    marks x h = p .sets .marks x h ∙ ap (λ (is : Bool). remark when (mem x (flagged w n)) is (markAt w n x)) (same x) ∙ sym (q .sets .marks x h)
 
 pub one-reaches : {n : ℕ} {w v u : List ℕ} → Bytes v → Bytes u → Reaches n w v → Reaches n w u → Outside (listPlace n) (2 * (n + 1)) v u
 one-reaches {n} {w} {v} {u} b d p q =
-    let same : (x : ℕ) → mem x (flagged v n) ≡ mem x (flagged u n) = λ x. p .reached x ∙ sym (q .reached x) in
-    but-worklist b d (p .kept .long ∙ sym (q .kept .long)) (p .kept .rows ∙ sym (q .kept .rows))
-    (λ x h. p .fresh .marks x h ∙ ap (λ (is : Bool). if is 1 0) (same x) ∙ sym (q .fresh .marks x h))
-    (λ x h. same-both (fieldsPlace n x + HEADS) 14 (p .kept .fields x h) (q .kept .fields x h))
+    but-worklist b d (p .kept .long ∙ sym (q .kept .long)) (p .kept .rows ∙ sym (q .kept .rows)) marks (fields-same b d (p .kept) (q .kept) marks (p .high) (q .high))
     (λ x h. p .fresh .flags x h ∙ ap (λ (is : Bool). if is 1 0) (same x) ∙ sym (q .fresh .flags x h))
     (λ x h. same-both (fieldsPlace n x + LAST) 1 (p .kept .spare x h) (q .kept .spare x h))
     (p .kept .beyond ∙ sym (q .kept .beyond))
+  where
+    same : (x : ℕ) → mem x (flagged v n) ≡ mem x (flagged u n)
+    same x = p .reached x ∙ sym (q .reached x)
+
+    marks : (x : ℕ) → x ≤ n → markAt v n x ≡ markAt u n x
+    marks x h = p .fresh .marks x h ∙ ap (λ (is : Bool). if is 1 0) (same x) ∙ sym (q .fresh .marks x h)
 
 -- ---- pruning: so in W; R is the same in every byte
 

@@ -18,7 +18,7 @@ use Rattle.reachable.specs.Contracts.{Kept, Took}
 use Rattle.reachable.specs.Pruning.{Waits, Spread, RowsGoing, FollowedRows, Pruning, AllGoing, FollowedEdges, FollowedAll, PrunedFrom}
 use Rattle.reachable.proofs.Tests.{not-both}
 use Rattle.reachable.proofs.Seeds.{reached-from}
-use Rattle.reachable.proofs.Frames.{num-in, kept-after}
+use Rattle.reachable.proofs.Frames.{num-in, kept-none, kept-after}
 use Rattle.reachable.proofs.Rows.{edges-kept}
 use Rattle.reachable.proofs.Worklist.{more-keeps, more-takes, more-new}
 use Rattle.reachable.proofs.Spreading.{Spreading, room-kept, within-kept, start, turn-got, turn-going, turned, done-reached, done-sets}
@@ -118,24 +118,31 @@ module _ {n m x count count₁ : ℕ} {r w w₁ : List ℕ} (g : AllGoing n m w 
       led d (inl i) o y z = inr (more-keeps (f .spread .grew .more) (d .to) (more-takes (a .more) (d .to) (edge-side w n i o)))
       led d (inr i) o y z = f .led d i o y z
 
--- ---- the loop
+-- ---- the loop, in which the highest parents stay
+
+pub record Going-on (n m : ℕ) (r w₀ w : List ℕ) (count : ℕ) : Type 0 where
+  pub spreading : Spreading (rowEdges w₀ n ++ edgesAt r m) n 1 w₀ w count
+  pub kept : Kept n w₀ w
 
 module _ {n m count₀ : ℕ} {r v w₀ : List ℕ} (p : Pruning n m v r) (t : Took n 1 (0 ∷ []) v 0 w₀ count₀) where
-  pub prune-start : flagged v n ≡ [] → Spreading (rowEdges w₀ n ++ edgesAt r m) n 1 w₀ w₀ count₀
-  prune-start e = start (p .lent) (p .within) (λ d i h. not-both (rw e at h) refl) t
+  pub prune-start : flagged v n ≡ [] → Going-on n m r w₀ w₀ count₀
+  prune-start e = record { spreading = start (p .lent) (p .within) (λ d i h. not-both (rw e at h) refl) t; kept = kept-none }
 
-  module _ {w : List ℕ} {count : ℕ} (s : Spreading (rowEdges w₀ n ++ edgesAt r m) n 1 w₀ w count) where
+  module _ {w : List ℕ} {count : ℕ} (s : Going-on n m r w₀ w count) where
     pub prune-going : {x : ℕ} → (count ≡ 0 → ⊥) → x ≡ entryAt w n (count - 1) → AllGoing n m w r x (count - 1)
     prune-going more e =
-        record { pruning = pruning-kept (kept-after (t .kept) (s .kept)) p; going = turn-going s more e (omega arith); got = turn-got s more e }
+        record { pruning = pruning-kept (kept-after (t .kept) (s .kept)) p; going = turn-going (s .spreading) more e (omega arith); got = turn-got (s .spreading) more e }
 
     pub prune-done : count ≡ 0 → PrunedFrom n m r v w
     prune-done z =
-        let s′ : Spreading (rowEdges v n ++ edgesAt r m) n 1 w₀ w 0 = rw (z, edges-kept v w₀ n (t .kept .rows)) at s in
-        record { reached = done-reached t s′; sets = done-sets t s′; kept = kept-after (t .kept) (s′ .kept) }
+        let s′ : Spreading (rowEdges v n ++ edgesAt r m) n 1 w₀ w 0 = rw (z, edges-kept v w₀ n (t .kept .rows)) at (s .spreading) in
+        record { reached = done-reached t s′; sets = done-sets t s′; kept = kept-after (t .kept) (s .kept) }
 
-pub prune-turn : {n m count count′ x : ℕ} {r w₀ w w′ : List ℕ} → Spreading (rowEdges w₀ n ++ edgesAt r m) n 1 w₀ w count → (count ≡ 0 → ⊥) → x ≡ entryAt w n (count - 1)
-    → FollowedAll n m r x w (count - 1) w′ count′ → Spreading (rowEdges w₀ n ++ edgesAt r m) n 1 w₀ w′ count′
+pub prune-turn : {n m count count′ x : ℕ} {r w₀ w w′ : List ℕ} → Going-on n m r w₀ w count → (count ≡ 0 → ⊥) → x ≡ entryAt w n (count - 1)
+    → FollowedAll n m r x w (count - 1) w′ count′ → Going-on n m r w₀ w′ count′
 prune-turn {n} {m} {r} {w₀} {w} s more e f =
     let same : rowEdges w n ≡ rowEdges w₀ n = edges-kept w₀ w n (s .kept .rows) in
-    turned s more e (f .spread .grew) (λ y h. reached-from (s .work .sound) (rw same at (f .spread .sound y h))) (λ d i. f .led d (rw same i))
+    record {
+      spreading = turned (s .spreading) more e (f .spread .grew) (λ y h. reached-from (s .spreading .work .sound) (rw same at (f .spread .sound y h))) (λ d i. f .led d (rw same i));
+      kept = kept-after (s .kept) (f .spread .grew .kept);
+    }

@@ -14,13 +14,14 @@ use Rattle.laws.proofs.Members.{In}
 use Rattle.theorems.proofs.Reached.{Reached}
 use Rattle.layout.specs.Fields.{entryAt}
 use Rattle.reachable.specs.Marks.{flagged, entries}
-use Rattle.reachable.specs.Contracts.{Room, SidesWithin, Kept, Sets, Going, Took}
+use Rattle.reachable.specs.Contracts.{Room, SidesWithin, Kept, KeptBut, Sets, Raised, Going, Took}
 use Rattle.reachable.specs.Pruning.{Waits}
 use Rattle.reachable.proofs.Tests.{mem-append}
 use Rattle.reachable.proofs.Seeds.{closure-test, closure-members}
 use Rattle.reachable.proofs.Flags.{flagged-within, flagged-few}
-use Rattle.reachable.proofs.Frames.{kept-none, kept-after}
+use Rattle.reachable.proofs.Frames.{kept-none, kept-but, but-after}
 use Rattle.reachable.proofs.Rows.{within-sides, sides-kept}
+use Rattle.reachable.proofs.Raising.{raised-marks, raised-flags, raised-flagged, raised-entries, raised-kept}
 use Rattle.reachable.proofs.Worklist.{Work, work-start, work-turn, work-done, more-keeps}
 use Rattle.reachable.proofs.Entering.{sets-none, sets-after}
 
@@ -31,15 +32,21 @@ pub record Spreading (es : List Edge) (n when : ℕ) (w₀ w : List ℕ) (count 
   pub few : count ≤ length (flagged w n)
   pub work : Work es (flagged w₀ n) (flagged w n) (entries w n count)
   pub sets : Sets n when w₀ w
-  pub kept : Kept n w₀ w
+  pub kept : KeptBut n w₀ w
 
 -- ---- what stays with the rows
 
+pub room-but : {n : ℕ} {w w′ : List ℕ} → KeptBut n w w′ → Room n w → Room n w′
+room-but k r = record { short = r .short; room = omega (arith, k .long, r .room) }
+
+pub within-but : {n : ℕ} {w w′ : List ℕ} → KeptBut n w w′ → SidesWithin w n → SidesWithin w′ n
+within-but {n} {w} {w′} k = within-sides (sides-kept w w′ n (k .rows))
+
 pub room-kept : {n : ℕ} {w w′ : List ℕ} → Kept n w w′ → Room n w → Room n w′
-room-kept k r = record { short = r .short; room = omega (arith, k .long, r .room) }
+room-kept k = room-but (kept-but k)
 
 pub within-kept : {n : ℕ} {w w′ : List ℕ} → Kept n w w′ → SidesWithin w n → SidesWithin w′ n
-within-kept {n} {w} {w′} k = within-sides (sides-kept w w′ n (k .rows))
+within-kept k = within-but (kept-but k)
 
 -- ---- the start: seeds over a closed set
 
@@ -53,15 +60,29 @@ start {n} {when} {count} {w} r s c t = record {
   few = omega (arith, t .number);
   work = work-start c (t .more);
   sets = sets-none n when w;
-  kept = kept-none;
+  kept = kept-but kept-none;
 }
 
 -- ---- a turn
 
-entries-step : (w : List ℕ) (n count : ℕ) → (count ≡ 0 → ⊥) → entries w n count ≡ entryAt w n (count - 1) ∷ entries w n (count - 1)
+pub entries-step : (w : List ℕ) (n count : ℕ) → (count ≡ 0 → ⊥) → entries w n count ≡ entryAt w n (count - 1) ∷ entries w n (count - 1)
 unfolding entries
 entries-step w n zero h = absurd (h refl)
 entries-step w n (suc k) h = rw sub-one
+
+-- with the highest parents raised
+pub raised-spreading : {es : List Edge} {n when count a : ℕ} {ts w₀ w w₁ : List ℕ} → Spreading es n when w₀ w count → Raised n ts w a w₁ → Spreading es n when w₀ w₁ count
+raised-spreading {n = n} {count = count} {w₀ = w₀} {w} {w₁} s r = record {
+  lent = room-but (raised-kept r) (s .lent);
+  within = within-but (raised-kept r) (s .within);
+  few = rw (raised-flagged r) (s .few);
+  work = rw (raised-flagged r, raised-entries r count) (s .work);
+  sets = record {
+    marks = λ y h. rw (raised-flagged r) (raised-marks r y h ∙ s .sets .marks y h);
+    flags = λ y h. rw (raised-flagged r) (raised-flags r y h ∙ s .sets .flags y h);
+  };
+  kept = but-after (s .kept) (raised-kept r);
+}
 
 module _ {es : List Edge} {n when count : ℕ} {w₀ w : List ℕ} (s : Spreading es n when w₀ w count) where
   pub turn-few : count ≤ n + 1
@@ -93,7 +114,7 @@ module _ {es : List Edge} {n when count : ℕ} {w₀ w : List ℕ} (s : Spreadin
         few = omega (arith, s .few, t .number);
         work = work-turn taken (t .more) f g;
         sets = sets-after (s .work .seeded) (more-keeps (t .more)) (s .sets) (t .sets);
-        kept = kept-after (s .kept) (t .kept);
+        kept = but-after (s .kept) (kept-but (t .kept));
       }
 
 -- ---- the end

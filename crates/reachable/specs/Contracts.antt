@@ -1,16 +1,16 @@
 -- What each function asks and promises, a record each. Assumes nothing.
 use mathlib.Core.Path.{_≡_}
-use mathlib.Core.Bool.{true, not, _&&_, _||_}
+use mathlib.Core.Bool.{Bool, true, not, _&&_, _||_}
 use mathlib.Core.List.{List, [], _∷_, _++_}
 use Prim.Native.Nat.{ℕ, _+_, _≤_, _<_}
-use lib.Dec.{eqb}
+use lib.Dec.{eqb, leb}
 use lib.ListN.{length, replicate}
 use Rattle.spec.specs.Lists.{if, mem, little}
 use Rattle.spec.specs.Reach.{closure}
 use Rattle.spec.specs.Rooms.{longest, work-need}
 use Rattle.lent.specs.Bytes.{Stored, patch}
-use Rattle.layout.specs.Fields.{LAST, HEADS, markAt, flagAt}
-use Rattle.layout.specs.Parts.{rowsEnd, fieldsPlace, SameRows, SameFields, PastList}
+use Rattle.layout.specs.Fields.{HIGHEST, FLAG, LAST, HEADS, markAt, highAt, flagAt}
+use Rattle.layout.specs.Parts.{rowsEnd, fieldsPlace, SameRows, SameStart, SameFields, PastFields, PastList}
 use Rattle.reachable.specs.Marks.{flagged, entries, wiped, remark}
 use Rattle.reachable.specs.Edges.{sidesAt, rowEdges}
 
@@ -43,6 +43,14 @@ pub record Kept (n : ℕ) (w w′ : List ℕ) : Type 0 where
   pub beyond : PastList n w w′
   pub long : length w′ ≡ length w
 
+-- all but those and the highest parents
+pub record KeptBut (n : ℕ) (w w′ : List ℕ) : Type 0 where
+  pub rows : SameRows n w w′
+  pub fields : SameFields 12 HEADS n w w′
+  pub spare : SameFields 1 LAST n w w′
+  pub beyond : PastList n w w′
+  pub long : length w′ ≡ length w
+
 -- ---- marks
 
 -- every mark, flag and field of others is 0, and all else is as it was
@@ -52,6 +60,34 @@ pub record Begun (n : ℕ) (w w′ : List ℕ) : Type 0 where
 -- a mark is set where there is none
 pub record Marked (n : ℕ) (w : List ℕ) (a when : ℕ) (w′ : List ℕ) : Type 0 where
   pub is : w′ ≡ if (eqb (markAt w n a) 0) (patch w (fieldsPlace n a) (little 4 when)) w
+  pub long : length w′ ≡ length w
+
+-- ---- the highest direct parents that are marked
+
+-- the highest one of t is the block at `at`
+pub record Top (n : ℕ) (w : List ℕ) (t : ℕ) : Type 0 where
+  pub at : ℕ
+  pub is : highAt w n t ≡ at + 1
+  pub inside : at ≤ n
+  pub marked : markAt w n at ≡ 0 → ⊥
+  pub side : mem t (sidesAt w at) ≡ true
+
+-- no parent of t past the one that stands there is marked; where none is, 0 stands there
+pub record Highest (n : ℕ) (w : List ℕ) : Type 0 where
+  pub above : (a t : ℕ) → a ≤ n → t ≤ n → (markAt w n a ≡ 0 → ⊥) → mem t (sidesAt w a) ≡ true → a + 1 ≤ highAt w n t
+  pub top : (t : ℕ) → t ≤ n → (highAt w n t ≡ 0 → ⊥) → Top n w t
+
+-- the highest parent h of an address, when a parent a of it or of another is marked
+abbrev pub raised : Bool → ℕ → ℕ → ℕ
+raised is a h = if (is && leb h a) (a + 1) h
+
+-- the highest parents of some addresses are raised to a, and all else stays
+pub record Raised (n : ℕ) (ts w : List ℕ) (a : ℕ) (w′ : List ℕ) : Type 0 where
+  pub highs : (t : ℕ) → t ≤ n → highAt w′ n t ≡ raised (mem t ts) a (highAt w n t)
+  pub rows : SameRows n w w′
+  pub before : SameStart HIGHEST n w w′
+  pub after : SameFields 2 FLAG n w w′
+  pub beyond : PastFields n w w′
   pub long : length w′ ≡ length w
 
 -- ---- marks and flags together
@@ -92,20 +128,25 @@ pub record Took (n when : ℕ) (ts w : List ℕ) (count : ℕ) (w′ : List ℕ)
 pub record Expands (n : ℕ) (w seeds : List ℕ) (when : ℕ) : Type 0 where
   pub lent : Room n w
   pub inside : (a : ℕ) → mem a seeds ≡ true → a ≤ n
+  pub some : 1 ≤ when
   pub small : when < 4294967296
   pub within : SidesWithin w n
   pub closed : Closed w n
+  pub high : Highest n w
 
 -- Seeds are expanded, in whatever order they stand. The worklist's own bytes, 2 * (n + 1) of them from 40 * (n + 1) on, are scratch, and the one thing not said.
 pub record Expanded (n : ℕ) (w seeds : List ℕ) (when : ℕ) (w′ : List ℕ) : Type 0 where
   pub reached : (x : ℕ) → mem x (flagged w′ n) ≡ mem x (closure (rowEdges w n) (seeds ++ flagged w n))
   pub sets : Sets n when w w′
   pub closed : Closed w′ n
-  pub kept : Kept n w w′
+  pub high : Highest n w′
+  pub kept : KeptBut n w w′
 
--- The search's start: what is reached from 0 is flagged and marked 1, and all else of the marks, flags and others' fields is 0; the worklist is scratch.
+-- The search's start: what is reached from 0 is flagged and marked 1, the highest parents are those, and all else of the marks, flags and others' fields is 0;
+-- the worklist is scratch.
 pub record Reaches (n : ℕ) (w w′ : List ℕ) : Type 0 where
   pub reached : (x : ℕ) → mem x (flagged w′ n) ≡ mem x (closure (rowEdges w n) (0 ∷ []))
   pub fresh : Fresh n w′
   pub closed : Closed w′ n
-  pub kept : Kept n (wiped n w) w′
+  pub high : Highest n w′
+  pub kept : KeptBut n (wiped n w) w′

@@ -12,39 +12,39 @@ ghost use Rattle.reachable.specs.Marks.{markedBy, flagged};
 ghost use Rattle.reachable.specs.Contracts.{Room, Address, Begun, Marked};
 
 // Makes every mark and flag, and what other crates keep beside them, 0.
-pub fn begin(w: &mut [u8], n: usize)
-    requires { ⌜ Room n (now w) ⌝ }
-    ensures { λ _. ⌜ Begun n (now (w .entry)) (now (w .exit)) ⌝ }
+pub fn begin(w: &mut [u8], size: usize)
+    requires { ⌜ Room size (now w) ⌝ }
+    ensures { λ _. ⌜ Begun size (now (w .entry)) (now (w .exit)) ⌝ }
 {
-    wipe_part(w, ROW * (n + 1), ROW * (n + 1));
+    wipe_part(w, ROW * (size + 1), ROW * (size + 1));
 }
 
-// Was a reached when there were by - 1 records?
-pub fn is_marked(w: &[u8], n: usize, a: usize, by: usize) -> bool
-    requires { ⌜ Address n (now w) a ⌝ }
-    ensures { λ r. ⌜ r ≡ markedBy (now (w .entry)) n a by ⌝ }
+// Was the address reached when there were by - 1 records?
+pub fn is_marked(w: &[u8], size: usize, address: usize, by: usize) -> bool
+    requires { ⌜ Address size (now w) address ⌝ }
+    ensures { λ r. ⌜ r ≡ markedBy (now (w .entry)) size address by ⌝ }
 {
-    let m = get32(w, ROW * (n + 1 + a));
-    if m == 0 {
+    let reached = get32(w, ROW * (size + 1 + address));
+    if reached == 0 {
         return false;
     }
-    m <= by
+    reached <= by
 }
 
-// Have the sides of a been followed, or do they wait to be?
-pub fn is_flagged(w: &[u8], n: usize, a: usize) -> bool
-    requires { ⌜ Address n (now w) a ⌝ }
-    ensures { λ r. ⌜ r ≡ mem a (flagged (now (w .entry)) n) ⌝ }
+// Have the sides of the address been followed, or do they wait to be?
+pub fn is_flagged(w: &[u8], size: usize, address: usize) -> bool
+    requires { ⌜ Address size (now w) address ⌝ }
+    ensures { λ r. ⌜ r ≡ mem address (flagged (now (w .entry)) size) ⌝ }
 {
-    get8(w, ROW * (n + 1 + a) + FLAG) != 0
+    get8(w, ROW * (size + 1 + address) + FLAG) != 0
 }
 
 // A destination found counts as reached at once: it is marked, if it has no mark.
-pub fn mark(w: &mut [u8], n: usize, a: usize, when: usize)
-    requires { ⌜ Address n (now w) a ⌝ }
-    ensures { λ _. ⌜ Marked n (now (w .entry)) a when (now (w .exit)) ⌝ }
+pub fn mark(w: &mut [u8], size: usize, address: usize, when: usize)
+    requires { ⌜ Address size (now w) address ⌝ }
+    ensures { λ _. ⌜ Marked size (now (w .entry)) address when (now (w .exit)) ⌝ }
 {
-    let at = ROW * (n + 1 + a);
+    let at = ROW * (size + 1 + address);
     if get32(w, at) != 0 {
         return;
     }

@@ -24,57 +24,57 @@ ghost use Rattle.reachable.specs.Edges.{sidesAt};
 ghost use Rattle.reachable.specs.Contracts.{Room, Going, SidesWithin, Took};
 
 // The last entry of the worklist.
-pub fn last(w: &[u8], n: usize, count: usize) -> usize
-    requires { ⌜ Room n (now w) ⌝ }
-    requires { ⌜ (0 < count) × (count ≤ n + 1) ⌝ }
-    ensures { λ r. ⌜ r ≡ entryAt (now (w .entry)) n (count - 1) ⌝ }
+pub fn last(w: &[u8], size: usize, count: usize) -> usize
+    requires { ⌜ Room size (now w) ⌝ }
+    requires { ⌜ (0 < count) × (count ≤ size + 1) ⌝ }
+    ensures { λ r. ⌜ r ≡ entryAt (now (w .entry)) size (count - 1) ⌝ }
 {
-    get16(w, LIST * (n + 1) + ENTRY * (count - 1))
+    get16(w, LIST * (size + 1) + ENTRY * (count - 1))
 }
 
 // One more entry after so many.
-fn push(w: &mut [u8], n: usize, count: usize, x: usize)
-    requires { ⌜ Room n (now w) ⌝ }
-    requires { ⌜ count ≤ n ⌝ }
-    ensures { λ _. ⌜ Stored 2 (now (w .entry)) (entryPlace n count) (little 2 x) (now (w .exit)) ⌝ }
+fn push(w: &mut [u8], size: usize, count: usize, address: usize)
+    requires { ⌜ Room size (now w) ⌝ }
+    requires { ⌜ count ≤ size ⌝ }
+    ensures { λ _. ⌜ Stored 2 (now (w .entry)) (entryPlace size count) (little 2 address) (now (w .exit)) ⌝ }
 {
-    put16(w, LIST * (n + 1) + ENTRY * count, x);
+    put16(w, LIST * (size + 1) + ENTRY * count, address);
 }
 
-// Takes x: an address that is not flagged is flagged and marked, and waits in the worklist, whose number of entries is the answer.
-pub fn enter(w: &mut [u8], n: usize, x: usize, when: usize, count: usize) -> usize
-    requires { ⌜ Going n (now w) x when count ⌝ }
-    ensures { λ r. ⌜ Took n when (x ∷ []) (now (w .entry)) count (now (w .exit)) r ⌝ }
+// Takes `address`: an address that is not flagged is flagged and marked, and waits in the worklist, whose number of entries is the answer.
+pub fn enter(w: &mut [u8], size: usize, address: usize, when: usize, count: usize) -> usize
+    requires { ⌜ Going size (now w) address when count ⌝ }
+    ensures { λ r. ⌜ Took size when (address ∷ []) (now (w .entry)) count (now (w .exit)) r ⌝ }
 {
-    let at = ROW * (n + 1 + x);
+    let at = ROW * (size + 1 + address);
     if get8(w, at + FLAG) != 0 {
         return count;
     }
     put8(w, at + FLAG, 1);
-    mark(w, n, x, when);
-    push(w, n, count, x);
+    mark(w, size, address, when);
+    push(w, size, count, address);
     count + 1
 }
 
-// Takes the static sides of the block at x; a kind that is none of the others is DynamicJumpi, of which only the false side is taken.
-pub fn follow(w: &mut [u8], n: usize, x: usize, when: usize, count: usize) -> usize
-    requires { ⌜ Going n (now w) x when count ⌝ }
-    requires { ⌜ SidesWithin (now w) n ⌝ }
-    ensures { λ r. ⌜ Took n when (sidesAt (now (w .entry)) x) (now (w .entry)) count (now (w .exit)) r ⌝ }
+// Takes the static sides of the block at `address`; a kind that is none of the others is DynamicJumpi, of which only the false side is taken.
+pub fn follow(w: &mut [u8], size: usize, address: usize, when: usize, count: usize) -> usize
+    requires { ⌜ Going size (now w) address when count ⌝ }
+    requires { ⌜ SidesWithin (now w) size ⌝ }
+    ensures { λ r. ⌜ Took size when (sidesAt (now (w .entry)) address) (now (w .entry)) count (now (w .exit)) r ⌝ }
 {
-    let t = type_at(w, x);
-    if t.kind < JUMP {
+    let block = type_at(w, address);
+    if block.kind < JUMP {
         return count;
     }
-    if t.kind == JUMP {
-        return enter(w, n, t.to, when, count);
+    if block.kind == JUMP {
+        return enter(w, size, block.to, when, count);
     }
-    if t.kind == JUMPI {
-        let more = enter(w, n, t.to, when, count);
-        return enter(w, n, t.other, when, more);
+    if block.kind == JUMPI {
+        let more = enter(w, size, block.to, when, count);
+        return enter(w, size, block.other, when, more);
     }
-    if t.kind == DYNAMIC_JUMP {
+    if block.kind == DYNAMIC_JUMP {
         return count;
     }
-    enter(w, n, t.other, when, count)
+    enter(w, size, block.other, when, count)
 }

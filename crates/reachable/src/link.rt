@@ -16,46 +16,46 @@ ghost use Rattle.layout.specs.Records.{RECORD, recordPlace};
 ghost use Rattle.reachable.specs.Pruning.{EdgeRow, Key, Links, Linked, LinkedRow};
 ghost use Rattle.reachable.specs.Contracts.{Room, Address};
 
-// Links the m rows by one of their keys, from the last to the first.
-pub fn link(w: &mut [u8], n: usize, r: &mut [u8], m: usize, by: usize)
-    requires { ⌜ Links n m by (now w) (now r) ⌝ }
-    ensures { λ _. ⌜ Linked n m by (now (w .entry)) (now (r .entry)) (now (w .exit)) (now (r .exit)) ⌝ }
+// Links the rows by one of their keys, from the last to the first.
+pub fn link(w: &mut [u8], size: usize, r: &mut [u8], rows: usize, by: usize)
+    requires { ⌜ Links size rows by (now w) (now r) ⌝ }
+    ensures { λ _. ⌜ Linked size rows by (now (w .entry)) (now (r .entry)) (now (w .exit)) (now (r .exit)) ⌝ }
 {
-    let mut i = m;
-    while i != 0 {
-        i -= 1;
-        link_row(w, n, r, i, by);
+    let mut row = rows;
+    while row != 0 {
+        row -= 1;
+        link_row(w, size, r, row, by);
     }
 }
 
-// The number of the first row of the key x plus 1, or 0.
-pub fn first_row(w: &[u8], n: usize, x: usize, by: usize) -> usize
-    requires { ⌜ Address n (now w) x ⌝ }
+// The number of the first row of the key `key` plus 1, or 0.
+pub fn first_row(w: &[u8], size: usize, key: usize, by: usize) -> usize
+    requires { ⌜ Address size (now w) key ⌝ }
     requires { ⌜ Key by ⌝ }
-    ensures { λ k. ⌜ k ≡ headAt (now (w .entry)) n by x ⌝ }
+    ensures { λ k. ⌜ k ≡ headAt (now (w .entry)) size by key ⌝ }
 {
-    get32(w, ROW * (n + 1 + x) + (HEADS + by))
+    get32(w, ROW * (size + 1 + key) + (HEADS + by))
 }
 
-// The number of the next row of the same key after row i plus 1, or 0.
-pub fn next_row(r: &[u8], i: usize, by: usize) -> usize
-    requires { ⌜ recordPlace i + RECORD ≤ length (now r) ⌝ }
+// The number of the next row of the same key after a row plus 1, or 0.
+pub fn next_row(r: &[u8], row: usize, by: usize) -> usize
+    requires { ⌜ recordPlace row + RECORD ≤ length (now r) ⌝ }
     requires { ⌜ Key by ⌝ }
-    ensures { λ k. ⌜ k ≡ linkAt (now (r .entry)) by i ⌝ }
+    ensures { λ k. ⌜ k ≡ linkAt (now (r .entry)) by row ⌝ }
 {
-    get32(r, RECORD * i + (LINKS + by))
+    get32(r, RECORD * row + (LINKS + by))
 }
 
-// Puts row i before the rows of its key.
-fn link_row(w: &mut [u8], n: usize, r: &mut [u8], i: usize, by: usize)
-    requires { ⌜ Room n (now w) ⌝ }
-    requires { ⌜ EdgeRow n (now r) i ⌝ }
+// Puts a row before the rows of its key.
+fn link_row(w: &mut [u8], size: usize, r: &mut [u8], row: usize, by: usize)
+    requires { ⌜ Room size (now w) ⌝ }
+    requires { ⌜ EdgeRow size (now r) row ⌝ }
     requires { ⌜ Key by ⌝ }
-    requires { ⌜ i < 1073741824 ⌝ }
-    ensures { λ _. ⌜ LinkedRow n by (now (w .entry)) (now (r .entry)) i (now (w .exit)) (now (r .exit)) ⌝ }
+    requires { ⌜ row < 1073741824 ⌝ }
+    ensures { λ _. ⌜ LinkedRow size by (now (w .entry)) (now (r .entry)) row (now (w .exit)) (now (r .exit)) ⌝ }
 {
-    let x = get16(r, RECORD * i + by);
-    let next = first_row(w, n, x, by);
-    put32(r, RECORD * i + (LINKS + by), next);
-    put32(w, ROW * (n + 1 + x) + (HEADS + by), i + 1);
+    let key = get16(r, RECORD * row + by);
+    let next = first_row(w, size, key, by);
+    put32(r, RECORD * row + (LINKS + by), next);
+    put32(w, ROW * (size + 1 + key) + (HEADS + by), row + 1);
 }

@@ -26,7 +26,7 @@ use Rattle.reader.specs.declared.class.Order.{Order}
 use Rattle.reader.specs.declared.class.Step.{Step}
 use Rattle.reader.specs.declared.class.Step.the-variants.{To, Stop}
 use Rattle.reader.specs.declared.scan.Scan.{Scan}
-use Rattle.reader.specs.declared.scan.Turn.the-variants.{On, Bad as Stops}
+use Rattle.reader.specs.declared.scan.Passed.the-variants.{On, Bad as Stops}
 use Rattle.reader.proofs.Judging.{entry-whole, entry-cut, behind-whole, judge, sevens-on, blocks-on, records-on}
 use Rattle.reader.proofs.Moving.{Moves, moves}
 use Rattle.theorems.proofs.ReaderPlaces.{never}

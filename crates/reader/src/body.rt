@@ -1,4 +1,4 @@
-// A body of n bytes from `at` on, as the kind has it; or its length is another than the kind says.
+// A body of `long` bytes from `at` on, as the kind has it; or its length is another than the kind says.
 // "bodies longer or shorter than their kind says are bad"
 use crate::dest::destined;
 use crate::entry::Entry;
@@ -13,11 +13,11 @@ ghost use Rattle.spec.specs.Forms.{HEAD, BLOCK, WAY, RECORD, TERMINATE, JUMP, J
 ghost use Rattle.reader.specs.Shapes.{shape};
 
 // Kind 1: code length, block count, record count, energy.
-pub fn head(map: &[u8], at: usize, n: usize) -> Entry
-    requires { ⌜ at + n ≤ length (now map) ⌝ }
-    ensures { λ r. ⌜ r ≡ shape at HEAD (take n (drop at (now (map .entry)))) ⌝ }
+pub fn head(map: &[u8], at: usize, long: usize) -> Entry
+    requires { ⌜ at + long ≤ length (now map) ⌝ }
+    ensures { λ r. ⌜ r ≡ shape at HEAD (take long (drop at (now (map .entry)))) ⌝ }
 {
-    if n != 12 {
+    if long != 12 {
         return Entry::Wrong;
     }
     let size = get16(map, at);
@@ -33,11 +33,11 @@ pub fn head(map: &[u8], at: usize, n: usize) -> Entry
 }
 
 // Kind 2: start, end, success.
-pub fn terminate(map: &[u8], at: usize, n: usize) -> Entry
-    requires { ⌜ at + n ≤ length (now map) ⌝ }
-    ensures { λ r. ⌜ r ≡ shape at (BLOCK TERMINATE) (take n (drop at (now (map .entry)))) ⌝ }
+pub fn terminate(map: &[u8], at: usize, long: usize) -> Entry
+    requires { ⌜ at + long ≤ length (now map) ⌝ }
+    ensures { λ r. ⌜ r ≡ shape at (BLOCK TERMINATE) (take long (drop at (now (map .entry)))) ⌝ }
 {
-    if n != 5 {
+    if long != 5 {
         return Entry::Wrong;
     }
     let start = get16(map, at);
@@ -51,11 +51,11 @@ pub fn terminate(map: &[u8], at: usize, n: usize) -> Entry
 }
 
 // Kind 3: start, end, to.
-pub fn jump(map: &[u8], at: usize, n: usize) -> Entry
-    requires { ⌜ at + n ≤ length (now map) ⌝ }
-    ensures { λ r. ⌜ r ≡ shape at (BLOCK JUMP) (take n (drop at (now (map .entry)))) ⌝ }
+pub fn jump(map: &[u8], at: usize, long: usize) -> Entry
+    requires { ⌜ at + long ≤ length (now map) ⌝ }
+    ensures { λ r. ⌜ r ≡ shape at (BLOCK JUMP) (take long (drop at (now (map .entry)))) ⌝ }
 {
-    if n != 6 {
+    if long != 6 {
         return Entry::Wrong;
     }
     let start = get16(map, at);
@@ -65,11 +65,11 @@ pub fn jump(map: &[u8], at: usize, n: usize) -> Entry
 }
 
 // Kind 4: start, end, true, false.
-pub fn jumpi(map: &[u8], at: usize, n: usize) -> Entry
-    requires { ⌜ at + n ≤ length (now map) ⌝ }
-    ensures { λ r. ⌜ r ≡ shape at (BLOCK JUMPI) (take n (drop at (now (map .entry)))) ⌝ }
+pub fn jumpi(map: &[u8], at: usize, long: usize) -> Entry
+    requires { ⌜ at + long ≤ length (now map) ⌝ }
+    ensures { λ r. ⌜ r ≡ shape at (BLOCK JUMPI) (take long (drop at (now (map .entry)))) ⌝ }
 {
-    if n != 8 {
+    if long != 8 {
         return Entry::Wrong;
     }
     let start = get16(map, at);
@@ -85,11 +85,11 @@ pub fn jumpi(map: &[u8], at: usize, n: usize) -> Entry
 }
 
 // Kind 5: start, end, count.
-pub fn dynamic_jump(map: &[u8], at: usize, n: usize) -> Entry
-    requires { ⌜ at + n ≤ length (now map) ⌝ }
-    ensures { λ r. ⌜ r ≡ shape at (BLOCK DYNAMIC-JUMP) (take n (drop at (now (map .entry)))) ⌝ }
+pub fn dynamic_jump(map: &[u8], at: usize, long: usize) -> Entry
+    requires { ⌜ at + long ≤ length (now map) ⌝ }
+    ensures { λ r. ⌜ r ≡ shape at (BLOCK DYNAMIC-JUMP) (take long (drop at (now (map .entry)))) ⌝ }
 {
-    if n != 8 {
+    if long != 8 {
         return Entry::Wrong;
     }
     let start = get16(map, at);
@@ -99,11 +99,11 @@ pub fn dynamic_jump(map: &[u8], at: usize, n: usize) -> Entry
 }
 
 // Kind 6: start, end, false, count.
-pub fn dynamic_jumpi(map: &[u8], at: usize, n: usize) -> Entry
-    requires { ⌜ at + n ≤ length (now map) ⌝ }
-    ensures { λ r. ⌜ r ≡ shape at (BLOCK DYNAMIC-JUMPI) (take n (drop at (now (map .entry)))) ⌝ }
+pub fn dynamic_jumpi(map: &[u8], at: usize, long: usize) -> Entry
+    requires { ⌜ at + long ≤ length (now map) ⌝ }
+    ensures { λ r. ⌜ r ≡ shape at (BLOCK DYNAMIC-JUMPI) (take long (drop at (now (map .entry)))) ⌝ }
 {
-    if n != 10 {
+    if long != 10 {
         return Entry::Wrong;
     }
     let start = get16(map, at);
@@ -119,16 +119,16 @@ pub fn dynamic_jumpi(map: &[u8], at: usize, n: usize) -> Entry
 }
 
 // Kind 7 or 10: to, path length, path.
-pub fn way(map: &[u8], wide: bool, at: usize, n: usize) -> Entry
-    requires { ⌜ at + n ≤ length (now map) ⌝ }
-    ensures { λ r. ⌜ r ≡ shape at (WAY (absent wide)) (take n (drop at (now (map .entry)))) ⌝ }
+pub fn way(map: &[u8], wide: bool, at: usize, long: usize) -> Entry
+    requires { ⌜ at + long ≤ length (now map) ⌝ }
+    ensures { λ r. ⌜ r ≡ shape at (WAY (absent wide)) (take long (drop at (now (map .entry)))) ⌝ }
 {
-    if n < 6 {
+    if long < 6 {
         return Entry::Wrong;
     }
     let to = get16(map, at);
     let count = get32(map, at + 2);
-    if n != 6 + 2 * count {
+    if long != 6 + 2 * count {
         return Entry::Wrong;
     }
     Entry::Way {
@@ -139,17 +139,17 @@ pub fn way(map: &[u8], wide: bool, at: usize, n: usize) -> Entry
 }
 
 // Kind 8 or 11: start, to, path length, path.
-pub fn record(map: &[u8], wide: bool, at: usize, n: usize) -> Entry
-    requires { ⌜ at + n ≤ length (now map) ⌝ }
-    ensures { λ r. ⌜ r ≡ shape at (RECORD 4 (absent wide)) (take n (drop at (now (map .entry)))) ⌝ }
+pub fn record(map: &[u8], wide: bool, at: usize, long: usize) -> Entry
+    requires { ⌜ at + long ≤ length (now map) ⌝ }
+    ensures { λ r. ⌜ r ≡ shape at (RECORD 4 (absent wide)) (take long (drop at (now (map .entry)))) ⌝ }
 {
-    if n < 8 {
+    if long < 8 {
         return Entry::Wrong;
     }
     let start = get16(map, at);
     let to = get16(map, at + 2);
     let count = get32(map, at + 4);
-    if n != 8 + 2 * count {
+    if long != 8 + 2 * count {
         return Entry::Wrong;
     }
     Entry::Record {
@@ -163,18 +163,18 @@ pub fn record(map: &[u8], wide: bool, at: usize, n: usize) -> Entry
 }
 
 // "kind 9: start, to, energy, path length, path", or 12.
-pub fn numbered(map: &[u8], wide: bool, at: usize, n: usize) -> Entry
-    requires { ⌜ at + n ≤ length (now map) ⌝ }
-    ensures { λ r. ⌜ r ≡ shape at (RECORD 8 (absent wide)) (take n (drop at (now (map .entry)))) ⌝ }
+pub fn numbered(map: &[u8], wide: bool, at: usize, long: usize) -> Entry
+    requires { ⌜ at + long ≤ length (now map) ⌝ }
+    ensures { λ r. ⌜ r ≡ shape at (RECORD 8 (absent wide)) (take long (drop at (now (map .entry)))) ⌝ }
 {
-    if n < 12 {
+    if long < 12 {
         return Entry::Wrong;
     }
     let start = get16(map, at);
     let to = get16(map, at + 2);
     let energy = get32(map, at + 4);
     let count = get32(map, at + 8);
-    if n != 12 + 2 * count {
+    if long != 12 + 2 * count {
         return Entry::Wrong;
     }
     Entry::Record {

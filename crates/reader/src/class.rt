@@ -37,10 +37,10 @@ pub enum Step {
 }
 
 // The class of an entry: bad are "unknown kinds", "success bytes over 1", "cut entries, and bodies longer or shorter than their kind says".
-pub fn class_of(e: Entry) -> Class
-    ensures { λ r. ⌜ r ≡ classOf e ⌝ }
+pub fn class_of(entry: Entry) -> Class
+    ensures { λ r. ⌜ r ≡ classOf entry ⌝ }
 {
-    match e {
+    match entry {
         Entry::Head { .. } => Class::Head,
         Entry::Terminate { start, success, .. } => {
             if success <= 1 {
@@ -62,13 +62,13 @@ pub fn class_of(e: Entry) -> Class
 }
 
 // A block at a start, with the order behind it. "A block start not above the one before" is bad, and so is a block behind a record.
-fn after_block(p: Order, start: usize, q: Order) -> Step
-    ensures { λ r. ⌜ r ≡ blockStep start p q ⌝ }
+fn after_block(order: Order, start: usize, then: Order) -> Step
+    ensures { λ r. ⌜ r ≡ blockStep start order then ⌝ }
 {
-    match p {
+    match order {
         Order::Blocks { low } => {
             if low <= start {
-                return Step::To(q);
+                return Step::To(then);
             }
             Step::Stop
         }
@@ -77,7 +77,7 @@ fn after_block(p: Order, start: usize, q: Order) -> Step
                 return Step::Stop;
             }
             if low <= start {
-                return Step::To(q);
+                return Step::To(then);
             }
             Step::Stop
         }
@@ -86,10 +86,10 @@ fn after_block(p: Order, start: usize, q: Order) -> Step
 }
 
 // A 7: one of those that are left. "Kind 7 away from a dynamic block" is bad.
-fn after_way(p: Order) -> Step
-    ensures { λ r. ⌜ r ≡ wayStep p ⌝ }
+fn after_way(order: Order) -> Step
+    ensures { λ r. ⌜ r ≡ wayStep order ⌝ }
 {
-    match p {
+    match order {
         Order::Sevens { low, block, left } => {
             if left == 0 {
                 return Step::Stop;
@@ -106,10 +106,10 @@ fn after_way(p: Order) -> Step
 }
 
 // A record, where no 7 is left to come. "After one of 8 and 9 the other is a bad entry".
-fn after_record(p: Order, form: usize) -> Step
-    ensures { λ r. ⌜ r ≡ recordStep form p ⌝ }
+fn after_record(order: Order, form: usize) -> Step
+    ensures { λ r. ⌜ r ≡ recordStep form order ⌝ }
 {
-    match p {
+    match order {
         Order::Sevens { left, .. } => {
             if left != 0 {
                 return Step::Stop;
@@ -127,14 +127,14 @@ fn after_record(p: Order, form: usize) -> Step
 }
 
 // The order behind an entry at an offset; none where it is bad there, as a second head is.
-pub fn behind(k: Class, p: Order, at: usize) -> Step
-    requires { ⌜ startOf k < 65536 ⌝ }
-    ensures { λ r. ⌜ r ≡ stepOf k p at ⌝ }
+pub fn behind(class: Class, order: Order, at: usize) -> Step
+    requires { ⌜ startOf class < 65536 ⌝ }
+    ensures { λ r. ⌜ r ≡ stepOf class order at ⌝ }
 {
-    match k {
-        Class::Block { start } => after_block(p, start, Order::Blocks { low: start + 1 }),
+    match class {
+        Class::Block { start } => after_block(order, start, Order::Blocks { low: start + 1 }),
         Class::Dynamic { start, count } => after_block(
-            p,
+            order,
             start,
             Order::Sevens {
                 low: start + 1,
@@ -142,18 +142,18 @@ pub fn behind(k: Class, p: Order, at: usize) -> Step
                 left: count,
             },
         ),
-        Class::Way => after_way(p),
-        Class::Record { form } => after_record(p, form),
+        Class::Way => after_way(order),
+        Class::Record { form } => after_record(order, form),
         Class::Bad => Step::Stop,
         Class::Head => Step::Stop,
     }
 }
 
 // How many blocks the entry is.
-pub fn blocks_in(k: Class) -> usize
-    ensures { λ r. ⌜ r ≡ blockIn k ⌝ }
+pub fn blocks_in(class: Class) -> usize
+    ensures { λ r. ⌜ r ≡ blockIn class ⌝ }
 {
-    match k {
+    match class {
         Class::Block { start: _ } => 1,
         Class::Dynamic { start: _, count: _ } => 1,
         Class::Bad => 0,
@@ -164,10 +164,10 @@ pub fn blocks_in(k: Class) -> usize
 }
 
 // How many records the entry is.
-pub fn records_in(k: Class) -> usize
-    ensures { λ r. ⌜ r ≡ recordIn k ⌝ }
+pub fn records_in(class: Class) -> usize
+    ensures { λ r. ⌜ r ≡ recordIn class ⌝ }
 {
-    match k {
+    match class {
         Class::Record { form: _ } => 1,
         Class::Bad => 0,
         Class::Head => 0,

@@ -32,23 +32,23 @@ fn sevens(map: &[u8], at: usize) -> usize
     ensures { λ r. ⌜ r ≡ sevens (wide-in (now (map .entry))) (from (now (map .entry)) at) ⌝ }
 {
     let wide = wide_in(map);
-    let mut n = 0;
+    let mut count = 0;
     let mut to = at;
     loop {
         match lead_at(map, to) {
             Lead::Says { kind, length } => {
                 match sort_of(wide, kind) {
                     Sort::Way => {
-                        n += 1;
+                        count += 1;
                         to = to + 6 + length;
                     }
                     _ => {
-                        return n;
+                        return count;
                     }
                 }
             }
             Lead::Short => {
-                return n;
+                return count;
             }
         }
     }
@@ -56,11 +56,11 @@ fn sevens(map: &[u8], at: usize) -> usize
 
 // The offset of the first bad entry, where the one at an offset may not come: that of an open dynamic block with "a dynamic count its 7s do not meet
 // (the dynamic entry is bad; only whole 7s count)", else this one's.
-pub fn stopped(map: &[u8], at: usize, p: Order) -> usize
+pub fn stopped(map: &[u8], at: usize, order: Order) -> usize
     requires { ⌜ at ≤ length (now map) ⌝ }
-    ensures { λ r. ⌜ r ≡ stoppedOf p at (sevens (wide-in (now (map .entry))) (from (now (map .entry)) at)) ⌝ }
+    ensures { λ r. ⌜ r ≡ stoppedOf order at (sevens (wide-in (now (map .entry))) (from (now (map .entry)) at)) ⌝ }
 {
-    match p {
+    match order {
         Order::Sevens { block, left, .. } => {
             if left == sevens(map, at) {
                 return at;

@@ -34,43 +34,43 @@ pub struct Scan {
 }
 
 // The scan behind an entry; or the offset of the first bad one.
-pub enum Turn {
+pub enum Passed {
     On(Scan),
     Bad(usize),
 }
 
 // One entry, which is there.
-pub fn one(map: &[u8], s: Scan) -> Turn
-    requires { ⌜ Within (now map) s ⌝ }
-    requires { ⌜ s .at < length (now map) ⌝ }
-    ensures { λ r. ⌜ r ≡ turnOf (now (map .entry)) s ⌝ }
+pub fn one(map: &[u8], scan: Scan) -> Passed
+    requires { ⌜ Within (now map) scan ⌝ }
+    requires { ⌜ scan .at < length (now map) ⌝ }
+    ensures { λ r. ⌜ r ≡ turnOf (now (map .entry)) scan ⌝ }
 {
-    let at = s.at;
-    let p = s.place;
-    let e = entry_at(map, at);
-    let k = class_of(e);
-    match behind(k, p, at) {
-        Step::To(place) => Turn::On(Scan {
+    let at = scan.at;
+    let order = scan.place;
+    let entry = entry_at(map, at);
+    let class = class_of(entry);
+    match behind(class, order, at) {
+        Step::To(place) => Passed::On(Scan {
             at: end_of(map, at),
             place,
-            blocks: s.blocks + blocks_in(k),
-            records: s.records + records_in(k),
+            blocks: scan.blocks + blocks_in(class),
+            records: scan.records + records_in(class),
         }),
-        Step::Stop => Turn::Bad(stopped(map, at, p)),
+        Step::Stop => Passed::Bad(stopped(map, at, order)),
     }
 }
 
 // "Wrong head counts are looked at last and give offset 0".
-fn counts(s: Scan, blocks: usize, records: usize) -> Reading
-    ensures { λ r. ⌜ r ≡ judged none blocks records (s .blocks) (s .records) ⌝ }
+fn counts(scan: Scan, blocks: usize, records: usize) -> Reading
+    ensures { λ r. ⌜ r ≡ judged none blocks records (scan .blocks) (scan .records) ⌝ }
 {
-    if blocks != s.blocks {
+    if blocks != scan.blocks {
         return Reading {
             number: BAD,
             offset: 0,
         };
     }
-    if records != s.records {
+    if records != scan.records {
         return Reading {
             number: BAD,
             offset: 0,
@@ -83,11 +83,11 @@ fn counts(s: Scan, blocks: usize, records: usize) -> Reading
 }
 
 // At the end: an open dynamic block's count, then the head's counts.
-pub fn last(s: Scan, blocks: usize, records: usize) -> Reading
-    ensures { λ r. ⌜ r ≡ lastOf s blocks records ⌝ }
+pub fn last(scan: Scan, blocks: usize, records: usize) -> Reading
+    ensures { λ r. ⌜ r ≡ lastOf scan blocks records ⌝ }
 {
-    let p = s.place;
-    match p {
+    let order = scan.place;
+    match order {
         Order::Sevens { block, left, .. } => {
             if left != 0 {
                 return Reading {
@@ -95,10 +95,10 @@ pub fn last(s: Scan, blocks: usize, records: usize) -> Reading
                     offset: block,
                 };
             }
-            counts(s, blocks, records)
+            counts(scan, blocks, records)
         }
-        Order::Blocks { .. } => counts(s, blocks, records),
-        Order::Records { .. } => counts(s, blocks, records),
+        Order::Blocks { .. } => counts(scan, blocks, records),
+        Order::Records { .. } => counts(scan, blocks, records),
     }
 }
 
@@ -107,22 +107,22 @@ fn rest(map: &[u8], from: usize, blocks: usize, records: usize) -> Reading
     requires { ⌜ from ≤ length (now map) ⌝ }
     ensures { λ r. ⌜ r ≡ restOf (now (map .entry)) from blocks records ⌝ }
 {
-    let mut s = Scan {
+    let mut scan = Scan {
         at: from,
         place: Order::Blocks { low: 0 },
         blocks: 0,
         records: 0,
     };
     loop {
-        let at = s.at;
+        let at = scan.at;
         if map.len() <= at {
-            return last(s, blocks, records);
+            return last(scan, blocks, records);
         }
-        match one(map, s) {
-            Turn::On(t) => {
-                s = t;
+        match one(map, scan) {
+            Passed::On(next) => {
+                scan = next;
             }
-            Turn::Bad(offset) => {
+            Passed::Bad(offset) => {
                 return Reading {
                     number: BAD,
                     offset,
@@ -136,8 +136,8 @@ fn rest(map: &[u8], from: usize, blocks: usize, records: usize) -> Reading
 pub fn read(map: &[u8]) -> Reading
     ensures { λ r. ⌜ r ≡ readingOf (read (now (map .entry))) ⌝ }
 {
-    let e = entry_at(map, 0);
-    match e {
+    let entry = entry_at(map, 0);
+    match entry {
         Entry::Head {
             blocks,
             records,

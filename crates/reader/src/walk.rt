@@ -35,10 +35,10 @@ pub fn first(map: &[u8]) -> Walk
     next(map, 0)
 }
 
-// The i-th address of a path of n addresses that stands at an offset.
-pub fn address(map: &[u8], path: usize, n: usize, i: usize) -> usize
-    requires { ⌜ (path + 2 * n ≤ length (now map)) × (i < n) ⌝ }
-    ensures { λ r. ⌜ Address (now (map .entry)) path n i r ⌝ }
+// The address at a place of a path of `count` addresses that stands at an offset.
+pub fn address(map: &[u8], path: usize, count: usize, place: usize) -> usize
+    requires { ⌜ (path + 2 * count ≤ length (now map)) × (place < count) ⌝ }
+    ensures { λ r. ⌜ Address (now (map .entry)) path count place r ⌝ }
 {
-    get16(map, path + 2 * i)
+    get16(map, path + 2 * place)
 }

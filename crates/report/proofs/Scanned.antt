@@ -34,8 +34,8 @@ use Rattle.reader.specs.declared.class.Step.{Step}
 use Rattle.reader.specs.declared.class.Step.the-variants.{To, Stop}
 use Rattle.reader.specs.declared.scan.Scan.{Scan}
 use Rattle.reader.specs.declared.scan.Reading.{Reading}
-use Rattle.reader.specs.declared.scan.Turn.{Turn}
-use Rattle.reader.specs.declared.scan.Turn.the-variants.{On, Bad as Stops}
+use Rattle.reader.specs.declared.scan.Passed.{Passed}
+use Rattle.reader.specs.declared.scan.Passed.the-variants.{On, Bad as Stops}
 use Rattle.reader.proofs.Onward.{from-end}
 use Rattle.reader.proofs.Judging.{entry-cut, behind-whole, items-on}
 use Rattle.reader.proofs.Turning.{behind-in}
@@ -250,7 +250,7 @@ module _ {b : List ℕ} {to n m : ℕ} (h : Headed b to n m) where
     reads e = read-head b refl (h .head) (h .behind) e
 
     -- an entry is counted as it is turned; what was counted is dropped where the scan stops
-    module _ (l : s .at < length b) {r : Turn} (t : r ≡ turnOf b s) where
+    module _ (l : s .at < length b) {r : Passed} (t : r ≡ turnOf b s) where
       pub pass-less : {u : Scan} → r ≡ On u → length b - u .at < length b - s .at
       pass-less q = scan-less (z .scans) l t q
 

@@ -23,8 +23,8 @@ const BAD: usize = 12;
 pub fn add(report: &mut [u8], map: &[u8]) -> Reading
     ensures { λ r. ⌜ Added (now (report .entry)) (now (map .entry)) (now (report .exit)) r ⌝ }
 {
-    let e = entry_at(map, 0);
-    match e {
+    let entry = entry_at(map, 0);
+    match entry {
         Entry::Head {
             blocks,
             records,
@@ -33,8 +33,8 @@ pub fn add(report: &mut [u8], map: &[u8]) -> Reading
         } => {
             let to = end_of(map, 0);
             match entries(map, to, blocks, records) {
-                Pass::Whole(c) => {
-                    let mut ns = numbers_of(c, energy);
+                Pass::Whole(counts) => {
+                    let mut ns = numbers_of(counts, energy);
                     let number = merge(report, &mut ns);
                     Reading { number, offset: 0 }
                 }

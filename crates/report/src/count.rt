@@ -71,32 +71,32 @@ pub fn shut(counts: Counts, hand: Open) -> Counts
     }
 }
 
-// The totals with a path of n addresses among them.
-fn longer(counts: Counts, n: usize) -> Counts
-    ensures { λ r. ⌜ Longer counts n r ⌝ }
+// The totals with a path of `count` addresses among them.
+fn longer(counts: Counts, count: usize) -> Counts
+    ensures { λ r. ⌜ Longer counts count r ⌝ }
 {
     let mut d = counts;
-    if d.longest < n {
-        d.longest = n;
+    if d.longest < count {
+        d.longest = count;
         return d;
     }
     d
 }
 
 // The totals with a record among them, by its destination and the length of its path.
-fn recorded(counts: Counts, to: Destination, n: usize) -> Counts
+fn recorded(counts: Counts, to: Destination, count: usize) -> Counts
     requires { ⌜ Roomy counts ⌝ }
-    ensures { λ r. ⌜ Recorded counts to n r ⌝ }
+    ensures { λ r. ⌜ Recorded counts to count r ⌝ }
 {
     let mut d = counts;
     match to {
         Destination::Missing => {
             d.nowhere += 1;
-            longer(d, n)
+            longer(d, count)
         }
         Destination::At(_) => {
             d.found += 1;
-            longer(d, n)
+            longer(d, count)
         }
     }
 }

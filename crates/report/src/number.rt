@@ -15,34 +15,34 @@ pub enum Sum {
 }
 
 // The sum of two numbers, if it is of 64 bits.
-fn sum_of(x: usize, y: usize) -> Sum
-    ensures { λ r. ⌜ r ≡ summed (x + y) ⌝ }
+fn sum_of(first: usize, second: usize) -> Sum
+    ensures { λ r. ⌜ r ≡ summed (first + second) ⌝ }
 {
-    if MOST - x < y {
+    if MOST - first < second {
         return Sum::TooLarge;
     }
-    Sum::Is(x + y)
+    Sum::Is(first + second)
 }
 
 // The sum of three.
-pub fn sum_of_three(x: usize, y: usize, z: usize) -> Sum
-    ensures { λ r. ⌜ r ≡ summed (x + y + z) ⌝ }
+pub fn sum_of_three(first: usize, second: usize, third: usize) -> Sum
+    ensures { λ r. ⌜ r ≡ summed (first + second + third) ⌝ }
 {
-    match sum_of(x, y) {
-        Sum::Is(s) => sum_of(s, z),
+    match sum_of(first, second) {
+        Sum::Is(sum) => sum_of(sum, third),
         Sum::TooLarge => Sum::TooLarge,
     }
 }
 
 // Two totals at a place: "sums added, the longer path".
-pub fn joined(i: usize, x: usize, y: usize) -> Sum
-    ensures { λ r. ⌜ r ≡ summed (joinedAt i x y) ⌝ }
+pub fn joined(place: usize, first: usize, second: usize) -> Sum
+    ensures { λ r. ⌜ r ≡ summed (joinedAt place first second) ⌝ }
 {
-    if i != LONGEST {
-        return sum_of(x, y);
+    if place != LONGEST {
+        return sum_of(first, second);
     }
-    if x < y {
-        return Sum::Is(y);
+    if first < second {
+        return Sum::Is(second);
     }
-    Sum::Is(x)
+    Sum::Is(first)
 }

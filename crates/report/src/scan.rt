@@ -7,8 +7,8 @@ use crate::count::none_counted;
 use crate::count::opened;
 use crate::count::shut;
 use reader::Order;
+use reader::Passed;
 use reader::Scan;
-use reader::Turn;
 use reader::entry_at;
 use reader::last;
 use reader::one;
@@ -28,9 +28,9 @@ fn closed(scan: Scan, blocks: usize, records: usize, counts: Counts, hand: Open)
     requires { ⌜ RoomToShut counts ⌝ }
     ensures { λ r. ⌜ r ≡ closedOf scan blocks records counts hand ⌝ }
 {
-    let r = last(scan, blocks, records);
-    if r.number != 0 {
-        return Pass::Bad(r.offset);
+    let reading = last(scan, blocks, records);
+    if reading.number != 0 {
+        return Pass::Bad(reading.offset);
     }
     Pass::Whole(shut(counts, hand))
 }
@@ -40,27 +40,27 @@ pub fn entries(map: &[u8], from: usize, blocks: usize, records: usize) -> Pass
     requires { ⌜ Headed (now map) from blocks records ⌝ }
     ensures { λ r. ⌜ r ≡ passOf (read (now (map .entry))) ⌝ }
 {
-    let mut s = Scan {
+    let mut scan = Scan {
         at: from,
         place: Order::Blocks { low: 0 },
         blocks: 0,
         records: 0,
     };
-    let mut c = none_counted();
-    let mut o = Open::Static;
+    let mut counts = none_counted();
+    let mut hand = Open::Static;
     loop {
-        let at = s.at;
+        let at = scan.at;
         if map.len() <= at {
-            return closed(s, blocks, records, c, o);
+            return closed(scan, blocks, records, counts, hand);
         }
         let entry = entry_at(map, at);
-        match one(map, s) {
-            Turn::On(t) => {
-                c = counted(c, o, entry);
-                o = opened(o, entry);
-                s = t;
+        match one(map, scan) {
+            Passed::On(next) => {
+                counts = counted(counts, hand, entry);
+                hand = opened(hand, entry);
+                scan = next;
             }
-            Turn::Bad(offset) => {
+            Passed::Bad(offset) => {
                 return Pass::Bad(offset);
             }
         }

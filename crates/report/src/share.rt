@@ -10,11 +10,11 @@ pub struct Share {
 }
 
 // The greatest common divisor of two numbers (`gcd-greatest`).
-fn gcd(a: usize, b: usize) -> usize
-    ensures { λ r. ⌜ r ≡ definitions.gcd a b ⌝ }
+fn gcd(first: usize, second: usize) -> usize
+    ensures { λ r. ⌜ r ≡ definitions.gcd first second ⌝ }
 {
-    let mut x = a;
-    let mut y = b;
+    let mut x = first;
+    let mut y = second;
     while y != 0 {
         let z = x % y;
         x = y;
@@ -23,16 +23,16 @@ fn gcd(a: usize, b: usize) -> usize
     x
 }
 
-// The share of n in d, in lowest terms.
-pub fn lowest(n: usize, d: usize) -> Share
-    ensures { λ r. ⌜ shareOf r ≡ definitions.lowest n d ⌝ }
+// The share of `part` in `whole`, in lowest terms.
+pub fn lowest(part: usize, whole: usize) -> Share
+    ensures { λ r. ⌜ shareOf r ≡ definitions.lowest part whole ⌝ }
 {
-    if d == 0 {
+    if whole == 0 {
         return Share { part: 0, whole: 1 };
     }
-    let g = gcd(n, d);
+    let common = gcd(part, whole);
     Share {
-        part: n / g,
-        whole: d / g,
+        part: part / common,
+        whole: whole / common,
     }
 }

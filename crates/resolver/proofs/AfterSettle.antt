@@ -17,7 +17,7 @@ use Rattle.laws.proofs.Members.{in-mem, mem-in, in-right, and-both, and-true, o
 use Rattle.theorems.proofs.Reached.{seed, closure-complete}
 use Rattle.lent.specs.Bytes.{numAt}
 use Rattle.lent.proofs.Numbers.{num-suffix}
-use Rattle.layout.specs.Fields.{FIRST-FOUND, LAST-FOUND, FLAG, markAt}
+use Rattle.layout.specs.Fields.{FIRST-FOUND, LAST-FOUND, HIGHEST, markAt}
 use Rattle.layout.specs.Marks.{NOWHERE}
 use Rattle.layout.specs.Parts.{fieldsPlace, bucketsPlace, bucketPlace}
 use Rattle.layout.specs.Records.{toAt}
@@ -33,10 +33,10 @@ use Rattle.reachable.proofs.Tests.{same-test, decided, mem-append}
 use Rattle.reachable.proofs.Seeds.{closure-round, closure-members}
 use Rattle.reachable.proofs.Frames.{num-in}
 use Rattle.reachable.proofs.Rows.{node-edges}
-use Rattle.reachable.proofs.Spreading.{room-kept, within-kept}
+use Rattle.reachable.proofs.Spreading.{room-but, within-but}
 use Rattle.steps.specs.Runs.{recsIn}
 use Rattle.resolver.specs.Fits.{preparedIn}
-use Rattle.resolver.specs.Turns.{Idle, Settles, destsFrom, Settled}
+use Rattle.resolver.specs.Turns.{Idle, HandsOver, destsFrom, HandedAll}
 use Rattle.steps.specs.declared.Plan.{Plan}
 use Rattle.steps.specs.declared.Run.{Run}
 use Rattle.resolver.proofs.Batching.{destAt, dests-more}
@@ -77,11 +77,12 @@ module _ {code : List ℕ} {k : Plan} {since : ℕ} {w p s t r q : List ℕ} {cu
     (i : Idle code k (reached-by (preparedIn k code) (take since (recsIn k (buffers w p s t r q) (cur .counts)))) since (buffers w p s t r q) cur)
     (f : (x : ℕ) → mem x (flagged w (k .n)) ≡ mem x (reached-by (preparedIn k code) (take since (recsIn k (buffers w p s t r q) (cur .counts))))) where
   -- what it asks
-  pub renew-settles : Settles (k .n) w r since (cur .counts .records)
+  pub renew-settles : HandsOver (k .n) w r since (cur .counts .records)
   renew-settles = record {
     lent = i .planned .lentW;
     within = i .within;
     closed = i .closed;
+    high = i .marks .high;
     order = i .began;
     inR = omega (arith, i .tables .within .fitsR, i .tables .within .lentR);
     few = omega (arith, i .tables .within .fitsR, i .tables .within .mostR);
@@ -109,7 +110,7 @@ module _ {code : List ℕ} {k : Plan} {since : ℕ} {w p s t r q : List ℕ} {cu
       dests-of r q s (k .rooms .s) records
       ∙ rw (recs-first r q s (k .rooms .s) since records (i .began), dests-of r q s (k .rooms .s) since) (rw (e, z) at (dests-split r 0 since (records - since)))
 
-  module _ {w′ : List ℕ} (e : Settled (k .n) w r since (cur .counts .records) w′) where
+  module _ {w′ : List ℕ} (e : HandedAll (k .n) w r since (cur .counts .records) w′) where
     pub renew-flags : (x : ℕ) → mem x (flagged w′ (k .n)) ≡ mem x (reached-by (preparedIn k code) recs)
     renew-flags x =
         e .reached x
@@ -176,8 +177,8 @@ module _ {code : List ℕ} {k : Plan} {since : ℕ} {w p s t r q : List ℕ} {cu
                 absurd (omega (arith, z, ltb-true 0 (markAt w (k .n) a) (and-both (ltb 0 (markAt w (k .n) a)) _ m .0)))
 
     -- the fields of others stay
-    num-fields : (n a o : ℕ) → a ≤ k .n → FIRST-FOUND ≤ o → o + n ≤ FLAG → numAt n w′ (fieldsPlace (k .n) a + o) ≡ numAt n w (fieldsPlace (k .n) a + o)
-    num-fields n a o h l m = num-in w′ w 14 (fieldsPlace (k .n) a + FIRST-FOUND) (e .kept .fields a h) n (fieldsPlace (k .n) a + o) (omega arith) (omega arith)
+    num-fields : (n a o : ℕ) → a ≤ k .n → FIRST-FOUND ≤ o → o + n ≤ HIGHEST → numAt n w′ (fieldsPlace (k .n) a + o) ≡ numAt n w (fieldsPlace (k .n) a + o)
+    num-fields n a o h l m = num-in w′ w 12 (fieldsPlace (k .n) a + FIRST-FOUND) (e .kept .fields a h) n (fieldsPlace (k .n) a + o) (omega arith) (omega arith)
 
     links-kept : SameLinks (k .n) (k .buckets) w w′
     links-kept = record {
@@ -192,7 +193,7 @@ module _ {code : List ℕ} {k : Plan} {since : ℕ} {w p s t r q : List ℕ} {cu
       planned = record {
         is = i .planned .is;
         limit = i .planned .limit;
-        lentW = room-kept (e .kept) (i .planned .lentW);
+        lentW = room-but (e .kept) (i .planned .lentW);
         ends = omega (arith, i .planned .ends, e .kept .long);
         scratch = i .planned .scratch;
         lentP = i .planned .lentP;
@@ -203,12 +204,12 @@ module _ {code : List ℕ} {k : Plan} {since : ℕ} {w p s t r q : List ℕ} {cu
       remembers = i .remembers;
       known = known-prefix w′ (rw (i .planned .is) at (sym (e .kept .rows))) (i .known);
       began = omega arith;
-      marks = record { by = by; most = most };
+      marks = record { by = by; most = most; high = e .high };
       sound = i .sound;
       counts = record { counts = λ a h. num-fields 4 a 12 h (omega arith) (omega arith) ∙ i .counts .counts a h };
       unused = i .unused;
       rowless = i .rowless;
-      within = within-kept (e .kept) (i .within);
+      within = within-but (e .kept) (i .within);
       closed = e .closed;
       unrefused = i .unrefused;
       energy = i .energy;

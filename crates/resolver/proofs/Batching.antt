@@ -22,10 +22,10 @@ use Rattle.reachable.specs.Marks.{flagged}
 use Rattle.reachable.specs.Edges.{rowEdges}
 use Rattle.reachable.specs.Contracts.{Closed, Expands, Expanded}
 use Rattle.reachable.proofs.Seeds.{closure-test}
-use Rattle.reachable.proofs.Frames.{kept-none}
+use Rattle.reachable.proofs.Frames.{kept-none, kept-but}
 use Rattle.reachable.proofs.Entering.{sets-none}
 use Rattle.reachable.proofs.Expanding.{edge-side}
-use Rattle.resolver.specs.Turns.{Settles, destsFrom}
+use Rattle.resolver.specs.Turns.{HandsOver, destsFrom}
 use Rattle.resolver.specs.Batches.{Gathers, Gathered, HandedOver}
 use Rattle.resolver.specs.declared.settle.Batch.{Batch}
 
@@ -158,10 +158,10 @@ closed-reached {n} {w = w} c (along e i p q) = c .sides (e .place) (e .to) (clos
 pub closed-own : {n : ℕ} {w : List ℕ} → Closed w n → (x : ℕ) → mem x (flagged w n) ≡ mem x (closure (rowEdges w n) (flagged w n))
 closed-own {n} {w} c x = closure-test (rowEdges w n) (flagged w n) x (λ h. seed h, λ r. closed-reached c r)
 
-pub hand-gathers : {n from records : ℕ} {w r batch : List ℕ} → Settles n w r from records → from < records → length batch ≡ 64 → Gathers r from records batch
+pub hand-gathers : {n from records : ℕ} {w r batch : List ℕ} → HandsOver n w r from records → from < records → length batch ≡ 64 → Gathers r from records batch
 hand-gathers s l h = record { left = l; inR = s .inR; few = s .few; long = h }
 
-module _ {n from records : ℕ} {w r batch : List ℕ} {b : Batch} (s : Settles n w r from records) (g : Gathered r from records batch b) where
+module _ {n from records : ℕ} {w r batch : List ℕ} {b : Batch} (s : HandsOver n w r from records) (g : Gathered r from records batch b) where
   abbrev seeds : List ℕ
   seeds = destsFrom r from (b .next - from)
 
@@ -175,7 +175,7 @@ module _ {n from records : ℕ} {w r batch : List ℕ} {b : Batch} (s : Settles 
 
   -- an empty batch changes nothing
   pub hand-none : b .many ≡ 0 → HandedOver n w r from records w (b .next)
-  hand-none z = handed (rw (← g .are, z) (record { reached = closed-own (s .closed); sets = sets-none n (records + 1) w; closed = s .closed; kept = kept-none }))
+  hand-none z = handed (rw (← g .are, z) (record { reached = closed-own (s .closed); sets = sets-none n (records + 1) w; closed = s .closed; high = s .high; kept = kept-but kept-none }))
 
   -- the part of the batch that is lent
   lent-part : take (b .many - 0) batch ≡ seeds
@@ -185,9 +185,11 @@ module _ {n from records : ℕ} {w r batch : List ℕ} {b : Batch} (s : Settles 
   hand-expands = record {
     lent = s .lent;
     inside = λ a h. dests-within r from (b .next - from) (λ j l. s .goes j (omega (arith, g .on, g .most))) (mem-in a seeds (rw lent-part at h));
+    some = omega arith;
     small = omega (arith, s .few);
     within = s .within;
     closed = s .closed;
+    high = s .high;
   }
 
   pub hand-done : {w′ : List ℕ} → Expanded n w (take (b .many - 0) batch) (records + 1) w′ → HandedOver n w r from records w′ (b .next)

@@ -13,7 +13,7 @@ use Rattle.steps.specs.Paths.{CountsOnly, Counting, Uncounting, OnPath}
 use Rattle.resolver.specs.Fits.{Fits, Stands}
 use Rattle.steps.specs.declared.Plan.{Plan}
 use Rattle.steps.specs.declared.Level.{Level}
-use Rattle.steps.proofs.Paths.{only-marks, only-links}
+use Rattle.resolver.proofs.WorkKept.{alike-counts, alike-marks}
 
 module _ {code w p s t r q : List ℕ} {k : Plan} {turn : Turn} {since start : ℕ} {c : Counts} (f : Fits code k turn since start (buffers w p s t r q) c) where
   pub fits-recounted : {w′ : List ℕ} → CountsOnly (k .n) w w′ → Fits code k turn since start (buffers w′ p s t r q) c
@@ -33,15 +33,12 @@ module _ {code w p s t r q : List ℕ} {k : Plan} {turn : Turn} {since start : �
         stored = f .stored;
         started = f .started;
         starts = f .starts;
-        tables = tables-kept (f .tables) w′ s (only-links o (k .buckets)) refl refl (c .used) (c .rows) (f .tables .within .fitsS);
+        tables = tables-kept (f .tables) w′ s (alike-counts o (k .buckets) .links) refl refl (c .used) (c .rows) (f .tables .within .fitsS);
         remembers = f .remembers;
         packs = f .packs;
         known = known-prefix w′ (rw (g .is) at (sym (o .front))) (f .known);
         began = f .began;
-        marks = record {
-          by = λ j lo hi a h. rw (only-marks o a h) (f .marks .by j lo hi a h);
-          most = λ a h. rw (only-marks o a h) (f .marks .most a h);
-        };
+        marks = alike-marks (alike-counts o (k .buckets)) (f .marks);
         sound = f .sound;
       }
 

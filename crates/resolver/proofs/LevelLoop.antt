@@ -9,10 +9,11 @@ use Rattle.spec.specs.Lists.{lastOf, keep}
 use Rattle.spec.specs.Search.{St, Turn, Rec, Parent, parents}
 use Rattle.lent.specs.Bytes.{Holds}
 use Rattle.layout.specs.Buffers.{Mem}
+use Rattle.layout.specs.Fields.{highAt}
 use Rattle.reachable.specs.Marks.{markedBy}
 use Rattle.reachable.specs.Contracts.{Address}
 use Rattle.parents.specs.Links.{directTo}
-use Rattle.state.specs.Modes.{modeOf}
+use Rattle.exec.specs.Modes.{modeOf}
 use Rattle.tables.specs.Addrs.{addrs}
 use Rattle.steps.specs.Cursors.{firstCursor, nextCursor, lastCursor, AtBlock, Cursor, Asks, foundTo, live}
 use Rattle.steps.specs.Runs.{recsIn}
@@ -22,7 +23,7 @@ use Rattle.resolver.specs.Levels.{spentWith, Opened, Leveled, Tried}
 use Rattle.steps.specs.declared.Plan.{Plan}
 use Rattle.steps.specs.declared.Level.{Level}
 use Rattle.steps.specs.declared.Run.{Run}
-use Rattle.steps.proofs.Cursors.{level-parents, first-left, end-left, fuel}
+use Rattle.steps.proofs.Cursors.{LeftUpTo, level-parents, first-left, end-left, fuel}
 use Rattle.steps.proofs.Nexts.{last-addrs, NextLeft}
 use Rattle.steps.proofs.Splits.{inside-at}
 use Rattle.resolver.proofs.Sequence.{did-nothing, did-same}
@@ -30,11 +31,12 @@ use Rattle.resolver.proofs.SixLengths.{Long, long-same, long-then}
 use Rattle.resolver.proofs.LevelByParents.{trying-none, level-tries}
 use Rattle.resolver.proofs.LevelKept.{stays-none, stands-stay, its-counts}
 use Rattle.resolver.proofs.ParentAtCursor.{parental}
-use Rattle.resolver.proofs.LevelHalfway.{those, tried?, Halfway, half-next, half-live, half-skips, half-passes, half-refused, half-tried}
+use Rattle.resolver.proofs.LevelHalfway.{those, tried?, unreached, Halfway, half-next, half-live, half-skips, half-passes, half-refused, half-tried}
 
 -- it is halfway in every turn that fits
-pub record Going (code : List ℕ) (k : Plan) (start : ℕ) (l : Level) (m₀ : Mem) (o : Run) (b : ℕ) (m : Mem) (cur : Run) (at : ℕ) : Type 0 where
+pub record Going (code : List ℕ) (k : Plan) (start : ℕ) (l : Level) (m₀ : Mem) (o : Run) (b high : ℕ) (m : Mem) (cur : Run) (at : ℕ) : Type 0 where
   pub block : b ≤ k .n
+  pub top : high ≡ highAt (m₀ .w) (k .n) b
   pub unrefused : cur .code ≡ 0
   pub energy : cur .energy ≤ k .limit + l .left
   pub long : Long m₀ m
@@ -58,30 +60,43 @@ module _ {code : List ℕ} {k : Plan} {start : ℕ} {l : Level} {m₀ : Mem} {o 
         let w = pre .fits .planned .lentW in
         record { short = w .short; inside = level-block; room = omega (arith, w .room) }
 
-    pub level-starts : {at : ℕ} → at ≡ firstCursor (m₀ .w) (k .n) b (o .counts .records) → Going code k start l m₀ o b m₀ o at
-    level-starts e = record {
+    pub level-address : Address (k .n) (m₀ .w) b
+    level-address = record { lent = pre .fits .planned .lentW; inside = level-block }
+
+    pub level-starts : {high at : ℕ} → high ≡ highAt (m₀ .w) (k .n) b → at ≡ firstCursor (m₀ .w) (k .n) b (o .counts .records) high → Going code k start l m₀ o b high m₀ o at
+    level-starts {high} {at} top e = record {
       block = level-block;
+      top = top;
       unrefused = pre .unrefused;
       energy = omega (arith, pre .energy);
       long = long-same;
-      half = λ t since f. record {
-        fits = f;
-        stays = stays-none;
-        counts = pre .on-its;
-        rest = directTo b (preparedIn k code) ++ foundTo b (recsIn k m₀ (o .counts));
-        left = rw (e, f .planned .is) (first-left (rw (f .planned .is) at (f .tables)) (f .known) b (omega (arith, level-block, f .planned .is)) (o .counts .records) refl);
-        so-far = λ s. s;
-        did = did-nothing;
-        same = λ mid i.
-            level-tries (k .limit) t (l .left) (levelOf m₀ l) mid
-            ∙ ap (λ (ps : List Parent). those k t l m₀ ps mid)
-            (ap (λ (a : ℕ). parents t a mid) level-last
-            ∙ level-parents (modeOf (k .mode)) code t b mid (f .stored)
-            ∙ ap (λ (rs : List Rec). keep (live (t .reached) rs) (directTo b (preparedIn k code) ++ foundTo b rs)) (ap (λ (s : St). s .recs) i));
-      };
+      half = λ t since f.
+          let first = first f in
+          record {
+            fits = f;
+            stays = stays-none;
+            counts = pre .on-its;
+            rest = first .rest;
+            left = first .left;
+            so-far = λ s. s;
+            did = did-nothing;
+            same = λ mid i.
+                level-tries (k .limit) t (l .left) (levelOf m₀ l) mid
+                ∙ ap (λ (ps : List Parent). those k t l m₀ ps mid)
+                (ap (λ (a : ℕ). parents t a mid) level-last
+                ∙ level-parents (modeOf (k .mode)) code t b mid (f .stored)
+                ∙ ap (λ (rs : List Rec). keep (live (t .reached) rs) (directTo b (preparedIn k code) ++ foundTo b rs)) (ap (λ (s : St). s .recs) i)
+                ∙ first .passes (tried? k t m₀ o) (unreached o f top level-block));
+          };
     }
+      where
+        first : {t : Turn} {since : ℕ} → Fits code k t since start m₀ (o .counts)
+            → LeftUpTo (modeOf (k .mode)) code (m₀ .w) (k .n) b (recsIn k m₀ (o .counts)) high at (directTo b (preparedIn k code) ++ foundTo b (recsIn k m₀ (o .counts)))
+        first f =
+            rw (e, f .planned .is)
+            (first-left (rw (f .planned .is) at (f .tables)) (f .known) b (omega (arith, level-block, f .planned .is)) (o .counts .records) refl high)
 
-  module _ {b : ℕ} {m : Mem} {cur : Run} {at : ℕ} (g : Going code k start l m₀ o b m cur at) where
+  module _ {b high : ℕ} {m : Mem} {cur : Run} {at : ℕ} (g : Going code k start l m₀ o b high m cur at) where
     -- in the turn that there is
     here : Halfway code k (pre .turn) (pre .since) start l m₀ o b m cur at
     here = g .half (pre .turn) (pre .since) (pre .fits)
@@ -111,8 +126,8 @@ module _ {code : List ℕ} {k : Plan} {start : ℕ} {l : Level} {m₀ : Mem} {o 
     }
 
     module _ (d : at ≡ 0 → ⊥) where
-      next : NextLeft (modeOf (k .mode)) code (m .w) (m .r) (m .q) (m .s) (k .n) b (o .counts .records) (k .rooms .s) (cur .counts .records) (recsIn k m₀ (o .counts)) at (here .rest)
-      next = half-next (pre .fits) (pre .stands) (g .block) here d
+      next : NextLeft (modeOf (k .mode)) code (m .w) (m .r) (m .q) (m .s) (k .n) b (o .counts .records) high (k .rooms .s) (cur .counts .records) (recsIn k m₀ (o .counts)) at (here .rest)
+      next = half-next (pre .fits) (pre .stands) (g .block) (g .top) here d
 
       pub going-cursor : Cursor (m .w) (m .r) (k .n) at
       going-cursor = next .cursor
@@ -123,7 +138,7 @@ module _ {code : List ℕ} {k : Plan} {start : ℕ} {l : Level} {m₀ : Mem} {o 
       pub going-address : {a : ℕ} → a ≡ lastCursor (m .r) (m .q) at → Address (k .n) (m .w) a
       going-address e = record { lent = here .fits .planned .lentW; inside = omega (arith, e, next .last-inside) }
 
-      pub going-falls : {at′ : ℕ} → at′ ≡ nextCursor (m .w) (m .r) (k .n) b (o .counts .records) at → fuel at′ < fuel at
+      pub going-falls : {at′ : ℕ} → at′ ≡ nextCursor (m .w) (m .r) (k .n) b (o .counts .records) high at → fuel at′ < fuel at
       going-falls e = rw e (next .falls)
 
       pub going-tries : {spent : Run} → spent ≡ spentWith cur → spent .energy ≤ k .limit → Entering code k start l at m spent
@@ -143,37 +158,39 @@ module _ {code : List ℕ} {k : Plan} {start : ℕ} {l : Level} {m₀ : Mem} {o 
       module _ {a : ℕ} (e : a ≡ lastCursor (m .r) (m .q) at) {marked : Bool} (v : marked ≡ markedBy (m .w) (k .n) a (o .counts .records + 1)) where
         -- in any turn, the mark says whether the parent is tried
         is-live : (t : Turn) (since : ℕ) → Fits code k t since start m₀ (o .counts) → tried? k t m₀ o (held code k m b at) ≡ marked
-        is-live t since f = sym (rw e at v ∙ half-live f (pre .stands) (g .block) (g .half t since f) d)
+        is-live t since f = sym (rw e at v ∙ half-live f (pre .stands) (g .block) (g .top) (g .half t since f) d)
 
-        pub level-skips : {at′ : ℕ} → at′ ≡ nextCursor (m .w) (m .r) (k .n) b (o .counts .records) at → marked ≡ false → Going code k start l m₀ o b m cur at′
+        pub level-skips : {at′ : ℕ} → at′ ≡ nextCursor (m .w) (m .r) (k .n) b (o .counts .records) high at → marked ≡ false → Going code k start l m₀ o b high m cur at′
         level-skips x no-mark = record {
           block = g .block;
+          top = g .top;
           unrefused = g .unrefused;
           energy = g .energy;
           long = g .long;
-          half = λ t since f. half-skips f (pre .stands) (g .block) (g .half t since f) d x (is-live t since f ∙ no-mark);
+          half = λ t since f. half-skips f (pre .stands) (g .block) (g .top) (g .half t since f) d x (is-live t since f ∙ no-mark);
         }
 
         module _ (mark : marked ≡ true) {spent : Run} (s : spent ≡ spentWith cur) where
           pub level-passes : k .limit < spent .energy → Leveled code k start l m₀ o m spent
           level-passes p = rw s (record {
-            came = λ t since f. half-passes f (pre .stands) (g .block) (g .half t since f) d (is-live t since f ∙ mark) (rw s at p) (g .unrefused);
+            came = λ t since f. half-passes f (pre .stands) (g .block) (g .top) (g .half t since f) d (is-live t since f ∙ mark) (rw s at p) (g .unrefused);
             energy = λ _. omega (arith, g .energy);
           })
 
           module _ (p : spent .energy ≤ k .limit) {m′ : Mem} {r : Run} (tried : Tried code k start l at m spent m′ r) where
             pub level-refused : (r .code ≡ 0 → ⊥) → Leveled code k start l m₀ o m′ r
             level-refused bad = record {
-              came = λ t since f. half-refused f (pre .stands) (g .block) (g .half t since f) d (is-live t since f ∙ mark) (rw s at p) (rw s at tried) bad;
+              came = λ t since f. half-refused f (pre .stands) (g .block) (g .top) (g .half t since f) d (is-live t since f ∙ mark) (rw s at p) (rw s at tried) bad;
               energy = λ z. absurd (bad z);
             }
 
-            pub level-tried : {at′ : ℕ} → at′ ≡ nextCursor (m .w) (m .r) (k .n) b (o .counts .records) at → r .code ≡ 0 → Long m m′
-                → Going code k start l m₀ o b m′ r at′
+            pub level-tried : {at′ : ℕ} → at′ ≡ nextCursor (m .w) (m .r) (k .n) b (o .counts .records) high at → r .code ≡ 0 → Long m m′
+                → Going code k start l m₀ o b high m′ r at′
             level-tried x z long = record {
               block = g .block;
+              top = g .top;
               unrefused = z;
               energy = tried .energy z;
               long = long-then (g .long) long;
-              half = λ t since f. half-tried f (pre .stands) (g .block) (g .half t since f) d (is-live t since f ∙ mark) (rw s at p) (rw s at tried) x z;
+              half = λ t since f. half-tried f (pre .stands) (g .block) (g .top) (g .half t since f) d (is-live t since f ∙ mark) (rw s at p) (rw s at tried) x z;
             }

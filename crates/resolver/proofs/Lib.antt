@@ -4,9 +4,6 @@ pub mod SixLengths
 pub mod LevelKept
 pub mod TurnKept
 pub mod PathEnds
-pub mod StepsFourToSix
-pub mod FollowWays
-pub mod StepsTwoAndThree
 pub mod LevelByParents
 pub mod CountsAlone
 pub mod ParentAtCursor
@@ -17,10 +14,8 @@ pub mod WorkKept
 pub mod TakerRow
 pub mod TurnBegins
 pub mod TurnDone
-pub mod RoundLoop
 pub mod Batching
 pub mod SettleLoop
 pub mod AfterSettle
 pub mod RoundsLoop
-pub mod SearchBegins
 pub mod Once

@@ -1,25 +1,30 @@
 -- The contract of `search` leaves no choice but in what docs/PROOFS.md lists: two results of one call have the same number, and where it is 0 the same
 -- energy and counts, and the same bytes where the records, their links and W's rows stand. Assumes nothing.
 use mathlib.Core.Path.{_≡_, refl, sym, ap, _∙_}
-use mathlib.Core.Bool.{_||_}
+use mathlib.Core.Bool.{true, _||_}
 use mathlib.Core.List.{List}
 use Prim.Native.Nat.{ℕ, _+_, _≤_}
+use native.Mathlib.Omega.{arith}
+use lib.Dec.{ltb}
 use lib.ListN.{length, take, drop}
+use borrow.Author.Tests.{ltb-true, lt-ltb, le-leb}
 use Rattle.spec.specs.Opcodes.{in-mode}
 use Rattle.spec.specs.Lists.{mem, total}
 use Rattle.spec.specs.Search.{Rec, kept, begin, dests, reached-by}
 use Rattle.spec.specs.Answer.{prepared}
 use Rattle.spec.specs.Rooms.{Lent, work-need}
+use Rattle.laws.proofs.Members.{and-both, and-true}
 use Rattle.lent.proofs.Once.{Same, same-num}
 use Rattle.layout.specs.Buffers.{Mem}
-use Rattle.layout.specs.Fields.{COUNT, countAt}
+use Rattle.layout.specs.Fields.{COUNT, HIGHEST, markAt, highAt, countAt}
 use Rattle.layout.specs.Parts.{fieldsPlace, SameRows}
-use Rattle.state.specs.Modes.{modeOf}
-use Rattle.state.specs.declared.mode.Mode.{Mode}
+use Rattle.exec.specs.Modes.{modeOf}
+use Rattle.exec.specs.declared.mode.Mode.{Mode}
 use Rattle.tables.specs.declared.Counts.{Counts}
 use Rattle.tables.proofs.Counted.{recs-length, recs-addresses, recs-kept-cells}
 use Rattle.tables.proofs.Alike.{AllBytes, AllLong, OneTables, one-tables}
 use Rattle.reachable.specs.Marks.{flagged, markedBy}
+use Rattle.reachable.proofs.Raising.{highest-once}
 use Rattle.steps.specs.Runs.{tabled, recsIn}
 use Rattle.steps.specs.declared.Run.{Run}
 use Rattle.resolver.specs.Turns.{last-since, plan, Searched}
@@ -31,9 +36,16 @@ pub record OneSearch (mode : Mode) (code : List ℕ) (limit head : ℕ) (m m′ 
   pub tables : OneTables (length code) (plan mode code limit head m .buckets) (plan mode code limit head m .rooms) (d .counts) (tabled m′) (tabled m″)
   pub rows : SameRows (length code) (m″ .w) (m′ .w)
   pub counts : (a : ℕ) → a ≤ length code → Same (m′ .w) (m″ .w) (fieldsPlace (length code) a + COUNT) 4
+  pub highest : (a : ℕ) → a ≤ length code → Same (m′ .w) (m″ .w) (fieldsPlace (length code) a + HIGHEST) 2
   pub beyond : drop (work-need (length code)) (m′ .w) ≡ drop (work-need (length code)) (m″ .w)
   pub flags : (x : ℕ) → mem x (flagged (m′ .w) (length code)) ≡ mem x (flagged (m″ .w) (length code))
   pub reached : (a : ℕ) → a ≤ length code → markedBy (m′ .w) (length code) a (d .counts .records + 1) ≡ markedBy (m″ .w) (length code) a (d .counts .records + 1)
+
+-- an address has a mark that is no later, or none
+marked-too : (w v : List ℕ) (n a records : ℕ) → markAt w n a ≤ records + 1 → markedBy w n a (records + 1) ≡ markedBy v n a (records + 1) → (markAt w n a ≡ 0 → ⊥) → markAt v n a ≡ 0 → ⊥
+marked-too w v n a records l e ne z =
+    let on : markedBy w n a (records + 1) ≡ true = and-true (ltb 0 (markAt w n a)) _ (lt-ltb 0 (markAt w n a) (omega arith)) (le-leb (markAt w n a) (records + 1) l) in
+    omega (arith, ltb-true 0 (markAt v n a) (and-both (ltb 0 (markAt v n a)) _ (sym e ∙ on) .0))
 
 module _ {mode : Mode} {code : List ℕ} {limit head : ℕ} {m m′ m″ : Mem} {d e : Run} (f : Searched mode code limit head m m′ d) (g : Searched mode code limit head m m″ e) where
   pub one-code : d .code ≡ e .code
@@ -89,6 +101,20 @@ module _ {mode : Mode} {code : List ℕ} {limit head : ℕ} {m m′ m″ : Mem} 
         ∙ sym (g .reached other a h)
         ∙ ap (λ (c : Counts). markedBy (m″ .w) (length code) a (c .records + 1)) (sym one-counts)
 
+    -- so the same addresses are marked, and the highest parents are the same
+    few : (a : ℕ) → a ≤ length code → markAt (m′ .w) (length code) a ≤ d .counts .records + 1
+    few a h = omega (arith, f .between z .idle .marks .most a h, recs-length (m′ .r) (m′ .q) (m′ .s) (plan mode code limit head m .rooms .s) (d .counts .records))
+
+    few-other : (a : ℕ) → a ≤ length code → markAt (m″ .w) (length code) a ≤ d .counts .records + 1
+    few-other a h =
+        omega (arith, ap (λ (c : Counts). c .records) one-counts, g .between other .idle .marks .most a h, recs-length (m″ .r) (m″ .q) (m″ .s) (plan mode code limit head m .rooms .s) (e .counts .records))
+
+    one-highest : (a : ℕ) → a ≤ length code → highAt (m′ .w) (length code) a ≡ highAt (m″ .w) (length code) a
+    one-highest =
+        highest-once (f .rows z ∙ sym (g .rows other)) (λ x h. marked-too (m′ .w) (m″ .w) (length code) x (d .counts .records) (few x h) (one-reached x h))
+        (λ x h. marked-too (m″ .w) (m′ .w) (length code) x (d .counts .records) (few-other x h) (sym (one-reached x h)))
+        (f .between z .idle .marks .high) (g .between other .idle .marks .high)
+
     -- a slice keeps its length, and holds bytes
     pub one-searched : AllBytes (tabled m′) → AllBytes (tabled m″) → AllLong (tabled m′) (tabled m″) → OneSearch mode code limit head m m′ m″ d e
     one-searched a b long =
@@ -98,6 +124,7 @@ module _ {mode : Mode} {code : List ℕ} {limit head : ℕ} {m m′ m″ : Mem} 
           tables = one-tables a b long (f .between z .idle .tables) (rw (sym one-counts) at (g .between other .idle .tables)) same-recs;
           rows = f .rows z ∙ sym (g .rows other);
           counts = λ x h. same-num (a .w) (b .w) (long .w) 4 (fieldsPlace (length code) x + COUNT) (none-on-path x h);
+          highest = λ x h. same-num (a .w) (b .w) (long .w) 2 (fieldsPlace (length code) x + HIGHEST) (one-highest x h);
           beyond = f .beyond z ∙ sym (g .beyond other);
           flags = one-flags;
           reached = one-reached;

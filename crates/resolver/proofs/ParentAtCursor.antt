@@ -8,7 +8,7 @@ use lib.ListN.{length}
 use Rattle.spec.specs.Search.{Parent, Rec}
 use Rattle.spec.specs.Rooms.{longest}
 use Rattle.layout.specs.Buffers.{Mem}
-use Rattle.state.specs.Modes.{modeOf}
+use Rattle.exec.specs.Modes.{modeOf}
 use Rattle.tables.specs.declared.Counts.{Counts}
 use Rattle.steps.specs.Cursors.{pathCursor, stackCursor}
 use Rattle.steps.specs.Sound.{SoundStack, SoundRecs}
@@ -21,8 +21,8 @@ use Rattle.steps.proofs.Sound.{sound-own}
 abbrev Sound : List ℕ → Plan → Mem → ℕ → Type 0
 Sound code k m at = SoundStack (k .n) (length (pathCursor (m .r) (m .q) at)) (stackCursor (modeOf (k .mode)) code (m .r) (m .s) (k .rooms .s) at)
 
-module _ {code : List ℕ} (k : Plan) (m : Mem) (c : Counts) {b opened at : ℕ} {rs : List Rec} {ps : List Parent} (is : k .n ≡ length code) (short : k .n ≤ longest)
-    (sound : SoundRecs (k .n) rs) (x : NextLeft (modeOf (k .mode)) code (m .w) (m .r) (m .q) (m .s) (k .n) b opened (k .rooms .s) (c .records) rs at ps) where
+module _ {code : List ℕ} (k : Plan) (m : Mem) (c : Counts) {b opened high at : ℕ} {rs : List Rec} {ps : List Parent} (is : k .n ≡ length code) (short : k .n ≤ longest)
+    (sound : SoundRecs (k .n) rs) (x : NextLeft (modeOf (k .mode)) code (m .w) (m .r) (m .q) (m .s) (k .n) b opened high (k .rooms .s) (c .records) rs at ps) where
   -- a direct one's stack is a block's own
   sound-direct : at < 0x10000 → Sound code k m at
   sound-direct l = rw (x .direct l .path, direct-stack at l (modeOf (k .mode)) code (m .r) (m .s) (k .rooms .s), is) (sound-own (modeOf (k .mode)) code (omega (arith, is)) _)

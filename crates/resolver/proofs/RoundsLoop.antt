@@ -20,7 +20,7 @@ use Rattle.layout.specs.Buffers.{Mem, buffers}
 use Rattle.tables.proofs.Counted.{recs-length}
 use Rattle.steps.specs.Runs.{recsIn, stOf, Did}
 use Rattle.resolver.specs.Fits.{preparedIn}
-use Rattle.resolver.specs.Turns.{Idle, Passed, Between, RoundAsks, Rounded, Settles, Settled, last-since, Reached, Rounds}
+use Rattle.resolver.specs.Turns.{Idle, Passed, Between, RoundAsks, Rounded, HandsOver, HandedAll, last-since, Reached, Rounds}
 use Rattle.steps.specs.declared.Plan.{Plan}
 use Rattle.steps.specs.declared.Run.{Run}
 use Rattle.resolver.proofs.AfterSettle.{renew-settles, renew-flags, renewed}
@@ -126,10 +126,10 @@ module _ {code : List ℕ} {k : Plan} {m₀ : Mem} {o : Run} {m : Mem} {cur : Ru
 
 module _ {code : List ℕ} {k : Plan} {m₀ : Mem} {o : Run} {w p s t r q : List ℕ} {cur : Run} {since left : ℕ}
     (g : Rolling code k m₀ o (buffers w p s t r q) cur since left) where
-  pub roll-settles : Settles (k .n) w r since (cur .counts .records)
+  pub roll-settles : HandsOver (k .n) w r since (cur .counts .records)
   roll-settles = renew-settles (g .between .idle) (g .between .flags)
 
-  module _ {w₁ : List ℕ} (e : Settled (k .n) w r since (cur .counts .records) w₁) where
+  module _ {w₁ : List ℕ} (e : HandedAll (k .n) w r since (cur .counts .records) w₁) where
     abbrev recs : List Rec
     recs = recsIn k (buffers w p s t r q) (cur .counts)
 

@@ -10,15 +10,15 @@ use Rattle.laws.proofs.Members.{in-mem, mem-in, in-right}
 use Rattle.theorems.proofs.Reached.{seed, closure-complete}
 use Rattle.reachable.specs.Marks.{flagged}
 use Rattle.reachable.specs.Edges.{rowEdges}
-use Rattle.reachable.specs.Contracts.{Closed, Kept, Sets}
+use Rattle.reachable.specs.Contracts.{Closed, KeptBut, Highest, Sets}
 use Rattle.reachable.proofs.Tests.{mem-append}
 use Rattle.reachable.proofs.Seeds.{closure-members}
-use Rattle.reachable.proofs.Frames.{kept-none, kept-after}
+use Rattle.reachable.proofs.Frames.{kept-none, kept-but, but-after}
 use Rattle.reachable.proofs.Rows.{edges-kept}
 use Rattle.reachable.proofs.Entering.{sets-none, sets-after}
 use Rattle.reachable.proofs.Expanding.{expand-round}
-use Rattle.reachable.proofs.Spreading.{room-kept, within-kept}
-use Rattle.resolver.specs.Turns.{Settles, destsFrom, Settled}
+use Rattle.reachable.proofs.Spreading.{room-but, within-but}
+use Rattle.resolver.specs.Turns.{HandsOver, destsFrom, HandedAll}
 use Rattle.resolver.specs.Batches.{HandedOver}
 use Rattle.resolver.proofs.Batching.{destAt, dests-more, closed-own}
 
@@ -36,15 +36,16 @@ dests-split r i m (suc j) =
 
 -- the destinations from `since` to i are expanded
 pub record Settling (n : ℕ) (w r : List ℕ) (since records i : ℕ) (w′ : List ℕ) : Type 0 where
-  pub asks : Settles n w r since records
+  pub asks : HandsOver n w r since records
   pub from : since ≤ i
   pub most : i ≤ records
   pub reached : (x : ℕ) → mem x (flagged w′ n) ≡ mem x (closure (rowEdges w n) (destsFrom r since (i - since) ++ flagged w n))
   pub sets : Sets n (records + 1) w w′
   pub closed : Closed w′ n
-  pub kept : Kept n w w′
+  pub high : Highest n w′
+  pub kept : KeptBut n w w′
 
-pub settle-start : {n since records : ℕ} {w r : List ℕ} → Settles n w r since records → Settling n w r since records since w
+pub settle-start : {n since records : ℕ} {w r : List ℕ} → HandsOver n w r since records → Settling n w r since records since w
 unfolding destsFrom
 settle-start {n} {since} {records} {w} {r} a =
     let e : since - since ≡ 0 = omega arith in
@@ -55,15 +56,17 @@ settle-start {n} {since} {records} {w} {r} a =
       reached = λ x. rw e (closed-own (a .closed) x);
       sets = sets-none n (records + 1) w;
       closed = a .closed;
-      kept = kept-none;
+      high = a .high;
+      kept = kept-but kept-none;
     }
 
 module _ {n since records i : ℕ} {w r w′ : List ℕ} (s : Settling n w r since records i w′) (l : i < records) where
-  pub settle-hands : Settles n w′ r i records
+  pub settle-hands : HandsOver n w′ r i records
   settle-hands = record {
-    lent = room-kept (s .kept) (s .asks .lent);
-    within = within-kept (s .kept) (s .asks .within);
+    lent = room-but (s .kept) (s .asks .lent);
+    within = within-but (s .kept) (s .asks .within);
     closed = s .closed;
+    high = s .high;
     order = s .most;
     inR = s .asks .inR;
     few = s .asks .few;
@@ -78,7 +81,8 @@ module _ {n since records i : ℕ} {w r w′ : List ℕ} (s : Settling n w r sin
     reached = λ y. onto y ∙ closure-members es (batch ++ seeds) (destsFrom r since (next - since) ++ flagged w n) members y;
     sets = sets-after before after (s .sets) (x .expanded .sets);
     closed = x .expanded .closed;
-    kept = kept-after (s .kept) (x .expanded .kept);
+    high = x .expanded .high;
+    kept = but-after (s .kept) (x .expanded .kept);
   }
     where
       es : List Edge
@@ -122,7 +126,7 @@ module _ {n since records i : ℕ} {w r w′ : List ℕ} (s : Settling n w r sin
       after : (y : ℕ) → mem y (flagged w′ n) ≡ true → mem y (flagged w″ n) ≡ true
       after y p = x .expanded .reached y ∙ closure-complete (rowEdges w′ n) (batch ++ flagged w′ n) y (seed (in-mem y (in-right batch (mem-in y (flagged w′ n) p))))
 
-pub settle-done : {n since records i : ℕ} {w r w′ : List ℕ} → Settling n w r since records i w′ → records ≤ i → Settled n w r since records w′
+pub settle-done : {n since records i : ℕ} {w r w′ : List ℕ} → Settling n w r since records i w′ → records ≤ i → HandedAll n w r since records w′
 settle-done {records = records} {i} s l =
     let e : i ≡ records = omega (arith, s .most) in
-    record { reached = rw e at (s .reached); marks = s .sets .marks; closed = s .closed; kept = s .kept }
+    record { reached = rw e at (s .reached); marks = s .sets .marks; closed = s .closed; high = s .high; kept = s .kept }

@@ -17,10 +17,10 @@ use Rattle.lent.proofs.Stored.{kept-drop, read-back}
 use Rattle.layout.specs.Parts.{ROW, rowPlace, rowsEnd}
 use Rattle.layout.specs.Rows.{POSITION, positionAt}
 use Rattle.layout.specs.Buffers.{Mem, buffers}
-use Rattle.state.specs.Modes.{modeOf}
+use Rattle.exec.specs.Modes.{modeOf}
 use Rattle.state.specs.Cells.{Lies}
-use Rattle.state.specs.Owns.{Runs, Owned}
-use Rattle.state.specs.declared.run.Own.{Own}
+use Rattle.exec.specs.Owns.{Runs, Owned}
+use Rattle.exec.specs.declared.run.Own.{Own}
 use Rattle.state.proofs.States.{lies-copied, lies-count, own-walked}
 use Rattle.tables.specs.Addrs.{addrs}
 use Rattle.tables.specs.Rows.{metOf, usedOf}

@@ -17,9 +17,9 @@ use Rattle.theorems.proofs.Older.{clear}
 use Rattle.lent.proofs.Parts.{drop-more}
 use Rattle.layout.specs.Parts.{listPlace, SameRows}
 use Rattle.layout.specs.Buffers.{Mem, buffers}
-use Rattle.state.specs.Modes.{modeOf}
-use Rattle.state.specs.Owns.{Runs, Owned}
-use Rattle.state.specs.declared.run.Own.{Own}
+use Rattle.exec.specs.Modes.{modeOf}
+use Rattle.exec.specs.Owns.{Runs, Owned}
+use Rattle.exec.specs.declared.run.Own.{Own}
 use Rattle.tables.specs.Addrs.{addrs}
 use Rattle.tables.specs.Rows.{metOf, Shelves}
 use Rattle.tables.specs.Mets.{Emptied}

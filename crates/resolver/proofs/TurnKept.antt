@@ -3,17 +3,20 @@ use mathlib.Core.Path.{_≡_, refl, sym, ap, _∙_}
 use mathlib.Core.Logic.{_⊎_, inl, inr}
 use Prim.Native.Nat.{ℕ, _+_, _-_, _≤_}
 use native.Mathlib.Omega.{arith}
-use mathlib.Core.List.{List, [], _∷_, _++_}
+use mathlib.Core.List.{List, [], _∷_, _++_, map}
 use lib.ListN.{length, take}
 use Rattle.spec.specs.Stacks.{Stack, cells}
-use Rattle.spec.specs.Search.{Found, Rec, Turn}
-use Rattle.laws.proofs.Members.{In, in-cases, in-only}
+use Rattle.spec.specs.Opcodes.{in-mode}
+use Rattle.spec.specs.Blocks.{Block}
+use Rattle.spec.specs.Search.{Found, Node, parent, sides, Rec, Turn}
+use Rattle.spec.specs.Answer.{prepared}
+use Rattle.laws.proofs.Members.{In, in-cases, in-only, in-map, gather-in, map-in}
 use Rattle.lent.proofs.Parts.{take-less, drop-more}
 use Rattle.lent.proofs.Numbers.{num-prefix}
-use Rattle.layout.specs.Fields.{FIRST-FOUND, LAST-FOUND, COUNT, FLAG}
+use Rattle.layout.specs.Fields.{FIRST-FOUND, LAST-FOUND, HIGHEST, FLAG}
 use Rattle.layout.specs.Parts.{rowsEnd, fieldsPlace, bucketPlace, SameRows}
 use Rattle.layout.specs.Buffers.{Mem, buffers}
-use Rattle.state.specs.Owns.{roomOf}
+use Rattle.exec.specs.Owns.{roomOf}
 use Rattle.tables.specs.Addrs.{addrs}
 use Rattle.tables.specs.Records.{recsOf}
 use Rattle.tables.specs.Rows.{metOf, usedOf}
@@ -21,11 +24,15 @@ use Rattle.tables.specs.Tables.{mem, recs, SameLinks}
 use Rattle.tables.specs.Mets.{Remembers, Packs, Memorized}
 use Rattle.tables.specs.declared.Rooms.{Rooms}
 use Rattle.tables.specs.declared.Counts.{Counts}
-use Rattle.tables.specs.declared.Answer.{Answer}
+use Rattle.tables.specs.declared.Reply.{Reply}
 use Rattle.tables.specs.declared.row.Seen.{Seen}
 use Rattle.tables.proofs.Uses.{tables-kept, recs-stay}
 use Rattle.tables.proofs.Turns.{mets-kept, remembers-kept}
-use Rattle.parents.proofs.Knows.{known-prefix}
+use Rattle.parents.specs.Contracts.{Known}
+use Rattle.parents.proofs.Knows.{direct-within, known-prefix}
+use Rattle.initial.specs.Rows.{blocksAt}
+use Rattle.reachable.specs.Contracts.{SidesWithin}
+use Rattle.reachable.proofs.Within.{blocks-within}
 use Rattle.reachable.proofs.Flags.{flagged-same}
 use Rattle.reachable.proofs.Frames.{num-in}
 use Rattle.steps.specs.Sound.{SoundRec}
@@ -50,6 +57,23 @@ links-prefix n buckets {w} {w′} k h e long = record {
   heads = λ b l. num-prefix w′ w k e 4 (bucketPlace n b) (omega arith);
   long = long;
 }
+
+-- ---- sides
+
+-- the rows' blocks have their sides in the code
+pub known-within : {mode : ℕ} {code w : List ℕ} {head : ℕ} → Known mode code w head → SidesWithin w (length code)
+known-within {mode} {code} {w} k = blocks-within w (length code) side
+  where
+    side : (b : Block) (t : ℕ) → In b (blocksAt w (length code)) → In t (sides (b .kind)) → t ≤ length code
+    side b t i j =
+        let g = in-map (λ (x : Node). x .block) (prepared (in-mode mode) code) (rw (k .blocks) at i) in
+        let there : In t (sides (g .0 .block .kind)) = rw (g .2) at j in
+        direct-within mode code {p = parent t (g .0 .block .start ∷ []) (g .0 .own .stack)}
+        (gather-in (λ (x : Node). map (λ (u : ℕ). parent u (x .block .start ∷ []) (x .own .stack)) (sides (x .block .kind))) (g .1)
+        (map-in (λ (u : ℕ). parent u (g .0 .block .start ∷ []) (g .0 .own .stack)) there))
+
+pub fits-within : {code : List ℕ} {k : Plan} {t : Turn} {since start : ℕ} {m : Mem} {c : Counts} → Fits code k t since start m c → SidesWithin (m .w) (k .n)
+fits-within f = rw (f .planned .is) (known-within (f .known))
 
 -- ---- the plan, by the lengths
 
@@ -127,7 +151,10 @@ module _ {code : List ℕ} {k : Plan} {t : Turn} {since start : ℕ} {w p s T r 
       packs = f .packs;
       known = known-prefix w′ (rw (← f .planned .is) (sym taken-rows)) (f .known);
       began = f .began;
-      marks = rw taken-recs (marks-kept (f .marks) (λ a h. num-prefix w′ w (k .end - roomOf code) (o .front) 4 (fieldsPlace (k .n) a) (omega (arith, f .planned .scratch))));
+      marks =
+          rw taken-recs
+          (marks-kept (f .marks) taken-rows (λ a h. num-prefix w′ w (k .end - roomOf code) (o .front) 4 (fieldsPlace (k .n) a) (omega (arith, f .planned .scratch)))
+          (λ a h. num-prefix w′ w (k .end - roomOf code) (o .front) 2 (fieldsPlace (k .n) a + HIGHEST) (omega (arith, f .planned .scratch))));
       sound = rw taken-recs (f .sound);
     }
 
@@ -148,7 +175,7 @@ module _ {code : List ℕ} {k : Plan} {t : Turn} {since start : ℕ} {w p s T r 
 
   -- ---- a row more
 
-  module _ {x : Seen} {T′ : List ℕ} {a : Answer} (o : Memorized (k .shelves) (k .rooms) T s c x T′ a) (z : a .code ≡ 0) (room : c .kept + c .used + x .cells ≤ k .rooms .s) where
+  module _ {x : Seen} {T′ : List ℕ} {a : Reply} (o : Memorized (k .shelves) (k .rooms) T s c x T′ a) (z : a .code ≡ 0) (room : c .kept + c .used + x .cells ≤ k .rooms .s) where
     pub fits-met : Fits code k t since start (buffers w p s T′ r q) (a .counts)
     fits-met = record {
       planned = planned-long w p s T′ r q (f .planned) refl refl;
@@ -178,7 +205,7 @@ module _ {code : List ℕ} {k : Plan} {t : Turn} {since start : ℕ} {w p s T r 
 
   -- ---- what a path ends in
 
-  module _ {np energy : ℕ} {x : Found} {w′ r′ q′ s′ : List ℕ} {a : Answer} (o : Noted p np k (mem w r q s) c start energy x (mem w′ r′ q′ s′) a) where
+  module _ {np energy : ℕ} {x : Found} {w′ r′ q′ s′ : List ℕ} {a : Reply} (o : Noted p np k (mem w r q s) c start energy x (mem w′ r′ q′ s′) a) where
     noted-more : c .records ≤ a .counts .records
     noted-more = more (o .grows)
       where
@@ -220,7 +247,7 @@ module _ {code : List ℕ} {k : Plan} {t : Turn} {since start : ℕ} {w p s T r 
       path = refl;
       bottom = o .around .bottom;
       rows = o .around .front;
-      flags = flagged-same w w′ (k .n) (λ a h. num-in w′ w 8 (fieldsPlace (k .n) a + COUNT) (o .around .rests a h) 1 (fieldsPlace (k .n) a + FLAG) (omega arith) (omega arith));
+      flags = flagged-same w w′ (k .n) (λ a h. num-in w′ w 2 (fieldsPlace (k .n) a + FLAG) (o .around .flags a h) 1 (fieldsPlace (k .n) a + FLAG) (omega arith) (omega arith));
       beyond = drop-more w′ w (bucketPlace (k .n) (k .buckets)) (o .around .back) (k .end) (omega (arith, f .planned .scratch));
       uses = omega (arith, o .used);
       more = noted-more;

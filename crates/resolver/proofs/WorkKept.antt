@@ -8,24 +8,27 @@ use Rattle.spec.specs.Search.{Rec}
 use Rattle.lent.specs.Bytes.{numAt}
 use Rattle.lent.proofs.Numbers.{num-prefix, num-suffix, num-within}
 use Rattle.lent.proofs.Parts.{take-less}
-use Rattle.layout.specs.Fields.{SPARE, FLAG, markAt, flagAt}
-use Rattle.layout.specs.Parts.{rowsEnd, fieldsPlace, listPlace, bucketPlace, SameRows}
-use Rattle.state.specs.Owns as owns
-use Rattle.state.specs.Owns.{roomOf}
+use Rattle.layout.specs.Fields.{HIGHEST, markAt, highAt}
+use Rattle.layout.specs.Parts.{ROW, rowsEnd, fieldsPlace, listPlace, bucketPlace, SameRows}
+use Rattle.exec.specs.Owns as owns
+use Rattle.exec.specs.Owns.{roomOf}
 use Rattle.tables.specs.Tables.{SameLinks}
 use Rattle.parents.specs.Contracts.{Known}
 use Rattle.parents.proofs.Knows.{known-prefix}
 use Rattle.reachable.specs.Marks.{flagged}
 use Rattle.reachable.specs.Contracts.{Room}
 use Rattle.reachable.proofs.Flags.{flagged-same}
+use Rattle.reachable.proofs.Frames.{num-in}
 use Rattle.steps.specs.Paths.{OnPath, CountsOnly}
 use Rattle.steps.specs.Lands.{Marks}
+use Rattle.steps.proofs.Lands.{marks-kept}
 
--- the rows, the records' links, the marks and the flags are the same
+-- the rows, the records' links, the marks, the highest parents and the flags are the same
 pub record Alike (n buckets : ℕ) (w w′ : List ℕ) : Type 0 where
   pub rows : SameRows n w w′
   pub links : SameLinks n buckets w w′
   pub marks : (a : ℕ) → a ≤ n → markAt w′ n a ≡ markAt w n a
+  pub highs : (a : ℕ) → a ≤ n → highAt w′ n a ≡ highAt w n a
   pub flags : flagged w′ n ≡ flagged w n
 
 pub alike-then : {n buckets : ℕ} {w w₁ w₂ : List ℕ} → Alike n buckets w w₁ → Alike n buckets w₁ w₂ → Alike n buckets w w₂
@@ -39,6 +42,7 @@ alike-then a b =
         long = b .links .long ∙ a .links .long;
       };
       marks = λ x h. b .marks x h ∙ a .marks x h;
+      highs = λ x h. b .highs x h ∙ a .highs x h;
       flags = b .flags ∙ a .flags;
     }
 
@@ -52,10 +56,8 @@ module _ {n : ℕ} {w w′ : List ℕ} (c : CountsOnly n w w′) where
   field : (a : ℕ) → a ≤ n → (k o : ℕ) → o + k ≤ 12 → {i : ℕ} → i ≡ fieldsPlace n a + o → numAt k w′ i ≡ numAt k w i
   field a h k o l e = rw e (early a h k o l)
 
-  flag : (a : ℕ) → a ≤ n → flagAt w′ n a ≡ flagAt w n a
-  flag a h =
-      let e : fieldsPlace n a + FLAG ≡ fieldsPlace n a + SPARE + 2 = omega arith in
-      rw e (num-within w′ w 4 (fieldsPlace n a + SPARE) (fieldsPlace n a + SPARE) (c .after a h) 1 2 (omega arith))
+  late : (a : ℕ) → a ≤ n → (k i : ℕ) → fieldsPlace n a + HIGHEST ≤ i → i + k ≤ fieldsPlace n a + ROW → numAt k w′ i ≡ numAt k w i
+  late a h k i lo hi = num-in w′ w 4 (fieldsPlace n a + HIGHEST) (c .after a h) k i lo (omega arith)
 
   pub alike-counts : (buckets : ℕ) → Alike n buckets w w′
   alike-counts buckets =
@@ -68,7 +70,8 @@ module _ {n : ℕ} {w w′ : List ℕ} (c : CountsOnly n w w′) where
           long = c .long;
         };
         marks = λ a h. field a h 4 0 (omega arith) (omega arith);
-        flags = flagged-same w w′ n flag;
+        highs = λ a h. late a h 2 _ (omega arith) (omega arith);
+        flags = flagged-same w w′ n (λ a h. late a h 1 _ (omega arith) (omega arith));
       }
 
 -- ---- another part for runs
@@ -88,6 +91,7 @@ module _ (n buckets : ℕ) {code : List ℕ} {end : ℕ} {w w′ : List ℕ} (i 
           long = i .kept;
         };
         marks = λ a h. low 4 _ (omega arith);
+        highs = λ a h. low 2 _ (omega arith);
         flags = flagged-same w w′ n (λ a h. low 1 _ (omega arith));
       }
 
@@ -99,7 +103,7 @@ module _ (n buckets : ℕ) {code : List ℕ} {end : ℕ} {w w′ : List ℕ} (i 
 
 module _ {n buckets : ℕ} {w w′ : List ℕ} (e : Alike n buckets w w′) where
   pub alike-marks : {reached : List ℕ} {since : ℕ} {rs : List Rec} → Marks n w reached since rs → Marks n w′ reached since rs
-  alike-marks m = record { by = λ j s l a h. rw (e .marks a h) (m .by j s l a h); most = λ a h. rw (e .marks a h) (m .most a h) }
+  alike-marks m = marks-kept m (e .rows) (e .marks) (e .highs)
 
   pub alike-known : {mode : ℕ} {code : List ℕ} {head : ℕ} → n ≡ length code → Known mode code w head → Known mode code w′ head
   alike-known is k = known-prefix w′ (sym (rw is at (e .rows))) k

@@ -22,9 +22,10 @@ use Rattle.tables.specs.Tables as tables
 use Rattle.tables.specs.Tables.{Ready, noEntry}
 use Rattle.tables.specs.Recording.{Lends}
 use Rattle.tables.specs.declared.Counts.{Counts}
-use Rattle.tables.specs.declared.Answer.{Answer}
+use Rattle.tables.specs.declared.Reply.{Reply}
+use Rattle.tables.specs.declared.Entry.{Entry}
 use Rattle.tables.specs.declared.row.Seen.{Seen}
-use Rattle.reachable.specs.Contracts.{Room, Address}
+use Rattle.reachable.specs.Contracts.{Room, Address, SidesWithin}
 use Rattle.steps.specs.Paths.{OnPath}
 use Rattle.steps.specs.Lands.{Noted}
 use Rattle.steps.specs.Runs.{stOf, Did}
@@ -43,7 +44,7 @@ afterWith o code counts = record { code = code; energy = o .energy; counts = cou
 abbrev pub shutWith : Run → Level → Opening
 shutWith o l = record { opens = false; run = o; level = l }
 
-abbrev pub endedWith : Run → Answer → Level → Opening
+abbrev pub endedWith : Run → Reply → Level → Opening
 endedWith o a l = shutWith (afterWith o (a .code) (a .counts)) l
 
 abbrev pub openWith : Run → ℕ → ℕ → Seen → Level → Opening
@@ -107,8 +108,16 @@ pub data Ends (s : Stack) : Sym → Found → Type 0 where
   at-constant : {v : ℕ} → Ends s (constant v) nowhere
   at-other : {pc : ℕ} → Ends s (other pc) nowhere
 
+-- what is recorded of a path that ends in the symbol c
+unfoldable pub entryOf : ℕ → Seen → ℕ → Sym → Entry
+entryOf start x energy (before n) = noEntry start energy
+entryOf start x energy (constant v) = noEntry start energy
+entryOf start x energy (jumpdest t) = record { start = start; to = t; from = x .from; cells = x .cells; energy = energy }
+entryOf start x energy (other pc) = noEntry start energy
+
 pub record Arriving (p : List ℕ) (np : ℕ) (k : Plan) (m : tables.Mem) (start : ℕ) (l : Level) (x : Seen) (o : Run) : Type 0 where
   pub lent : Room (k .n) (m .w)
+  pub within : SidesWithin (m .w) (k .n)
   pub ready : Ready p np (k .n) (k .buckets) (k .rooms) m (o .counts) (noEntry start (o .energy))
   pub state : State (m .s) (9 * x .from) (x .cells)
   pub inside : x .from + x .cells ≤ o .counts .used

@@ -12,9 +12,9 @@ use Rattle.layout.specs.Parts.{bucketPlace, SameRows}
 use Rattle.layout.specs.Records.{toAt}
 use Rattle.layout.specs.Rows.{startOf}
 use Rattle.layout.specs.Buffers.{Mem}
-use Rattle.state.specs.Modes.{modeOf}
+use Rattle.exec.specs.Modes.{modeOf}
 use Rattle.state.specs.Cells.{stackAt, State}
-use Rattle.state.specs.Owns.{roomOf}
+use Rattle.exec.specs.Owns.{roomOf}
 use Rattle.tables.specs.Addrs.{addrs}
 use Rattle.tables.specs.Tables.{Tables}
 use Rattle.tables.specs.Mets.{Remembers, Packs}

@@ -21,16 +21,16 @@ use Rattle.layout.specs.Parts.{bucketsOf, SameRows}
 use Rattle.layout.specs.Records.{recordPlace, toAt}
 use Rattle.layout.specs.Rows.{positionAt}
 use Rattle.layout.specs.Buffers.{Mem}
-use Rattle.state.specs.Modes.{modeOf}
-use Rattle.state.specs.declared.mode.Mode.{Mode}
-use Rattle.state.specs.declared.run.Own.{Own}
+use Rattle.exec.specs.Modes.{modeOf}
+use Rattle.exec.specs.declared.mode.Mode.{Mode}
+use Rattle.exec.specs.declared.run.Own.{Own}
 use Rattle.tables.specs.Tables.{Tables}
 use Rattle.tables.specs.Mets.{Remembers}
 use Rattle.tables.specs.declared.Rooms.{Rooms}
 use Rattle.parents.specs.Contracts.{Known, Number}
 use Rattle.reachable.specs.Marks.{flagged, markedBy}
 use Rattle.reachable.specs.Edges.{rowEdges}
-use Rattle.reachable.specs.Contracts.{Room, SidesWithin, Closed, Kept}
+use Rattle.reachable.specs.Contracts.{Room, SidesWithin, Closed, KeptBut, Highest}
 use Rattle.steps.specs.Paths.{OnPath, Counted}
 use Rattle.steps.specs.Sound.{SoundRecs}
 use Rattle.steps.specs.Lands.{Marks}
@@ -126,10 +126,11 @@ Rounded code k m o m′ d =
 
 -- ---- what is reached when a round begins
 
-pub record Settles (n : ℕ) (w r : List ℕ) (since records : ℕ) : Type 0 where
+pub record HandsOver (n : ℕ) (w r : List ℕ) (since records : ℕ) : Type 0 where
   pub lent : Room n w
   pub within : SidesWithin w n
   pub closed : Closed w n
+  pub high : Highest n w
   pub order : since ≤ records
   pub inR : recordPlace records ≤ length r
   pub few : records ≤ 1073741824
@@ -140,11 +141,12 @@ unfoldable pub destsFrom : List ℕ → ℕ → ℕ → List ℕ
 destsFrom r i zero = []
 destsFrom r i (suc m) = if (eqb (toAt r i) NOWHERE) (destsFrom r (suc i) m) (toAt r i ∷ destsFrom r (suc i) m)
 
-pub record Settled (n : ℕ) (w r : List ℕ) (since records : ℕ) (w′ : List ℕ) : Type 0 where
+pub record HandedAll (n : ℕ) (w r : List ℕ) (since records : ℕ) (w′ : List ℕ) : Type 0 where
   pub reached : (x : ℕ) → mem x (flagged w′ n) ≡ mem x (closure (rowEdges w n) (destsFrom r since (records - since) ++ flagged w n))
   pub marks : (x : ℕ) → x ≤ n → markAt w′ n x ≡ if (mem x (flagged w′ n) && not (mem x (flagged w n)) && eqb (markAt w n x) 0) (records + 1) (markAt w n x)
   pub closed : Closed w′ n
-  pub kept : Kept n w w′
+  pub high : Highest n w′
+  pub kept : KeptBut n w w′
 
 -- ---- rounds
 

@@ -14,16 +14,17 @@ use steps::path::grow;
 use steps::path::on_path;
 use steps::state_of::Taken;
 use steps::state_of::take_state;
-use tables::Answer;
 use tables::Counts;
 use tables::Entry;
+use tables::Reply;
 use tables::row::Seen;
 ghost use mathlib.Core.Path.{_≡_};
 ghost use Prim.Native.Nat.{_*_, _≤_};
 ghost use lib.ListN.{length};
 ghost use Rattle.layout.specs.Buffers.{buffers};
+ghost use Rattle.state.specs.Symbols.{symOf};
 ghost use Rattle.tables.specs.Tables.{mem, noEntry};
-ghost use Rattle.resolver.specs.Enters.{refusedWith, afterWith, shutWith, endedWith, openWith, SkipAsks, skips, Arriving, Arrived, Entering, Entered, Saw, Following, Followed};
+ghost use Rattle.resolver.specs.Enters.{refusedWith, afterWith, shutWith, endedWith, openWith, SkipAsks, skips, entryOf, Arriving, Arrived, Entering, Entered, Saw, Following, Followed};
 
 // The number of a refusal where P is short.
 pub const SHORT_P: usize = 4;
@@ -36,78 +37,78 @@ pub struct Opening {
 }
 
 // What a step answered: the number of a room that was short, or 0, and what is in use.
-fn after(o: Run, code: usize, counts: Counts) -> Run
-    ensures { λ r. ⌜ r ≡ afterWith o code counts ⌝ }
+fn after(going: Run, code: usize, counts: Counts) -> Run
+    ensures { λ r. ⌜ r ≡ afterWith going code counts ⌝ }
 {
     Run {
         code,
-        energy: o.energy,
+        energy: going.energy,
         counts,
     }
 }
 
 // A room is short.
-pub fn refused(o: Run, code: usize) -> Run
-    ensures { λ r. ⌜ r ≡ refusedWith o code ⌝ }
+pub fn refused(going: Run, code: usize) -> Run
+    ensures { λ r. ⌜ r ≡ refusedWith going code ⌝ }
 {
-    let counts = o.counts;
-    after(o, code, counts)
+    let counts = going.counts;
+    after(going, code, counts)
 }
 
 // No level opens.
-fn shut(o: Run, l: Level) -> Opening
-    ensures { λ r. ⌜ r ≡ shutWith o l ⌝ }
+fn shut(going: Run, level: Level) -> Opening
+    ensures { λ r. ⌜ r ≡ shutWith going level ⌝ }
 {
     Opening {
         opens: false,
-        run: o,
-        level: l,
+        run: going,
+        level,
     }
 }
 
 // The path has ended, with what its record answered, and no level opens.
-fn ended(o: Run, a: Answer, l: Level) -> Opening
-    ensures { λ r. ⌜ r ≡ endedWith o a l ⌝ }
+fn ended(going: Run, answer: Reply, level: Level) -> Opening
+    ensures { λ r. ⌜ r ≡ endedWith going answer level ⌝ }
 {
-    let counts = a.counts;
+    let counts = answer.counts;
     Opening {
         opens: false,
         run: Run {
-            code: a.code,
-            energy: o.energy,
+            code: answer.code,
+            energy: going.energy,
             counts,
         },
-        level: l,
+        level,
     }
 }
 
 // A level opens behind the grown path of np addresses, with the state that was seen.
-fn opened(o: Run, np: usize, position: usize, x: Seen, l: Level) -> Opening
-    requires { ⌜ (l .left ≡ 0 → ⊥) ⌝ }
-    ensures { λ r. ⌜ r ≡ openWith o np position x l ⌝ }
+fn opened(going: Run, np: usize, position: usize, seen: Seen, level: Level) -> Opening
+    requires { ⌜ (level .left ≡ 0 → ⊥) ⌝ }
+    ensures { λ r. ⌜ r ≡ openWith going np position seen level ⌝ }
 {
     Opening {
         opens: true,
-        run: o,
+        run: going,
         level: Level {
             np,
             position,
-            from: x.from,
-            cells: x.cells,
-            left: l.left - 1,
+            from: seen.from,
+            cells: seen.cells,
+            left: level.left - 1,
         },
     }
 }
 
 // Whether the parent at `at` has one block, and that is on the path already.
-fn skipped(w: &[u8], n: usize, at: usize) -> bool
-    requires { ⌜ SkipAsks n (now w) at ⌝ }
-    ensures { λ r. ⌜ r ≡ skips (now (w .entry)) n at ⌝ }
+fn skipped(w: &[u8], size: usize, at: usize) -> bool
+    requires { ⌜ SkipAsks size (now w) at ⌝ }
+    ensures { λ r. ⌜ r ≡ skips (now (w .entry)) size at ⌝ }
 {
     if FOUND <= at {
         return false;
     }
-    on_path(w, n, parent_start(at))
+    on_path(w, size, parent_start(at))
 }
 
 // The entry of a path that leads nowhere.
@@ -123,6 +124,23 @@ fn no_entry(start: usize, energy: usize) -> Entry
     }
 }
 
+// What is recorded of the path that ends here: a Jumpdest is where it leads, with the state that was seen, and anything else leads nowhere.
+fn entry_of(start: usize, seen: Seen, spent: usize) -> Entry
+    ensures { λ e. ⌜ e ≡ entryOf start seen spent (symOf (seen .symbol)) ⌝ }
+{
+    let symbol = seen.symbol;
+    let StackSym::Jumpdest(to) = symbol else {
+        return no_entry(start, spent);
+    };
+    Entry {
+        start,
+        to,
+        from: seen.from,
+        cells: seen.cells,
+        energy: spent,
+    }
+}
+
 // Step 6: a Before opens a level, a Jumpdest is where the path leads, and anything else leads nowhere.
 fn arrive(
     p: &[u8],
@@ -131,47 +149,29 @@ fn arrive(
     r: &mut [u8],
     q: &mut [u8],
     s: &mut [u8],
-    k: Plan,
+    plan: Plan,
     start: usize,
-    l: Level,
-    x: Seen,
-    o: Run,
+    level: Level,
+    seen: Seen,
+    going: Run,
 ) -> Opening
-    requires { ⌜ Arriving (now p) np k (mem (now w) (now r) (now q) (now s)) start l x o ⌝ }
-    ensures { λ e. ⌜ Arrived (now (p .entry)) np k (mem (now (w .entry)) (now (r .entry)) (now (q .entry)) (now (s .entry))) start l x o
+    requires { ⌜ Arriving (now p) np plan (mem (now w) (now r) (now q) (now s)) start level seen going ⌝ }
+    ensures { λ e. ⌜ Arrived (now (p .entry)) np plan (mem (now (w .entry)) (now (r .entry)) (now (q .entry)) (now (s .entry))) start level seen going
         (mem (now (w .exit)) (now (r .exit)) (now (q .exit)) (now (s .exit))) e ⌝ }
 {
-    let c = o.counts;
-    let symbol = x.symbol;
-    match symbol {
-        StackSym::Before(position) => opened(o, np, position, x, l),
-        StackSym::Jumpdest(to) => {
-            let e = Entry {
-                start,
-                to,
-                from: x.from,
-                cells: x.cells,
-                energy: o.energy,
-            };
-            ended(o, land(p, np, w, r, q, s, k, c, e), l)
-        }
-        StackSym::Constant(_) => ended(
-            o,
-            land(p, np, w, r, q, s, k, c, no_entry(start, o.energy)),
-            l,
-        ),
-        StackSym::Other(_) => ended(
-            o,
-            land(p, np, w, r, q, s, k, c, no_entry(start, o.energy)),
-            l,
-        ),
+    let symbol = seen.symbol;
+    if let StackSym::Before(position) = symbol {
+        return opened(going, np, position, seen, level);
     }
+    let counts = going.counts;
+    let entry = entry_of(start, seen, going.energy);
+    ended(going, land(p, np, w, r, q, s, plan, counts, entry), level)
 }
 
 // What is seen at the end of the path of np addresses: its last address, the symbol and the state taken, which stands after `used` cells.
 fn seen(p: &[u8], np: usize, taken: Taken, used: usize) -> Seen
     requires { ⌜ (1 ≤ np) × (2 * np ≤ length (now p)) ⌝ }
-    ensures { λ x. ⌜ Saw (now (p .entry)) np taken used x ⌝ }
+    ensures { λ seen. ⌜ Saw (now (p .entry)) np taken used seen ⌝ }
 {
     let symbol = taken.symbol;
     Seen {
@@ -191,34 +191,34 @@ fn follow(
     t: &mut [u8],
     r: &mut [u8],
     q: &mut [u8],
-    k: Plan,
+    plan: Plan,
     start: usize,
-    l: Level,
+    level: Level,
     at: usize,
     np: usize,
-    o: Run,
+    going: Run,
 ) -> Opening
-    requires { ⌜ Following (now code) k start l at np (buffers (now w) (now p) (now s) (now t) (now r) (now q)) o ⌝ }
-    ensures { λ e. ⌜ Followed (now (code .entry)) k start l at np
-        (buffers (now (w .entry)) (now (p .entry)) (now (s .entry)) (now (t .entry)) (now (r .entry)) (now (q .entry))) o
+    requires { ⌜ Following (now code) plan start level at np (buffers (now w) (now p) (now s) (now t) (now r) (now q)) going ⌝ }
+    ensures { λ e. ⌜ Followed (now (code .entry)) plan start level at np
+        (buffers (now (w .entry)) (now (p .entry)) (now (s .entry)) (now (t .entry)) (now (r .entry)) (now (q .entry))) going
         (buffers (now (w .exit)) (now (p .entry)) (now (s .exit)) (now (t .exit)) (now (r .exit)) (now (q .exit))) e ⌝ }
 {
-    let c = o.counts;
-    let taken = take_state(code, w, s, r, k, c, l, at);
+    let counts = going.counts;
+    let taken = take_state(code, w, s, r, plan, counts, level, at);
     if taken.code != 0 {
-        return shut(refused(o, taken.code), l);
+        return shut(refused(going, taken.code), level);
     }
-    let x = seen(p, np, taken, c.used);
-    let m = meet(t, s, k, c, x);
-    if m.met {
-        return shut(o, l);
+    let seen = seen(p, np, taken, counts.used);
+    let meeting = meet(t, s, plan, counts, seen);
+    if meeting.met {
+        return shut(going, level);
     }
-    let counts = m.counts;
-    let here = after(o, m.code, counts);
-    if m.code != 0 {
-        return shut(here, l);
+    let more = meeting.counts;
+    let here = after(going, meeting.code, more);
+    if meeting.code != 0 {
+        return shut(here, level);
     }
-    arrive(p, np, w, r, q, s, k, start, l, x, here)
+    arrive(p, np, w, r, q, s, plan, start, level, seen, here)
 }
 
 // Steps 2 to 6 of the parent at `at`, but for the level that it may open.
@@ -230,32 +230,42 @@ pub fn enter(
     t: &mut [u8],
     r: &mut [u8],
     q: &mut [u8],
-    k: Plan,
+    plan: Plan,
     start: usize,
-    l: Level,
+    level: Level,
     at: usize,
-    o: Run,
+    going: Run,
 ) -> Opening
-    requires { ⌜ Entering (now code) k start l at (buffers (now w) (now p) (now s) (now t) (now r) (now q)) o ⌝ }
-    ensures { λ e. ⌜ Entered (now (code .entry)) k start l at
-        (buffers (now (w .entry)) (now (p .entry)) (now (s .entry)) (now (t .entry)) (now (r .entry)) (now (q .entry))) o
+    requires { ⌜ Entering (now code) plan start level at (buffers (now w) (now p) (now s) (now t) (now r) (now q)) going ⌝ }
+    ensures { λ e. ⌜ Entered (now (code .entry)) plan start level at
+        (buffers (now (w .entry)) (now (p .entry)) (now (s .entry)) (now (t .entry)) (now (r .entry)) (now (q .entry))) going
         (buffers (now (w .exit)) (now (p .exit)) (now (s .exit)) (now (t .exit)) (now (r .exit)) (now (q .exit))) e ⌝ }
 {
-    if skipped(w, k.n, at) {
-        return shut(o, l);
+    if skipped(w, plan.n, at) {
+        return shut(going, level);
     }
-    let rooms = k.rooms;
-    let np = grow(p, r, q, rooms.p, l.np, at);
+    let rooms = plan.rooms;
+    let np = grow(p, r, q, rooms.p, level.np, at);
     if np == 0 {
-        return shut(refused(o, SHORT_P), l);
+        return shut(refused(going, SHORT_P), level);
     }
-    if l.left == 0 {
-        let c = o.counts;
+    if level.left == 0 {
+        let counts = going.counts;
         return ended(
-            o,
-            land(p, np, w, r, q, s, k, c, no_entry(start, o.energy)),
-            l,
+            going,
+            land(
+                p,
+                np,
+                w,
+                r,
+                q,
+                s,
+                plan,
+                counts,
+                no_entry(start, going.energy),
+            ),
+            level,
         );
     }
-    follow(code, w, p, s, t, r, q, k, start, l, at, np, o)
+    follow(code, w, p, s, t, r, q, plan, start, level, at, np, going)
 }

@@ -2,6 +2,7 @@
 // "A level tries its parents and each parent may open a level."
 use crate::enter::enter;
 use lent::get16;
+use reachable::highest;
 use reachable::is_marked;
 use steps::Level;
 use steps::Plan;
@@ -18,14 +19,14 @@ ghost use Rattle.resolver.specs.Enters.{Entering};
 ghost use Rattle.resolver.specs.Levels.{spentWith, Opened, Leveled, Tried};
 
 // A unit of energy.
-fn spend(o: Run) -> Run
-    requires { ⌜ o .energy + 1 < 2 ^ 64 ⌝ }
-    ensures { λ r. ⌜ r ≡ spentWith o ⌝ }
+fn spend(going: Run) -> Run
+    requires { ⌜ going .energy + 1 < 2 ^ 64 ⌝ }
+    ensures { λ r. ⌜ r ≡ spentWith going ⌝ }
 {
-    let counts = o.counts;
+    let counts = going.counts;
     Run {
-        code: o.code,
-        energy: o.energy + 1,
+        code: going.code,
+        energy: going.energy + 1,
         counts,
     }
 }
@@ -39,30 +40,31 @@ pub fn level(
     t: &mut [u8],
     r: &mut [u8],
     q: &mut [u8],
-    k: Plan,
+    plan: Plan,
     start: usize,
-    l: Level,
-    o: Run,
+    level: Level,
+    going: Run,
 ) -> Run
-    requires { ⌜ Opened (now code) k start l (buffers (now w) (now p) (now s) (now t) (now r) (now q)) o ⌝ }
-    ensures { λ d. ⌜ Leveled (now (code .entry)) k start l
-        (buffers (now (w .entry)) (now (p .entry)) (now (s .entry)) (now (t .entry)) (now (r .entry)) (now (q .entry))) o
+    requires { ⌜ Opened (now code) plan start level (buffers (now w) (now p) (now s) (now t) (now r) (now q)) going ⌝ }
+    ensures { λ d. ⌜ Leveled (now (code .entry)) plan start level
+        (buffers (now (w .entry)) (now (p .entry)) (now (s .entry)) (now (t .entry)) (now (r .entry)) (now (q .entry))) going
         (buffers (now (w .exit)) (now (p .exit)) (now (s .exit)) (now (t .exit)) (now (r .exit)) (now (q .exit))) d ⌝ }
 {
-    let counts = o.counts;
+    let counts = going.counts;
     let opened = counts.records;
-    let b = get16(p, 2 * (l.np - 1));
-    let mut at = first_cursor(w, k.n, b, opened);
-    let mut cur = o;
+    let last = get16(p, 2 * (level.np - 1));
+    let top = highest(w, plan.n, last);
+    let mut at = first_cursor(w, plan.n, last, opened, top);
+    let mut cur = going;
     while at != 0 {
         let here = at;
-        at = next_cursor(w, r, k.n, b, opened, here);
-        if is_marked(w, k.n, last_block(r, q, here), opened + 1) {
+        at = next_cursor(w, r, plan.n, last, opened, top, here);
+        if is_marked(w, plan.n, last_block(r, q, here), opened + 1) {
             cur = spend(cur);
-            if k.limit < cur.energy {
+            if plan.limit < cur.energy {
                 return cur;
             }
-            cur = parent(code, w, p, s, t, r, q, k, start, l, here, cur);
+            cur = parent(code, w, p, s, t, r, q, plan, start, level, here, cur);
             if cur.code != 0 {
                 return cur;
             }
@@ -80,28 +82,28 @@ fn parent(
     t: &mut [u8],
     r: &mut [u8],
     q: &mut [u8],
-    k: Plan,
+    plan: Plan,
     start: usize,
-    l: Level,
+    outer: Level,
     at: usize,
-    o: Run,
+    going: Run,
 ) -> Run
-    requires { ⌜ Entering (now code) k start l at (buffers (now w) (now p) (now s) (now t) (now r) (now q)) o ⌝ }
-    ensures { λ d. ⌜ Tried (now (code .entry)) k start l at
-        (buffers (now (w .entry)) (now (p .entry)) (now (s .entry)) (now (t .entry)) (now (r .entry)) (now (q .entry))) o
+    requires { ⌜ Entering (now code) plan start outer at (buffers (now w) (now p) (now s) (now t) (now r) (now q)) going ⌝ }
+    ensures { λ d. ⌜ Tried (now (code .entry)) plan start outer at
+        (buffers (now (w .entry)) (now (p .entry)) (now (s .entry)) (now (t .entry)) (now (r .entry)) (now (q .entry))) going
         (buffers (now (w .exit)) (now (p .exit)) (now (s .exit)) (now (t .exit)) (now (r .exit)) (now (q .exit))) d ⌝ }
 {
-    let e = enter(code, w, p, s, t, r, q, k, start, l, at, o);
-    let here = e.run;
-    if !e.opens {
+    let opening = enter(code, w, p, s, t, r, q, plan, start, outer, at, going);
+    let here = opening.run;
+    if !opening.opens {
         return here;
     }
-    let deeper = e.level;
-    count(w, k.n, p, l.np, deeper.np);
-    let d = level(code, w, p, s, t, r, q, k, start, deeper, here);
+    let deeper = opening.level;
+    count(w, plan.n, p, outer.np, deeper.np);
+    let d = level(code, w, p, s, t, r, q, plan, start, deeper, here);
     if d.code != 0 {
         return d;
     }
-    uncount(w, k.n, p, l.np, deeper.np);
+    uncount(w, plan.n, p, outer.np, deeper.np);
     d
 }

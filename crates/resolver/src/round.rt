@@ -16,24 +16,24 @@ pub fn round(
     t: &mut [u8],
     r: &mut [u8],
     q: &mut [u8],
-    k: Plan,
-    o: Run,
+    plan: Plan,
+    going: Run,
 ) -> Run
-    requires { ⌜ RoundAsks (now code) k (buffers (now w) (now p) (now s) (now t) (now r) (now q)) o ⌝ }
-    ensures { λ d. ⌜ Rounded (now (code .entry)) k
-        (buffers (now (w .entry)) (now (p .entry)) (now (s .entry)) (now (t .entry)) (now (r .entry)) (now (q .entry))) o
+    requires { ⌜ RoundAsks (now code) plan (buffers (now w) (now p) (now s) (now t) (now r) (now q)) going ⌝ }
+    ensures { λ d. ⌜ Rounded (now (code .entry)) plan
+        (buffers (now (w .entry)) (now (p .entry)) (now (s .entry)) (now (t .entry)) (now (r .entry)) (now (q .entry))) going
         (buffers (now (w .exit)) (now (p .exit)) (now (s .exit)) (now (t .exit)) (now (r .exit)) (now (q .exit))) d ⌝ }
 {
-    let counts = o.counts;
+    let counts = going.counts;
     let by = counts.records + 1;
-    let mut link = k.head;
-    let mut cur = o;
+    let mut link = plan.head;
+    let mut cur = going;
     while link != 0 {
         let start = link - 1;
         link = next_taker(w, start);
-        if is_marked(w, k.n, start, by) {
-            if cur.energy < k.limit {
-                cur = turn(code, w, p, s, t, r, q, k, start, cur);
+        if is_marked(w, plan.n, start, by) {
+            if cur.energy < plan.limit {
+                cur = turn(code, w, p, s, t, r, q, plan, start, cur);
                 if cur.code != 0 {
                     return cur;
                 }

@@ -1,7 +1,8 @@
 // The search: rounds of turns, from what is reached by the code's static sides alone.
 // "A round with no record is the last, and no round or turn starts once the limit is reached."
 use crate::round::round;
-use crate::settle::settle;
+use crate::settle::hand_all;
+use exec::mode::Mode;
 use layout::part::BUCKET;
 use layout::part::BUCKETS;
 use layout::part::NEED;
@@ -11,7 +12,6 @@ use layout::part::SHARE_MORE;
 use lent::units;
 use lent::wipe_part;
 use reachable::reach;
-use state::mode::Mode;
 use steps::Plan;
 use steps::Run;
 use tables::Counts;
@@ -38,26 +38,26 @@ fn rounds(
     t: &mut [u8],
     r: &mut [u8],
     q: &mut [u8],
-    k: Plan,
-    o: Run,
+    plan: Plan,
+    going: Run,
 ) -> Run
-    requires { ⌜ Between (now code) k 0 (buffers (now w) (now p) (now s) (now t) (now r) (now q)) o ⌝ }
-    ensures { λ d. ⌜ Rounds (now (code .entry)) k
-        (buffers (now (w .entry)) (now (p .entry)) (now (s .entry)) (now (t .entry)) (now (r .entry)) (now (q .entry))) o
+    requires { ⌜ Between (now code) plan 0 (buffers (now w) (now p) (now s) (now t) (now r) (now q)) going ⌝ }
+    ensures { λ d. ⌜ Rounds (now (code .entry)) plan
+        (buffers (now (w .entry)) (now (p .entry)) (now (s .entry)) (now (t .entry)) (now (r .entry)) (now (q .entry))) going
         (buffers (now (w .exit)) (now (p .exit)) (now (s .exit)) (now (t .exit)) (now (r .exit)) (now (q .exit))) d ⌝ }
 {
-    let mut cur = o;
+    let mut cur = going;
     let mut since = 0;
     let mut left = ROUNDS;
     while left != 0 {
         left -= 1;
-        if k.limit <= cur.energy {
+        if plan.limit <= cur.energy {
             return cur;
         }
         let counts = cur.counts;
         let records = counts.records;
-        settle(w, k.n, r, since, records);
-        cur = round(code, w, p, s, t, r, q, k, cur);
+        hand_all(w, plan.n, r, since, records);
+        cur = round(code, w, p, s, t, r, q, plan, cur);
         if cur.code != 0 {
             return cur;
         }
@@ -83,17 +83,17 @@ fn rooms_of(p: &[u8], s: &[u8], t: &[u8], r: &[u8], q: &[u8]) -> Rooms
     }
 }
 
-// The plan of a search, in a mode, over a code of n bytes. T has a bucket for each of its rows, up to `SHELVES`.
-fn plan_of(mode: Mode, n: usize, limit: usize, head: usize, rooms: Rooms) -> Plan
-    requires { ⌜ n ≤ longest ⌝ }
-    ensures { λ k. ⌜ k ≡ planOf mode n limit head rooms ⌝ }
+// The plan of a search, in a mode, over a code of `size` bytes. T has a bucket for each of its rows, up to `SHELVES`.
+fn plan_of(mode: Mode, size: usize, limit: usize, head: usize, rooms: Rooms) -> Plan
+    requires { ⌜ size ≤ longest ⌝ }
+    ensures { λ k. ⌜ k ≡ planOf mode size limit head rooms ⌝ }
 {
     let shelves = if rooms.t < SHELVES { rooms.t } else { SHELVES };
     Plan {
-        n,
-        end: NEED * n + NEED_MORE,
+        n: size,
+        end: NEED * size + NEED_MORE,
         head,
-        buckets: (SHARE * n + SHARE_MORE) / BUCKET,
+        buckets: (SHARE * size + SHARE_MORE) / BUCKET,
         shelves,
         limit,
         rooms,
@@ -119,13 +119,13 @@ pub fn search(
         (buffers (now (w .entry)) (now (p .entry)) (now (s .entry)) (now (t .entry)) (now (r .entry)) (now (q .entry)))
         (buffers (now (w .exit)) (now (p .exit)) (now (s .exit)) (now (t .exit)) (now (r .exit)) (now (q .exit))) d ⌝ }
 {
-    let n = code.len();
-    let k = plan_of(mode, n, limit, head, rooms_of(p, s, t, r, q));
-    reach(w, n);
-    wipe_part(w, BUCKETS * (n + 1), BUCKET * k.buckets);
-    begin_rows(t, k.shelves);
-    let o = begin();
-    rounds(code, w, p, s, t, r, q, k, o)
+    let size = code.len();
+    let plan = plan_of(mode, size, limit, head, rooms_of(p, s, t, r, q));
+    reach(w, size);
+    wipe_part(w, BUCKETS * (size + 1), BUCKET * plan.buckets);
+    begin_rows(t, plan.shelves);
+    let going = begin();
+    rounds(code, w, p, s, t, r, q, plan, going)
 }
 
 // Nothing is recorded, no energy used, nothing in use.

@@ -6,7 +6,7 @@ use layout::record::TO;
 use lent::get16;
 use reachable::expand;
 ghost use Prim.Native.Nat.{_<_};
-ghost use Rattle.resolver.specs.Turns.{Settles, Settled};
+ghost use Rattle.resolver.specs.Turns.{HandsOver, HandedAll};
 ghost use Rattle.resolver.specs.Batches.{Gathers, Gathered, HandedOver};
 
 // How many targets a batch has at most.
@@ -37,28 +37,28 @@ fn gather(r: &[u8], from: usize, records: usize, batch: &mut [usize; BATCH]) -> 
 }
 
 // Hands one batch over, if there is anything in it; the record that the next one starts from is the answer.
-fn hand_over(w: &mut [u8], n: usize, r: &[u8], from: usize, records: usize) -> usize
-    requires { ⌜ Settles n (now w) (now r) from records ⌝ }
+fn hand_over(w: &mut [u8], size: usize, r: &[u8], from: usize, records: usize) -> usize
+    requires { ⌜ HandsOver size (now w) (now r) from records ⌝ }
     requires { ⌜ from < records ⌝ }
-    ensures { λ next. ⌜ HandedOver n (now (w .entry)) (now (r .entry)) from records (now (w .exit)) next ⌝ }
+    ensures { λ next. ⌜ HandedOver size (now (w .entry)) (now (r .entry)) from records (now (w .exit)) next ⌝ }
 {
     let mut batch = [0; BATCH];
-    let b = gather(r, from, records, &mut batch);
-    let many = b.many;
+    let batched = gather(r, from, records, &mut batch);
+    let many = batched.many;
     if many == 0 {
-        return b.next;
+        return batched.next;
     }
-    expand(w, n, &batch[0..many], records + 1);
-    b.next
+    expand(w, size, &batch[0..many], records + 1);
+    batched.next
 }
 
 // What the destinations of the records from `since` on lead to counts as reached when the next round begins.
-pub fn settle(w: &mut [u8], n: usize, r: &[u8], since: usize, records: usize)
-    requires { ⌜ Settles n (now w) (now r) since records ⌝ }
-    ensures { λ _. ⌜ Settled n (now (w .entry)) (now (r .entry)) since records (now (w .exit)) ⌝ }
+pub fn hand_all(w: &mut [u8], size: usize, r: &[u8], since: usize, records: usize)
+    requires { ⌜ HandsOver size (now w) (now r) since records ⌝ }
+    ensures { λ _. ⌜ HandedAll size (now (w .entry)) (now (r .entry)) since records (now (w .exit)) ⌝ }
 {
     let mut i = since;
     while i < records {
-        i = hand_over(w, n, r, i, records);
+        i = hand_over(w, size, r, i, records);
     }
 }

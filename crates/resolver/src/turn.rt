@@ -3,11 +3,11 @@
 use crate::enter::SHORT_P;
 use crate::enter::refused;
 use crate::levels::level;
+use exec::run::Own;
+use exec::run::run;
 use lent::copy;
 use lent::put16;
 use parents::taker::position_at;
-use state::run::Own;
-use state::run::run;
 use steps::Level;
 use steps::Plan;
 use steps::Run;
@@ -26,39 +26,46 @@ const SHORT_S: usize = 5;
 const LEFT: usize = 255;
 
 // The turn's first state is in use.
-fn begun(o: Run, cells: usize) -> Run
-    ensures { λ r. ⌜ r ≡ begunWith o cells ⌝ }
+fn begun(going: Run, cells: usize) -> Run
+    ensures { λ r. ⌜ r ≡ begunWith going cells ⌝ }
 {
-    let c = o.counts;
-    let counts = Counts {
-        records: c.records,
-        addresses: c.addresses,
-        kept: c.kept,
+    let counts = going.counts;
+    let more = Counts {
+        records: counts.records,
+        addresses: counts.addresses,
+        kept: counts.kept,
         used: cells,
         rows: 0,
     };
     Run {
-        code: o.code,
-        energy: o.energy,
-        counts,
+        code: going.code,
+        energy: going.energy,
+        counts: more,
     }
 }
 
 // Gives the turn's first state and the remembered ones back.
-fn ended(o: Run) -> Run
-    ensures { λ r. ⌜ r ≡ endedWith o ⌝ }
+fn ended(going: Run) -> Run
+    ensures { λ r. ⌜ r ≡ endedWith going ⌝ }
 {
-    begun(o, 0)
+    begun(going, 0)
 }
 
 // The turn's first level: the block's own state at the bottom of S, and its start in P, counted.
-fn first_level(w: &mut [u8], p: &mut [u8], s: &mut [u8], k: Plan, start: usize, own: Own) -> Level
-    requires { ⌜ Places (now w) (now p) (now s) k start own ⌝ }
-    ensures { λ l. ⌜ Placed (now (w .entry)) (now (p .entry)) (now (s .entry)) k start own (now (w .exit)) (now (p .exit)) (now (s .exit)) l ⌝ }
+fn first_level(
+    w: &mut [u8],
+    p: &mut [u8],
+    s: &mut [u8],
+    plan: Plan,
+    start: usize,
+    own: Own,
+) -> Level
+    requires { ⌜ Places (now w) (now p) (now s) plan start own ⌝ }
+    ensures { λ l. ⌜ Placed (now (w .entry)) (now (p .entry)) (now (s .entry)) plan start own (now (w .exit)) (now (p .exit)) (now (s .exit)) l ⌝ }
 {
     copy(s, 0, w, own.at, 9 * own.n);
     put16(p, 0, start);
-    count(w, k.n, p, 0, 1);
+    count(w, plan.n, p, 0, 1);
     Level {
         np: 1,
         position: position_at(w, start),
@@ -77,32 +84,44 @@ pub fn turn(
     t: &mut [u8],
     r: &mut [u8],
     q: &mut [u8],
-    k: Plan,
+    plan: Plan,
     start: usize,
-    o: Run,
+    going: Run,
 ) -> Run
-    requires { ⌜ TurnAsks (now code) k start (buffers (now w) (now p) (now s) (now t) (now r) (now q)) o ⌝ }
-    ensures { λ d. ⌜ Turned (now (code .entry)) k start
-        (buffers (now (w .entry)) (now (p .entry)) (now (s .entry)) (now (t .entry)) (now (r .entry)) (now (q .entry))) o
+    requires { ⌜ TurnAsks (now code) plan start (buffers (now w) (now p) (now s) (now t) (now r) (now q)) going ⌝ }
+    ensures { λ d. ⌜ Turned (now (code .entry)) plan start
+        (buffers (now (w .entry)) (now (p .entry)) (now (s .entry)) (now (t .entry)) (now (r .entry)) (now (q .entry))) going
         (buffers (now (w .exit)) (now (p .exit)) (now (s .exit)) (now (t .exit)) (now (r .exit)) (now (q .exit))) d ⌝ }
 {
-    let rooms = k.rooms;
+    let rooms = plan.rooms;
     if rooms.p == 0 {
-        return refused(o, SHORT_P);
+        return refused(going, SHORT_P);
     }
-    let mode = k.mode;
-    let own = run(mode, code, start, w, k.end);
-    let c = o.counts;
-    if rooms.s < c.kept + own.n {
-        return refused(o, SHORT_S);
+    let mode = plan.mode;
+    let own = run(mode, code, start, w, plan.end);
+    let counts = going.counts;
+    if rooms.s < counts.kept + own.n {
+        return refused(going, SHORT_S);
     }
-    let l = first_level(w, p, s, k, start, own);
-    let d = level(code, w, p, s, t, r, q, k, start, l, begun(o, own.n));
+    let first = first_level(w, p, s, plan, start, own);
+    let d = level(
+        code,
+        w,
+        p,
+        s,
+        t,
+        r,
+        q,
+        plan,
+        start,
+        first,
+        begun(going, own.n),
+    );
     if d.code != 0 {
         return d;
     }
-    uncount(w, k.n, p, 0, 1);
-    let counts = d.counts;
-    forget(t, k.shelves, counts.rows);
+    uncount(w, plan.n, p, 0, 1);
+    let more = d.counts;
+    forget(t, plan.shelves, more.rows);
     ended(d)
 }

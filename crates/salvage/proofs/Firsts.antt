@@ -26,8 +26,8 @@ use Rattle.reader.specs.declared.entry.Entry.the-variants.{Head, Cut}
 use Rattle.reader.specs.declared.class.Order.the-variants.{Blocks}
 use Rattle.reader.specs.declared.scan.Scan.{Scan}
 use Rattle.reader.specs.declared.scan.Reading.{Reading}
-use Rattle.reader.specs.declared.scan.Turn.{Turn}
-use Rattle.reader.specs.declared.scan.Turn.the-variants.{On, Bad as Stops}
+use Rattle.reader.specs.declared.scan.Passed.{Passed}
+use Rattle.reader.specs.declared.scan.Passed.the-variants.{On, Bad as Stops}
 use Rattle.reader.proofs.Onward.{split-from, from-whole, from-cut, from-end}
 use Rattle.reader.proofs.Judging.{entry-whole, behind-whole, entry-cut}
 use Rattle.reader.proofs.Turning.{behind-in}
@@ -160,7 +160,7 @@ module _ (b : List ℕ) where
         pub owned-within : Within b s
         owned-within = let w = o .scans .within in let l = shorter in record { inside = omega arith; few-blocks = w .few-blocks; few-records = w .few-records }
 
-        module _ {u : Turn} (t : u ≡ turnOf b s) where
+        module _ {u : Passed} (t : u ≡ turnOf b s) where
           turned-so : u ≡ turnOf mine s
           turned-so = t ∙ sym (same-turn b family n m s (o .owns) off)
 

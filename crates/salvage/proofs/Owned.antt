@@ -30,7 +30,7 @@ use Rattle.reader.specs.declared.class.Order.the-variants.{Blocks, Sevens, Reco
 use Rattle.reader.specs.declared.class.Step.{Step}
 use Rattle.reader.specs.declared.class.Step.the-variants.{To, Stop}
 use Rattle.reader.specs.declared.scan.Scan.{Scan}
-use Rattle.reader.specs.declared.scan.Turn.the-variants.{On, Bad}
+use Rattle.reader.specs.declared.scan.Passed.the-variants.{On, Bad}
 use Rattle.reader.proofs.Onward.{split-from, from-whole, from-cut, from-end}
 use Rattle.reader.proofs.Judging.{entry-whole, behind-whole, entry-cut}
 use Rattle.salvage.specs.Contracts.{running, runs, overOf}

@@ -18,28 +18,28 @@ const SHORT: usize = 18;
 const PRINTED: usize = 32;
 
 // Prints: maps and bytes copied, bytes dropped, the offset.
-fn print(report: &mut [u8], j: Judged, dropped: usize)
+fn print(report: &mut [u8], judged: Judged, dropped: usize)
     requires { ⌜ 32 ≤ length (now report) ⌝ }
-    ensures { λ _. ⌜ now (report .exit) ≡ over (as-eights (j .maps ∷ j .bytes ∷ dropped ∷ j .offset ∷ [])) (now (report .entry)) ⌝ }
+    ensures { λ _. ⌜ now (report .exit) ≡ over (as-eights (judged .maps ∷ judged .bytes ∷ dropped ∷ judged .offset ∷ [])) (now (report .entry)) ⌝ }
 {
-    put64(report, 0, j.maps);
-    put64(report, 8, j.bytes);
+    put64(report, 0, judged.maps);
+    put64(report, 8, judged.bytes);
     put64(report, 16, dropped);
-    put64(report, 24, j.offset);
+    put64(report, 24, judged.offset);
 }
 
 // Copies the maps that read whole, up to the first that does not, and prints what it did: 0. Or a buffer is short: 18, "nothing written".
 pub fn salvage(archive: &[u8], out: &mut [u8], report: &mut [u8]) -> usize
     ensures { λ x. ⌜ Salvaged (now (archive .entry)) (now (out .entry)) (now (report .entry)) x (now (out .exit)) (now (report .exit)) ⌝ }
 {
-    let j = judge(archive);
-    if out.len() < j.bytes {
+    let judged = judge(archive);
+    if out.len() < judged.bytes {
         return SHORT;
     }
     if report.len() < PRINTED {
         return SHORT;
     }
-    copy(out, 0, archive, 0, j.bytes);
-    print(report, j, archive.len() - j.bytes);
+    copy(out, 0, archive, 0, judged.bytes);
+    print(report, judged, archive.len() - judged.bytes);
     0
 }

@@ -2,8 +2,8 @@
 // "A map ends where its head's counts say."
 use reader::Entry;
 use reader::Order;
+use reader::Passed;
 use reader::Scan;
-use reader::Turn;
 use reader::end_of;
 use reader::entry_at;
 use reader::last;
@@ -22,10 +22,10 @@ pub enum First {
 }
 
 // Whether a 7 at an offset is of the run of 7s behind a block: the order tells whether a block, or a 7 of its run, is the last entry before it.
-fn of_run(archive: &[u8], at: usize, p: Order) -> bool
-    ensures { λ r. ⌜ r ≡ runs p (now (archive .entry)) at ⌝ }
+fn of_run(archive: &[u8], at: usize, order: Order) -> bool
+    ensures { λ r. ⌜ r ≡ runs order (now (archive .entry)) at ⌝ }
 {
-    match p {
+    match order {
         Order::Blocks { low } => {
             if low == 0 {
                 return false;
@@ -38,32 +38,32 @@ fn of_run(archive: &[u8], at: usize, p: Order) -> bool
 }
 
 // Whether the map is over where the scan stands: no byte is left, or as many blocks and records came as the head says and no 7 of a run is next.
-fn over(archive: &[u8], s: Scan, blocks: usize, records: usize) -> bool
-    ensures { λ r. ⌜ r ≡ overOf (now (archive .entry)) s blocks records ⌝ }
+fn over(archive: &[u8], scan: Scan, blocks: usize, records: usize) -> bool
+    ensures { λ r. ⌜ r ≡ overOf (now (archive .entry)) scan blocks records ⌝ }
 {
-    let at = s.at;
+    let at = scan.at;
     if archive.len() <= at {
         return true;
     }
-    if s.blocks < blocks {
+    if scan.blocks < blocks {
         return false;
     }
-    if s.records < records {
+    if scan.records < records {
         return false;
     }
-    let p = s.place;
-    !of_run(archive, at, p)
+    let order = scan.place;
+    !of_run(archive, at, order)
 }
 
 // What a map that is over says: the reader's last judgement of it.
-fn closed(s: Scan, blocks: usize, records: usize) -> First
-    ensures { λ r. ⌜ r ≡ closedOf s blocks records ⌝ }
+fn closed(scan: Scan, blocks: usize, records: usize) -> First
+    ensures { λ r. ⌜ r ≡ closedOf scan blocks records ⌝ }
 {
-    let r = last(s, blocks, records);
-    if r.number != 0 {
-        return First::Bad(r.offset);
+    let reading = last(scan, blocks, records);
+    if reading.number != 0 {
+        return First::Bad(reading.offset);
     }
-    First::Whole(s.at)
+    First::Whole(scan.at)
 }
 
 // The entries behind the head, one a turn, with the head's counts.
@@ -71,21 +71,21 @@ fn entries(archive: &[u8], from: usize, blocks: usize, records: usize) -> First
     requires { ⌜ Headed (now archive) from blocks records ⌝ }
     ensures { λ r. ⌜ r ≡ firstOf (length (first-map (now (archive .entry)))) (read (first-map (now (archive .entry)))) ⌝ }
 {
-    let mut s = Scan {
+    let mut scan = Scan {
         at: from,
         place: Order::Blocks { low: 0 },
         blocks: 0,
         records: 0,
     };
     loop {
-        if over(archive, s, blocks, records) {
-            return closed(s, blocks, records);
+        if over(archive, scan, blocks, records) {
+            return closed(scan, blocks, records);
         }
-        match one(archive, s) {
-            Turn::On(t) => {
-                s = t;
+        match one(archive, scan) {
+            Passed::On(next) => {
+                scan = next;
             }
-            Turn::Bad(offset) => {
+            Passed::Bad(offset) => {
                 return First::Bad(offset);
             }
         }
@@ -96,8 +96,8 @@ fn entries(archive: &[u8], from: usize, blocks: usize, records: usize) -> First
 pub fn first_map(archive: &[u8]) -> First
     ensures { λ r. ⌜ r ≡ firstOf (length (first-map (now (archive .entry)))) (read (first-map (now (archive .entry)))) ⌝ }
 {
-    let e = entry_at(archive, 0);
-    match e {
+    let entry = entry_at(archive, 0);
+    match entry {
         Entry::Head {
             blocks,
             records,

@@ -28,15 +28,15 @@ pub fn judge(archive: &[u8]) -> Judged
             };
         }
         match first_map(&archive[at..]) {
-            First::Whole(n) => {
+            First::Whole(long) => {
                 maps += 1;
-                at += n;
+                at += long;
             }
-            First::Bad(o) => {
+            First::Bad(offset) => {
                 return Judged {
                     maps,
                     bytes: at,
-                    offset: at + o,
+                    offset: at + offset,
                 };
             }
         }

@@ -12,12 +12,12 @@ pub struct Read {
 }
 
 // The value of a hexadecimal digit; 16 if the byte is none.
-fn digit(b: u8) -> usize
-    ensures { λ r. ⌜ Worth b r ⌝ }
+fn digit(byte: u8) -> usize
+    ensures { λ r. ⌜ Worth byte r ⌝ }
 {
-    match b {
-        b'0'..=b'9' => (b - b'0') as usize,
-        b'a'..=b'f' => (b - b'a') as usize + 10,
+    match byte {
+        b'0'..=b'9' => (byte - b'0') as usize,
+        b'a'..=b'f' => (byte - b'a') as usize + 10,
         _ => 16,
     }
 }
@@ -46,45 +46,57 @@ fn bytes(input: &[u8], at: usize, code: &mut [u8]) -> Read
     requires { ⌜ at ≤ length (now input) ⌝ }
     ensures { λ r. ⌜ Spelled (now (input .entry)) at (now (code .entry)) (now (code .exit)) r ⌝ }
 {
-    let mut n = 0;
+    let mut count = 0;
     let mut i = at;
     while i < input.len() {
         let high = digit(input[i]);
         i += 1;
         if 15 < high {
-            return Read { value: n, next: i };
+            return Read {
+                value: count,
+                next: i,
+            };
         }
-        if code.len() <= n {
-            return Read { value: n, next: i };
+        if code.len() <= count {
+            return Read {
+                value: count,
+                next: i,
+            };
         }
         if input.len() <= i {
-            return Read { value: n, next: i };
+            return Read {
+                value: count,
+                next: i,
+            };
         }
         let low = digit(input[i]) % 16;
         i += 1;
-        code[n] = (high * 16 + low) as u8;
-        n += 1;
+        code[count] = (high * 16 + low) as u8;
+        count += 1;
     }
-    Read { value: n, next: i }
+    Read {
+        value: count,
+        next: i,
+    }
 }
 
 // Makes `code` go on with its first `piece` bytes, again and again, up to `n` bytes.
-fn repeat(code: &mut [u8], piece: usize, n: usize)
-    ensures { λ _. ⌜ now (code .exit) ≡ again piece n (now (code .entry)) ⌝ }
+fn repeat(code: &mut [u8], piece: usize, count: usize)
+    ensures { λ _. ⌜ now (code .exit) ≡ again piece count (now (code .entry)) ⌝ }
 {
     let mut i = piece;
-    while i < n && i < code.len() {
+    while i < count && i < code.len() {
         code[i] = code[i - piece];
         i += 1;
     }
 }
 
-// The code of n bytes that repeats what is spelled from `at` on.
-pub fn repeated(input: &[u8], at: usize, n: usize, code: &mut [u8]) -> Read
+// The code of `count` bytes that repeats what is spelled from `at` on.
+pub fn repeated(input: &[u8], at: usize, count: usize, code: &mut [u8]) -> Read
     requires { ⌜ at ≤ length (now input) ⌝ }
-    ensures { λ r. ⌜ Repeated (now (input .entry)) at n (now (code .entry)) (now (code .exit)) r ⌝ }
+    ensures { λ r. ⌜ Repeated (now (input .entry)) at count (now (code .entry)) (now (code .exit)) r ⌝ }
 {
     let piece = bytes(input, at, code);
-    repeat(code, piece.value, n);
+    repeat(code, piece.value, count);
     piece
 }

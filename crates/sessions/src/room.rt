@@ -6,11 +6,11 @@ ghost use Prim.Native.Nat.{_*_, _%_, _^_};
 ghost use lib.ListN.{length, take};
 ghost use Rattle.sessions.specs.Room.{mark, marks, wiped, untouched, letterFrom, fnv};
 
-// The byte that stands at i before a call: never 0, and not the same everywhere.
-fn mark(i: usize) -> u8
-    ensures { λ r. ⌜ r ≡ mark i ⌝ }
+// The byte that stands at `place` before a call: never 0, and not the same everywhere.
+fn mark(place: usize) -> u8
+    ensures { λ r. ⌜ r ≡ mark place ⌝ }
 {
-    (i % 128 + 1) as u8
+    (place % 128 + 1) as u8
 }
 
 // Puts its mark at every byte.
@@ -70,31 +70,31 @@ pub fn letter(room: &[u8], from: usize) -> u8
     b'?'
 }
 
-// FNV-1a of 64 bits, over the first n bytes.
-pub fn checksum(bytes: &[u8], n: usize) -> u64
-    ensures { λ r. ⌜ r ≡ fnv 0xCBF2_9CE4_8422_2325 (take n (now (bytes .entry))) ⌝ }
+// FNV-1a of 64 bits, over the first `count` bytes.
+pub fn checksum(bytes: &[u8], count: usize) -> u64
+    ensures { λ r. ⌜ r ≡ fnv 0xCBF2_9CE4_8422_2325 (take count (now (bytes .entry))) ⌝ }
 {
     let mut sum = 0xcbf2_9ce4_8422_2325;
     let mut i = 0;
-    while i < n && i < bytes.len() {
+    while i < count && i < bytes.len() {
         sum = times(sum ^ wide(bytes[i]));
         i += 1;
     }
     sum
 }
 
-fn wide(b: u8) -> u64
-    ensures { λ r. ⌜ r ≡ b ⌝ }
+fn wide(byte: u8) -> u64
+    ensures { λ r. ⌜ r ≡ byte ⌝ }
 {
-    b as u64
+    byte as u64
 }
 
-// FNV's prime times h, by its bits 40, 8, 7, 5, 4, 1 and 0: a product that wraps is no operation of the language.
-fn times(h: u64) -> u64
-    ensures { λ r. ⌜ r ≡ h * 0x0100_0000_01B3 % 2 ^ 64 ⌝ }
+// FNV's prime times `hash`, by its bits 40, 8, 7, 5, 4, 1 and 0: a product that wraps is no operation of the language.
+fn times(hash: u64) -> u64
+    ensures { λ r. ⌜ r ≡ hash * 0x0100_0000_01B3 % 2 ^ 64 ⌝ }
 {
-    let high = wrapping_add_u64(h << 40, h << 8);
-    let middle = wrapping_add_u64(wrapping_add_u64(h << 7, h << 5), h << 4);
-    let low = wrapping_add_u64(h << 1, h);
+    let high = wrapping_add_u64(hash << 40, hash << 8);
+    let middle = wrapping_add_u64(wrapping_add_u64(hash << 7, hash << 5), hash << 4);
+    let low = wrapping_add_u64(hash << 1, hash);
     wrapping_add_u64(wrapping_add_u64(high, middle), low)
 }

@@ -7,13 +7,4 @@ pub mod Syms
 pub mod Cells
 pub mod Symbols
 pub mod Once
-mod Sums
-mod Puts
-mod Working
-mod Swaps
-mod Acts
-mod Decides
-mod Turns
-mod Bounds
-mod Trims
-mod Owns
+pub mod Puts

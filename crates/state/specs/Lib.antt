@@ -1,10 +1,5 @@
 pub mod Symbols
-pub mod Modes
 pub mod Cells
-pub mod Working
-pub mod Steps
-pub mod Bounds
-pub mod Owns
 pub mod Stored
 pub mod Composed
 pub mod Compared

@@ -21,43 +21,43 @@ pub const JUMPDEST: usize = 2;
 pub const OTHER: usize = 3;
 
 // The symbol of a tag and a number.
-fn symbol_of(tag: usize, n: usize) -> StackSym
-    ensures { λ r. ⌜ symOf r ≡ symbol tag n ⌝ }
+fn symbol_of(tag: usize, number: usize) -> StackSym
+    ensures { λ r. ⌜ symOf r ≡ symbol tag number ⌝ }
 {
     match tag {
-        BEFORE => StackSym::Before(n),
-        CONSTANT => StackSym::Constant(n),
-        JUMPDEST => StackSym::Jumpdest(n),
-        _ => StackSym::Other(n),
+        BEFORE => StackSym::Before(number),
+        CONSTANT => StackSym::Constant(number),
+        JUMPDEST => StackSym::Jumpdest(number),
+        _ => StackSym::Other(number),
     }
 }
 
 // The symbol in the cell at `at`.
-pub fn get_cell(b: &[u8], at: usize) -> StackSym
-    requires { ⌜ at + 9 ≤ length (now b) ⌝ }
-    ensures { λ r. ⌜ symOf r ≡ symAt (now (b .entry)) at ⌝ }
+pub fn get_cell(bytes: &[u8], at: usize) -> StackSym
+    requires { ⌜ at + 9 ≤ length (now bytes) ⌝ }
+    ensures { λ r. ⌜ symOf r ≡ symAt (now (bytes .entry)) at ⌝ }
 {
-    symbol_of(get8(b, at), get64(b, at + 1))
+    symbol_of(get8(bytes, at), get64(bytes, at + 1))
 }
 
 // Stores a tag and a number at `at`.
-fn put_tagged(b: &mut [u8], at: usize, tag: usize, n: usize)
-    requires { ⌜ at + 9 ≤ length (now b) ⌝ }
-    ensures { λ _. ⌜ PutAs (now (b .entry)) at tag n (now (b .exit)) ⌝ }
+fn put_tagged(bytes: &mut [u8], at: usize, tag: usize, number: usize)
+    requires { ⌜ at + 9 ≤ length (now bytes) ⌝ }
+    ensures { λ _. ⌜ PutAs (now (bytes .entry)) at tag number (now (bytes .exit)) ⌝ }
 {
-    put8(b, at, tag);
-    put64(b, at + 1, n);
+    put8(bytes, at, tag);
+    put64(bytes, at + 1, number);
 }
 
 // Stores a symbol in the cell at `at`.
-pub fn put_cell(b: &mut [u8], at: usize, x: StackSym)
-    requires { ⌜ at + 9 ≤ length (now b) ⌝ }
-    ensures { λ _. ⌜ Put (now (b .entry)) at (symOf x) (now (b .exit)) ⌝ }
+pub fn put_cell(bytes: &mut [u8], at: usize, symbol: StackSym)
+    requires { ⌜ at + 9 ≤ length (now bytes) ⌝ }
+    ensures { λ _. ⌜ Put (now (bytes .entry)) at (symOf symbol) (now (bytes .exit)) ⌝ }
 {
-    match x {
-        StackSym::Before(n) => put_tagged(b, at, BEFORE, n),
-        StackSym::Constant(n) => put_tagged(b, at, CONSTANT, n),
-        StackSym::Jumpdest(n) => put_tagged(b, at, JUMPDEST, n),
-        StackSym::Other(n) => put_tagged(b, at, OTHER, n),
+    match symbol {
+        StackSym::Before(number) => put_tagged(bytes, at, BEFORE, number),
+        StackSym::Constant(number) => put_tagged(bytes, at, CONSTANT, number),
+        StackSym::Jumpdest(number) => put_tagged(bytes, at, JUMPDEST, number),
+        StackSym::Other(number) => put_tagged(bytes, at, OTHER, number),
     }
 }

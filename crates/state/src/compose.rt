@@ -15,54 +15,62 @@ ghost use Rattle.state.specs.Symbols.{symOf};
 ghost use Rattle.state.specs.Cells.{stackAt};
 ghost use Rattle.state.specs.Composed.{Resolves, Composes, ComposesKept, Mapped, Composed};
 
-// How many cells a child of c cells over Before(base) has when it is composed with a parent of p cells.
-pub fn composed_len(c: usize, base: usize, p: usize) -> usize
-    requires { ⌜ c + p < 2 ^ 64 ⌝ }
-    ensures { λ r. ⌜ r ≡ c + (p - (base + 1)) ⌝ }
+// How many cells a child of `upper` cells over Before(base) has when it is composed with a parent of `lower` cells.
+pub fn composed_len(upper: usize, base: usize, lower: usize) -> usize
+    requires { ⌜ upper + lower < 2 ^ 64 ⌝ }
+    ensures { λ r. ⌜ r ≡ upper + (lower - (base + 1)) ⌝ }
 {
-    if p <= base {
-        return c;
+    if lower <= base {
+        return upper;
     }
-    c + (p - base - 1)
+    upper + (lower - base - 1)
 }
 
-// A child's symbol over the parent whose state is in the p cells from `parent` on.
-fn resolved(b: &[u8], parent: usize, p: usize, x: StackSym) -> StackSym
-    requires { ⌜ Resolves (now b) parent p (symOf x) ⌝ }
-    ensures { λ r. ⌜ symOf r ≡ through (stackAt (now (b .entry)) parent p) (symOf x) ⌝ }
+// A child's symbol over the parent whose state is in the `lower` cells from `parent` on.
+fn resolved(bytes: &[u8], parent: usize, lower: usize, symbol: StackSym) -> StackSym
+    requires { ⌜ Resolves (now bytes) parent lower (symOf symbol) ⌝ }
+    ensures { λ r. ⌜ symOf r ≡ through (stackAt (now (bytes .entry)) parent lower) (symOf symbol) ⌝ }
 {
-    match x {
-        StackSym::Before(n) => symbol_at(b, parent, p, n),
-        StackSym::Constant(_) => x,
-        StackSym::Jumpdest(_) => x,
-        StackSym::Other(_) => x,
+    match symbol {
+        StackSym::Before(position) => symbol_at(bytes, parent, lower, position),
+        StackSym::Constant(_) => symbol,
+        StackSym::Jumpdest(_) => symbol,
+        StackSym::Other(_) => symbol,
     }
 }
 
 // Writes the child's cells over the parent, which lies in w.
-fn map_own(s: &mut [u8], child: usize, c: usize, to: usize, w: &[u8], parent: usize, p: usize)
-    requires { ⌜ Composes (now s) child c to (now w) parent p ⌝ }
-    ensures { λ _. ⌜ Mapped (now (s .entry)) child c to (stackAt (now (w .entry)) parent p) (now (s .exit)) ⌝ }
+fn map_own(
+    s: &mut [u8],
+    child: usize,
+    upper: usize,
+    to: usize,
+    w: &[u8],
+    parent: usize,
+    lower: usize,
+)
+    requires { ⌜ Composes (now s) child upper to (now w) parent lower ⌝ }
+    ensures { λ _. ⌜ Mapped (now (s .entry)) child upper to (stackAt (now (w .entry)) parent lower) (now (s .exit)) ⌝ }
 {
     let mut i = 0;
-    while i < c {
-        let x = get_cell(s, child + 9 * i);
-        let y = resolved(w, parent, p, x);
-        put_cell(s, to + 9 * i, y);
+    while i < upper {
+        let symbol = get_cell(s, child + 9 * i);
+        let over = resolved(w, parent, lower, symbol);
+        put_cell(s, to + 9 * i, over);
         i += 1;
     }
 }
 
 // Writes the child's cells over the parent, which lies in s too.
-fn map_kept(s: &mut [u8], child: usize, c: usize, to: usize, parent: usize, p: usize)
-    requires { ⌜ ComposesKept (now s) child c to parent p ⌝ }
-    ensures { λ _. ⌜ Mapped (now (s .entry)) child c to (stackAt (now (s .entry)) parent p) (now (s .exit)) ⌝ }
+fn map_kept(s: &mut [u8], child: usize, upper: usize, to: usize, parent: usize, lower: usize)
+    requires { ⌜ ComposesKept (now s) child upper to parent lower ⌝ }
+    ensures { λ _. ⌜ Mapped (now (s .entry)) child upper to (stackAt (now (s .entry)) parent lower) (now (s .exit)) ⌝ }
 {
     let mut i = 0;
-    while i < c {
-        let x = get_cell(s, child + 9 * i);
-        let y = resolved(s, parent, p, x);
-        put_cell(s, to + 9 * i, y);
+    while i < upper {
+        let symbol = get_cell(s, child + 9 * i);
+        let over = resolved(s, parent, lower, symbol);
+        put_cell(s, to + 9 * i, over);
         i += 1;
     }
 }
@@ -71,43 +79,43 @@ fn map_kept(s: &mut [u8], child: usize, c: usize, to: usize, parent: usize, p: u
 pub fn compose_own(
     s: &mut [u8],
     child: usize,
-    c: usize,
+    upper: usize,
     to: usize,
     w: &[u8],
     parent: usize,
-    p: usize,
+    lower: usize,
 ) -> usize
-    requires { ⌜ Composes (now s) child c to (now w) parent p ⌝ }
-    ensures { λ r. ⌜ Composed (now (s .entry)) to (compose (stackAt (now (s .entry)) child c) (stackAt (now (w .entry)) parent p)) (now (s .exit)) r ⌝ }
+    requires { ⌜ Composes (now s) child upper to (now w) parent lower ⌝ }
+    ensures { λ r. ⌜ Composed (now (s .entry)) to (compose (stackAt (now (s .entry)) child upper) (stackAt (now (w .entry)) parent lower)) (now (s .exit)) r ⌝ }
 {
-    let base = base_at(s, child, c);
-    map_own(s, child, c, to, w, parent, p);
-    if p - 1 <= base {
-        return c;
+    let base = base_at(s, child, upper);
+    map_own(s, child, upper, to, w, parent, lower);
+    if lower - 1 <= base {
+        return upper;
     }
-    let d = p - 1 - base;
-    copy(s, to + 9 * c, w, parent + 9 * (base + 1), 9 * d);
-    c + d
+    let below = lower - 1 - base;
+    copy(s, to + 9 * upper, w, parent + 9 * (base + 1), 9 * below);
+    upper + below
 }
 
 // Composes the child's state with a parent's that is kept in s, and gives the number of cells from `to` on.
 pub fn compose_kept(
     s: &mut [u8],
     child: usize,
-    c: usize,
+    upper: usize,
     to: usize,
     parent: usize,
-    p: usize,
+    lower: usize,
 ) -> usize
-    requires { ⌜ ComposesKept (now s) child c to parent p ⌝ }
-    ensures { λ r. ⌜ Composed (now (s .entry)) to (compose (stackAt (now (s .entry)) child c) (stackAt (now (s .entry)) parent p)) (now (s .exit)) r ⌝ }
+    requires { ⌜ ComposesKept (now s) child upper to parent lower ⌝ }
+    ensures { λ r. ⌜ Composed (now (s .entry)) to (compose (stackAt (now (s .entry)) child upper) (stackAt (now (s .entry)) parent lower)) (now (s .exit)) r ⌝ }
 {
-    let base = base_at(s, child, c);
-    map_kept(s, child, c, to, parent, p);
-    if p - 1 <= base {
-        return c;
+    let base = base_at(s, child, upper);
+    map_kept(s, child, upper, to, parent, lower);
+    if lower - 1 <= base {
+        return upper;
     }
-    let d = p - 1 - base;
-    copy_within(s, parent + 9 * (base + 1), to + 9 * c, 9 * d);
-    c + d
+    let below = lower - 1 - base;
+    copy_within(s, parent + 9 * (base + 1), to + 9 * upper, 9 * below);
+    upper + below
 }

@@ -1,13 +1,6 @@
-// The symbolic stack of a block, and composing it with a parent, over lent bytes.
+// Symbols and stored states: their cells in lent bytes, a position read, composing with a parent, comparing.
 pub mod cell;
 pub mod compose;
-pub mod mode;
 pub mod read;
-pub mod run;
 pub mod same;
-mod step;
-mod swap;
 pub mod sym;
-mod top;
-mod trade;
-mod words;

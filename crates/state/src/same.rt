@@ -7,26 +7,26 @@ ghost use Rattle.spec.specs.Stacks.{eqSym, eqStack};
 ghost use Rattle.state.specs.Cells.{symAt, stackAt};
 ghost use Rattle.state.specs.Compared.{TwoCells, TwoStates};
 
-// Whether the cells at i and at j hold the same symbol.
-fn same_cell(b: &[u8], i: usize, j: usize) -> bool
-    requires { ⌜ TwoCells (now b) i j ⌝ }
-    ensures { λ r. ⌜ r ≡ eqSym (symAt (now (b .entry)) i) (symAt (now (b .entry)) j) ⌝ }
+// Whether the cells at `one` and at `other` hold the same symbol.
+fn same_cell(bytes: &[u8], one: usize, other: usize) -> bool
+    requires { ⌜ TwoCells (now bytes) one other ⌝ }
+    ensures { λ r. ⌜ r ≡ eqSym (symAt (now (bytes .entry)) one) (symAt (now (bytes .entry)) other) ⌝ }
 {
-    if get64(b, i + 1) != get64(b, j + 1) {
+    if get64(bytes, one + 1) != get64(bytes, other + 1) {
         return false;
     }
-    get8(b, i) == get8(b, j)
+    get8(bytes, one) == get8(bytes, other)
 }
 
-// Whether the states in the n cells from i on and from j on are the same.
-pub fn same_state(b: &[u8], i: usize, j: usize, n: usize) -> bool
-    requires { ⌜ TwoStates (now b) i j n ⌝ }
-    ensures { λ r. ⌜ r ≡ eqStack (stackAt (now (b .entry)) i n) (stackAt (now (b .entry)) j n) ⌝ }
+// Whether the states in so many cells from `one` on and from `other` on are the same.
+pub fn same_state(bytes: &[u8], one: usize, other: usize, cells: usize) -> bool
+    requires { ⌜ TwoStates (now bytes) one other cells ⌝ }
+    ensures { λ r. ⌜ r ≡ eqStack (stackAt (now (bytes .entry)) one cells) (stackAt (now (bytes .entry)) other cells) ⌝ }
 {
-    let mut k = 0;
-    while k < n {
-        if same_cell(b, i + 9 * k, j + 9 * k) {
-            k += 1;
+    let mut i = 0;
+    while i < cells {
+        if same_cell(bytes, one + 9 * i, other + 9 * i) {
+            i += 1;
         } else {
             return false;
         }

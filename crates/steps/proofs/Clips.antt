@@ -12,9 +12,9 @@ use Rattle.spec.specs.Rooms.{or-else}
 use Rattle.lent.specs.Bytes.{numAt, Holds}
 use Rattle.layout.specs.Rows as rows
 use Rattle.parents.specs.Contracts.{Number, Link}
-use Rattle.laws.proofs.Branch.{both}
+use Rattle.laws.proofs.Branch.{both, if-true, if-false}
 use Rattle.laws.proofs.Members.{and-both}
-use Rattle.steps.specs.Cursors.{clipped, firstCursor, nextCursor, lastCursor, Cursor, Asks}
+use Rattle.steps.specs.Cursors.{clipped, upTo, firstCursor, nextCursor, lastCursor, Cursor, Asks}
 use Rattle.layout.specs.Fields.{firstFoundAt, FIRST-FOUND}
 use Rattle.layout.specs.Parts.{fieldsPlace}
 use Rattle.layout.specs.Records.{RECORD, recordPlace, R-ENDS, R-NEXT, endOf}
@@ -40,6 +40,17 @@ module _ (opened link : ℕ) where
   clip-some =
       both (λ (x : ℕ). (x ≡ 0 → ⊥) → (1 ≤ link) × (x ≡ 0x10000 + (link - 1))) (ltb 0 link && leb link opened)
       (λ e d. (ltb-true 0 link (and-both (ltb 0 link) (leb link opened) e .0), refl)) (λ _ d. absurd (d refl))
+
+-- ---- a link to a direct parent
+
+module _ (high link : ℕ) where
+  pub up-low : link ≤ high → link ≡ upTo high link
+  unfolding upTo
+  up-low l = sym (if-true (leb link high) link 0 (le-leb link high l))
+
+  pub up-high : high < link → 0 ≡ upTo high link
+  unfolding upTo
+  up-high l = sym (if-false (leb link high) link 0 (lt-leb link high l))
 
 -- ---- one number or, where that is 0, another
 
@@ -70,26 +81,28 @@ module _ (w : List ℕ) (n b opened : ℕ) where
   pub found-first : {x y : ℕ} → Holds 4 w (fieldsPlace n b + FIRST-FOUND) x → y ≡ clipped opened x → y ≡ clipped opened (firstFoundAt w n b)
   found-first h e = e ∙ ap (clipped opened) (h .is)
 
-  pub first-direct : {x : ℕ} → Number x (rows.firstAt w b) 2 → (x ≡ 0 → ⊥) → x ≡ firstCursor w n b opened
+module _ (w : List ℕ) (n b opened high : ℕ) where
+  pub first-direct : {x y : ℕ} → Number x (rows.firstAt w b) 2 → y ≡ upTo high x → (y ≡ 0 → ⊥) → y ≡ firstCursor w n b opened high
   unfolding firstCursor
-  first-direct h d = or-first _ _ d ∙ ap (λ (a : ℕ). or-else a (clipped opened (firstFoundAt w n b))) (h .is)
+  first-direct h u d = or-first _ _ d ∙ ap (λ (a : ℕ). or-else a (clipped opened (firstFoundAt w n b))) (u ∙ ap (upTo high) (h .is))
 
-  pub first-other : {x y : ℕ} → Number x (rows.firstAt w b) 2 → x ≡ 0 → y ≡ clipped opened (firstFoundAt w n b) → y ≡ firstCursor w n b opened
+  pub first-other : {x l y : ℕ} → Number x (rows.firstAt w b) 2 → l ≡ upTo high x → l ≡ 0 → y ≡ clipped opened (firstFoundAt w n b) → y ≡ firstCursor w n b opened high
   unfolding firstCursor
-  first-other h z e = e ∙ ap (λ (a : ℕ). or-else a (clipped opened (firstFoundAt w n b))) (sym z ∙ h .is)
+  first-other h u z e = e ∙ ap (λ (a : ℕ). or-else a (clipped opened (firstFoundAt w n b))) (sym z ∙ u ∙ ap (upTo high) (h .is))
 
   module _ (r : List ℕ) (at : ℕ) where
-    pub next-found : {x y : ℕ} → 0x10000 ≤ at → Holds 4 r (recordPlace (at - 0x10000) + R-NEXT) x → y ≡ clipped opened x → y ≡ nextCursor w r n b opened at
+    pub next-found : {x y : ℕ} → 0x10000 ≤ at → Holds 4 r (recordPlace (at - 0x10000) + R-NEXT) x → y ≡ clipped opened x → y ≡ nextCursor w r n b opened high at
     unfolding nextCursor if
     next-found l h e = rw (le-ltb at 0x10000 l) (e ∙ ap (clipped opened) (h .is))
 
-    pub next-direct : {x : ℕ} → at < 0x10000 → Number x (rows.nextAt w b at) 2 → (x ≡ 0 → ⊥) → x ≡ nextCursor w r n b opened at
+    pub next-direct : {x y : ℕ} → at < 0x10000 → Number x (rows.nextAt w b at) 2 → y ≡ upTo high x → (y ≡ 0 → ⊥) → y ≡ nextCursor w r n b opened high at
     unfolding nextCursor if
-    next-direct l h d = rw (lt-ltb at 0x10000 l) (or-first _ _ d ∙ ap (λ (a : ℕ). or-else a (clipped opened (firstFoundAt w n b))) (h .is))
+    next-direct l h u d = rw (lt-ltb at 0x10000 l) (or-first _ _ d ∙ ap (λ (a : ℕ). or-else a (clipped opened (firstFoundAt w n b))) (u ∙ ap (upTo high) (h .is)))
 
-    pub next-other : {x y : ℕ} → at < 0x10000 → Number x (rows.nextAt w b at) 2 → x ≡ 0 → y ≡ clipped opened (firstFoundAt w n b) → y ≡ nextCursor w r n b opened at
+    pub next-other : {x k y : ℕ} → at < 0x10000 → Number x (rows.nextAt w b at) 2 → k ≡ upTo high x → k ≡ 0 → y ≡ clipped opened (firstFoundAt w n b)
+        → y ≡ nextCursor w r n b opened high at
     unfolding nextCursor if
-    next-other l h z e = rw (lt-ltb at 0x10000 l) (e ∙ ap (λ (a : ℕ). or-else a (clipped opened (firstFoundAt w n b))) (sym z ∙ h .is))
+    next-other l h u z e = rw (lt-ltb at 0x10000 l) (e ∙ ap (λ (a : ℕ). or-else a (clipped opened (firstFoundAt w n b))) (sym z ∙ u ∙ ap (upTo high) (h .is)))
 
 module _ (r q : List ℕ) (at : ℕ) where
   pub last-direct : {x : ℕ} → at < 0x10000 → x ≡ startOf at → x ≡ lastCursor r q at

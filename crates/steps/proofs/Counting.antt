@@ -8,7 +8,7 @@ use lib.ListN.{length}
 use Rattle.spec.specs.Lists.{little}
 use Rattle.lent.specs.Bytes.{Holds, Stored}
 use Rattle.lent.proofs.Stored.{kept-take, kept-drop, kept-part, kept-num, read-back}
-use Rattle.layout.specs.Fields.{COUNT, SPARE, countAt}
+use Rattle.layout.specs.Fields.{COUNT, HIGHEST, countAt}
 use Rattle.layout.specs.Parts.{rowsEnd, fieldsPlace, listPlace}
 use Rattle.tables.specs.Addrs.{addrs}
 use Rattle.tables.proofs.Addrs.{addrs-length}
@@ -26,7 +26,7 @@ module _ {n x : ℕ} (v : ℕ) {w w′ : List ℕ} (l : x ≤ n) (s : Stored 4 w
   store-only = record {
     front = kept-take s (rowsEnd n) (omega arith);
     before = λ a h. kept-part s 12 (fieldsPlace n a) (λ k. omega arith);
-    after = λ a h. kept-part s 4 (fieldsPlace n a + SPARE) (λ k. omega arith);
+    after = λ a h. kept-part s 4 (fieldsPlace n a + HIGHEST) (λ k. omega arith);
     back = kept-drop s (listPlace n) (omega arith);
     long = s .kept;
   }

@@ -10,7 +10,7 @@ use Rattle.tables.specs.Chains.{any}
 use Rattle.tables.specs.Rows.{metOf, seenMet, sameMet, isMet, Stamped, Finds}
 use Rattle.tables.specs.Mets.{Memorizes, Memorized}
 use Rattle.tables.specs.declared.Counts.{Counts}
-use Rattle.tables.specs.declared.Answer.{Answer}
+use Rattle.tables.specs.declared.Reply.{Reply}
 use Rattle.tables.specs.declared.row.Seen.{Seen}
 use Rattle.tables.proofs.Turns.{met-found, fresh-finds, row-short}
 use Rattle.steps.specs.Meets.{Meets, Met}
@@ -42,6 +42,6 @@ module _ {t s : List ℕ} {k : Plan} {c : Counts} {x : Seen} (h : Meets t s k c 
     pub met-again : b ≡ true → Met t s k c x t (record { code = 0; met = true; counts = c })
     met-again z = record { met-is = sym z ∙ met-found t s x (c .rows) e; again = λ i. (refl, refl, refl); new = λ i. not-both refl i }
 
-    pub met-new : {t′ : List ℕ} {a : Answer} → b ≡ false → Memorized (k .shelves) (k .rooms) t s c x t′ a
+    pub met-new : {t′ : List ℕ} {a : Reply} → b ≡ false → Memorized (k .shelves) (k .rooms) t s c x t′ a
         → Met t s k c x t′ (record { code = a .code; met = false; counts = a .counts })
     met-new z m = record { met-is = sym z ∙ met-found t s x (c .rows) e; again = λ i. not-both i refl; new = λ i. m }

@@ -23,10 +23,11 @@ use Rattle.tables.proofs.Counted.{recs-length}
 use Rattle.layout.specs.Rows as rows
 use Rattle.parents.specs.Links.{Parents}
 use Rattle.parents.proofs.Chains.{walk-parents, small-parents, parents-prefix}
-use Rattle.parents.proofs.Knows.{parentOf, Comes}
+use Rattle.parents.specs.Links.{Comes}
+use Rattle.parents.proofs.Knows.{parentOf}
 use Rattle.laws.proofs.Members.{In, here, there, in-only, in-right}
 use Rattle.laws.proofs.Lists.{Rising, one-more}
-use Rattle.steps.specs.Cursors.{clipped, nextCursor, pathCursor, lastCursor, stackCursor, Cursor, Asks, foundTo, LeadsTo, Left, none-left, direct-left, found-left}
+use Rattle.steps.specs.Cursors.{clipped, upTo, nextCursor, pathCursor, lastCursor, stackCursor, Cursor, Asks, foundTo, LeadsTo, DirectParent, Left, none-left, direct-left, found-left}
 use Rattle.layout.specs.Fields.{firstFoundAt}
 use Rattle.layout.specs.Marks.{NOWHERE}
 use Rattle.layout.specs.Parts.{rowsEnd, SameRows}
@@ -36,7 +37,7 @@ use Rattle.steps.specs.Paths.{Inside}
 use Rattle.steps.specs.Sound.{SoundRecs}
 use Rattle.steps.proofs.Clips.{clip-some}
 use Rattle.steps.proofs.Founds.{stateAt, recs-from, recs-take, rec-here, rec-to, leads-here, following-left}
-use Rattle.steps.proofs.Cursors.{or-left, all-found, direct-path, direct-last, direct-stack, direct-next, found-path, found-last, found-stack, found-next, fuel, fuel-falls, link-rises, or-rises}
+use Rattle.steps.proofs.Cursors.{LeftUpTo, or-left, direct-rows, all-found, direct-path, direct-last, direct-stack, direct-next, found-path, found-last, found-stack, found-next, fuel, fuel-falls, up-rises, or-rises}
 
 -- ---- the last of some addresses
 
@@ -82,11 +83,11 @@ pub record FoundNext (mode : ℕ) (code r q s : List ℕ) (n b room m : ℕ) (rs
   pub path : rec .path ≡ pathCursor r q at
   pub goes : rec .to ≡ found b (stackCursor mode code r s room at)
 
-pub record NextLeft (mode : ℕ) (code w r q s : List ℕ) (n b opened room m : ℕ) (rs : List Rec) (at : ℕ) (ps : List Parent) : Type 0 where
+pub record NextLeft (mode : ℕ) (code w r q s : List ℕ) (n b opened high room m : ℕ) (rs : List Rec) (at : ℕ) (ps : List Parent) : Type 0 where
   pub rest : List Parent
   pub is : ps ≡ parent b (pathCursor r q at) (stackCursor mode code r s room at) ∷ rest
-  pub left : Left mode code w n b rs (nextCursor w r n b opened at) rest
-  pub falls : fuel (nextCursor w r n b opened at) < fuel at
+  pub next : LeftUpTo mode code w n b rs high (nextCursor w r n b opened high at) rest
+  pub falls : fuel (nextCursor w r n b opened high at) < fuel at
   pub cursor : Cursor w r n at
   pub asks : Asks r q at
   pub last : lastOf (pathCursor r q at) ≡ lastCursor r q at
@@ -97,34 +98,34 @@ pub record NextLeft (mode : ℕ) (code w r q s : List ℕ) (n b opened room m : 
   pub found : 0x10000 ≤ at → FoundNext mode code r q s n b room m rs at
 
 module _ (mode : ℕ) (code : List ℕ) {w r q s : List ℕ} {n buckets : ℕ} {k : Rooms} {c : Counts} (t : Tables n buckets k (mem w r q s) c) (short : n ≤ longest) (lent : rowsEnd n ≤ length w)
-    (b : ℕ) (inside : b ≤ n) (opened : ℕ) (most : opened ≤ c .records) where
+    (b : ℕ) (inside : b ≤ n) (opened high : ℕ) (most : opened ≤ c .records) where
   -- the records that were there
   abbrev rs : List Rec
   rs = recsOf r q s (k .s) opened
 
   abbrev Next : ℕ → List Parent → Type 0
-  Next at ps = NextLeft mode code w r q s n b opened (k .s) (c .records) rs at ps
+  Next at ps = NextLeft mode code w r q s n b opened high (k .s) (c .records) rs at ps
 
   -- a direct one
   from-direct : (at lo : ℕ) {more : List ℕ} → 1 ≤ at → at < 0x10000 → startOf at ≤ n → Parents w n b (rows.nextAt w b at) more → Rising lo (startOf at ∷ more)
-      → ((a : ℕ) → In a (startOf at ∷ more) → Comes code a)
+      → ((a : ℕ) → In a (startOf at ∷ more) → DirectParent code w n b a)
       → Next at (map (parentOf mode code b) (startOf at ∷ more) ++ foundTo b rs)
   from-direct at lo {more} some l start p (one-more _ h) comes =
       record {
         rest = map (parentOf mode code b) more ++ foundTo b rs;
         is = rw (path, direct-stack at l mode code r s (k .s));
-        left = rw next (or-left (rows.nextAt w b at) p h (λ a i. comes a (there i)) (all-found mode code t b inside opened most));
+        next = rw next (or-left high (rows.nextAt w b at) p h (λ a i. comes a (there i)) (all-found mode code t b inside opened most));
         falls =
             rw next
-            (fuel-falls at (or-else (rows.nextAt w b at) (clipped opened (firstFoundAt w n b))) (λ e. omega arith) (omega arith)
-            (or-rises at (rows.nextAt w b at) (clipped opened (firstFoundAt w n b)) (λ d. omega (arith, link-rises p h d)) (λ d. omega (arith, clip-some opened (firstFoundAt w n b) d))));
+            (fuel-falls at (or-else (upTo high (rows.nextAt w b at)) (clipped opened (firstFoundAt w n b))) (λ e. omega arith) (omega arith)
+            (or-rises at (upTo high (rows.nextAt w b at)) (clipped opened (firstFoundAt w n b)) (λ d. omega (arith, up-rises high p h d)) (λ d. omega (arith, clip-some opened (firstFoundAt w n b) d))));
         cursor = record { some = some; direct = λ _. omega arith; found = λ z. absurd (omega arith) };
         asks = record { some = some; row = λ z. absurd (omega arith); path = λ z. absurd (omega arith) };
         last = ap lastOf path ∙ sym last;
         last-inside = rw last start;
         inside = rw path (record { each = λ a i. omega (arith, in-only i) });
         some = rw path (omega arith);
-        direct = λ _. record { comes = comes (startOf at) here; start = start; path = path };
+        direct = λ _. record { comes = comes (startOf at) here .comes; start = start; path = path };
         found = λ z. absurd (omega arith);
       }
     where
@@ -134,8 +135,8 @@ module _ (mode : ℕ) (code : List ℕ) {w r q s : List ℕ} {n buckets : ℕ} {
       last : lastCursor r q at ≡ startOf at
       last = direct-last at l r q
 
-      next : nextCursor w r n b opened at ≡ or-else (rows.nextAt w b at) (clipped opened (firstFoundAt w n b))
-      next = direct-next at l w r n b opened
+      next : nextCursor w r n b opened high at ≡ or-else (upTo high (rows.nextAt w b at)) (clipped opened (firstFoundAt w n b))
+      next = direct-next at l w r n b opened high
 
   -- a found one: record i leads to b
   module _ (i : ℕ) (l : LeadsTo b rs i) where
@@ -187,9 +188,11 @@ module _ (mode : ℕ) (code : List ℕ) {w r q s : List ℕ} {n buckets : ℕ} {
         is =
             ap (foundTo b) (recs-from r q s (k .s) opened i below) ∙ leads-here r q s (k .s) b i (drop (suc i) rs) few to
             ∙ rw (path, stack);
-        left =
-            rw (next, leads-next i h)
-            (following-left r q s (k .s) b opened mode code w n (c .records) few most (suc i) (omega (arith, below)));
+        next = record {
+          rest = foundTo b (drop (suc i) rs);
+          left = rw (next, leads-next i h) (following-left r q s (k .s) b opened mode code w n (c .records) few most (suc i) (omega (arith, below)));
+          passes = λ f e. refl;
+        };
         falls = rw next (fuel-falls at (clipped opened (records.nextAt r i)) (λ e. omega arith) (omega (arith, below, t .within .fitsR, t .within .mostR)) (λ d. omega (arith, leads-rises i h d)));
         cursor = record { some = omega arith; direct = λ z. absurd (omega arith); found = λ _. row .inR };
         asks = record { some = omega arith; row = λ _. row .inR; path = λ _. (omega (arith, long, path-length r q i), row .inQ) };
@@ -241,8 +244,8 @@ module _ (mode : ℕ) (code : List ℕ) {w r q s : List ℕ} {n buckets : ℕ} {
       last : lastCursor r q at ≡ numAt 2 q (2 * (endOf r (suc i) - 1))
       last = found-last at l r q
 
-      next : nextCursor w r n b opened at ≡ clipped opened (records.nextAt r i)
-      next = found-next at l w r n b opened
+      next : nextCursor w r n b opened high at ≡ clipped opened (records.nextAt r i)
+      next = found-next at l w r n b opened high
 
   -- either
   from-left : {w₀ : List ℕ} {at : ℕ} {ps : List Parent} → SameRows n w₀ w → SoundRecs n rs
@@ -251,19 +254,19 @@ module _ (mode : ℕ) (code : List ℕ) {w r q s : List ℕ} {n buckets : ℕ} {
   from-left {w₀} e sound (direct-left {link} {lo} some p h comes) d =
       let g = walk-parents (parents-prefix w₀ w n (sym e) p) d in
       subst (λ (xs : List ℕ). Next link (map (parentOf mode code b) xs ++ foundTo b rs)) (sym (g .is))
-      (from-direct link lo some (omega (arith, small-parents p)) (g .inside) (g .later) (rw (g .is) at h) (rw (g .is) at comes))
+      (from-direct link lo some (omega (arith, small-parents p)) (g .inside) (g .later) (rw (g .is) at h) (λ a i. direct-rows e (comes a (rw (g .is) i))))
   from-left e sound (found-left {i} h) d =
       let z : 0x10000 + i - 0x10000 ≡ i = omega arith in
       subst (λ (j : ℕ). Next (0x10000 + i) (foundTo b (drop j rs))) z
       (from-found (0x10000 + i) (omega arith) sound (rw z h))
 
 -- With the records as they were when the level opened, and the buffers as they are now.
-pub next-left : {mode : ℕ} {code w₀ w r q s : List ℕ} {n b buckets at : ℕ} {k : Rooms} {c : Counts} {rs : List Rec} {ps : List Parent} (opened : ℕ)
+pub next-left : {mode : ℕ} {code w₀ w r q s : List ℕ} {n b buckets at : ℕ} {k : Rooms} {c : Counts} {rs : List Rec} {ps : List Parent} (opened high : ℕ)
     → n ≤ longest → b ≤ n → rowsEnd n ≤ length w → Tables n buckets k (mem w r q s) c → SameRows n w₀ w
     → rs ≡ take opened (recs k (mem w r q s) c) → opened ≤ c .records → SoundRecs n rs → Left mode code w₀ n b rs at ps → (at ≡ 0 → ⊥)
-    → NextLeft mode code w r q s n b opened (k .s) (c .records) rs at ps
-next-left {mode} {code} {w₀} {w} {r} {q} {s} {n} {b} {at = at} {k} {c} {rs} {ps} opened short inside lent t e is most sound left d =
+    → NextLeft mode code w r q s n b opened high (k .s) (c .records) rs at ps
+next-left {mode} {code} {w₀} {w} {r} {q} {s} {n} {b} {at = at} {k} {c} {rs} {ps} opened high short inside lent t e is most sound left d =
     go (is ∙ recs-take r q s (k .s) (c .records) opened most) sound left
   where
-    go : rs ≡ recsOf r q s (k .s) opened → SoundRecs n rs → Left mode code w₀ n b rs at ps → NextLeft mode code w r q s n b opened (k .s) (c .records) rs at ps
-    go f x y = rw f (from-left mode code t short lent b inside opened most e (rw f at x) (rw f at y) d)
+    go : rs ≡ recsOf r q s (k .s) opened → SoundRecs n rs → Left mode code w₀ n b rs at ps → NextLeft mode code w r q s n b opened high (k .s) (c .records) rs at ps
+    go f x y = rw f (from-left mode code t short lent b inside opened high most e (rw f at x) (rw f at y) d)

@@ -12,22 +12,22 @@ use Rattle.spec.specs.Stacks.{Stack}
 use Rattle.spec.specs.Search.{Found, kept, dest, S}
 use Rattle.laws.proofs.Branch.{if-false}
 use Rattle.lent.proofs.Once.{Bytes, Same, Outside, same-num, same-both, same-as, same-then, same-whole, same-outside}
-use Rattle.layout.specs.Fields.{COUNT, SPARE, markAt}
+use Rattle.layout.specs.Fields.{COUNT, HIGHEST, FLAG, markAt, highAt}
 use Rattle.layout.specs.Parts.{ROW, fieldsPlace, listPlace}
 use Rattle.layout.proofs.Once.{same-to-list}
-use Rattle.state.specs.Owns.{roomOf}
+use Rattle.exec.specs.Owns.{roomOf}
 use Rattle.state.proofs.Once.{one-symbol, one-lies}
 use Rattle.tables.specs.Addrs.{addrs}
 use Rattle.tables.specs.Tables as tables
 use Rattle.tables.specs.Tables.{recs, counted}
 use Rattle.tables.specs.Recording.{shortOf, recorded?}
 use Rattle.tables.specs.declared.Counts.{Counts}
-use Rattle.tables.specs.declared.Answer.{Answer}
+use Rattle.tables.specs.declared.Reply.{Reply}
 use Rattle.tables.specs.declared.row.Seen.{Seen}
 use Rattle.tables.proofs.Chains.{keyed}
 use Rattle.tables.proofs.Alike.{AllBytes, AllLong, one-tables, one-more, addrs-same}
 use Rattle.tables.proofs.Once.{one-answer, one-memorized}
-use Rattle.steps.specs.Lands.{remarked, Noted}
+use Rattle.steps.specs.Lands.{remarked, heightened, Noted}
 use Rattle.steps.specs.Meets.{Met}
 use Rattle.steps.specs.Paths.{Grown, Counted}
 use Rattle.steps.specs.States.{Took}
@@ -38,7 +38,7 @@ use Rattle.steps.specs.declared.state_of.Taken.{Taken}
 
 -- ---- what is found
 
-pub one-noted : {p : List ℕ} {np start energy : ℕ} {k : Plan} {m m′ m″ : tables.Mem} {c : Counts} {x : Found} {a e : Answer} → AllBytes m′ → AllBytes m″
+pub one-noted : {p : List ℕ} {np start energy : ℕ} {k : Plan} {m m′ m″ : tables.Mem} {c : Counts} {x : Found} {a e : Reply} → AllBytes m′ → AllBytes m″
     → Noted p np k m c start energy x m′ a → Noted p np k m c start energy x m″ e → (a ≡ e) × (m′ ≡ m″)
 one-noted {p} {np} {start} {energy} {k} {m} {m′} {m″} {c} {x} {a} {e} b d f g = go (keyed (a .code) 0) (recorded? x (addrs p 0 np) (recs (k .rooms) m c)) refl
   where
@@ -48,6 +48,18 @@ one-noted {p} {np} {start} {energy} {k} {m} {m′} {m″} {c} {x} {a} {e} b d f 
     marks : a .counts ≡ e .counts → (y : ℕ) → y ≤ k .n → markAt (m′ .w) (k .n) y ≡ markAt (m″ .w) (k .n) y
     marks z y h =
         f .marked y h ∙ ap (λ (o : Counts). remarked (ltb (c .records) (o .records) && mem y (dest x)) (c .records) (markAt (m .w) (k .n) y)) z ∙ sym (g .marked y h)
+
+    heights : a .counts ≡ e .counts → (y : ℕ) → y ≤ k .n → highAt (m′ .w) (k .n) y ≡ highAt (m″ .w) (k .n) y
+    heights z y h =
+        f .heights y h ∙ ap (λ (o : Counts). heightened (m .w) (ltb (c .records) (o .records)) x y (highAt (m .w) (k .n) y)) z ∙ sym (g .heights y h)
+
+    -- the count, the highest parent and the flag of an address
+    rests : a .counts ≡ e .counts → length (m′ .w) ≡ length (m″ .w) → (y : ℕ) → y ≤ k .n → Same (m′ .w) (m″ .w) (fieldsPlace (k .n) y + COUNT) 8
+    rests z long y h =
+        let place = fieldsPlace (k .n) y in
+        same-then
+        (same-then (same-both (place + COUNT) 4 (f .around .rests y h) (g .around .rests y h)) (same-num (b .w) (d .w) long 2 (place + HIGHEST) (heights z y h)) (omega arith))
+        (same-both (place + FLAG) 2 (f .around .flags y h) (g .around .flags y h)) (omega arith)
 
     go : (a .code ≡ 0) ⊎ (a .code ≡ 0 → ⊥) → (o : Bool) → recorded? x (addrs p 0 np) (recs (k .rooms) m c) ≡ o → (a ≡ e) × (m′ ≡ m″)
     go (inl z) true o =
@@ -69,7 +81,7 @@ one-noted {p} {np} {start} {energy} {k} {m} {m′} {m″} {c} {x} {a} {e} b d f 
           one-more (ap (λ (o : Counts). o .records) made) (omega (arith, f .tables .within .fitsS)) one (f .around .stays) (rw (sym counts) at (g .around .stays))
               (f .around .front ∙ sym (g .around .front))
               (λ a h. same-as (same-num (b .w) (d .w) (long .w) 4 (fieldsPlace (k .n) a) (marks counts a h)) (omega arith) refl)
-              (λ a h. same-both (fieldsPlace (k .n) a + COUNT) 8 (f .around .rests a h) (g .around .rests a h))
+              (rests counts (long .w))
               (same-both (listPlace (k .n)) (2 * (k .n + 1)) (f .around .work) (g .around .work))
               (f .around .back ∙ sym (g .around .back)) b d,
         )
@@ -95,7 +107,7 @@ one-met {u = u} {v = v} {a = a} {e = e} b d p q = go (a .met) refl
         (one (f .0 ∙ sym (g .0)) (f .2 ∙ sym (g .2)), f .1 ∙ sym (g .1))
     go false o =
         let f = one-memorized b d (p .new o) (q .new (sym met ∙ o)) in
-        (one (ap (λ (y : Answer). y .code) (f .0)) (ap (λ (y : Answer). y .counts) (f .0)), f .1)
+        (one (ap (λ (y : Reply). y .code) (f .0)) (ap (λ (y : Reply). y .counts) (f .0)), f .1)
 
 -- ---- the path in hand
 
@@ -123,7 +135,7 @@ one-counted {n} {np} {w} {p} {u} {v} b d f g =
     λ a h.
     let before : Same u v (fieldsPlace n a) COUNT = same-both (fieldsPlace n a) COUNT (f .only .before a h) (g .only .before a h) in
     let count : Same u v (fieldsPlace n a + COUNT) 4 = same-num b d long 4 (fieldsPlace n a + COUNT) (f .counts .counts a h ∙ sym (g .counts .counts a h)) in
-    let after : Same u v (fieldsPlace n a + SPARE) 4 = same-both (fieldsPlace n a + SPARE) 4 (f .only .after a h) (g .only .after a h) in
+    let after : Same u v (fieldsPlace n a + HIGHEST) 4 = same-both (fieldsPlace n a + HIGHEST) 4 (f .only .after a h) (g .only .after a h) in
     same-then (same-then before count refl) after refl in
     same-whole (listPlace n) (same-to-list (f .only .front ∙ sym (g .only .front)) address) (f .only .back ∙ sym (g .only .back))
 

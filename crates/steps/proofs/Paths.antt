@@ -5,13 +5,12 @@ use mathlib.Core.List.{List}
 use Prim.Native.Nat.{ℕ, _+_, _≤_}
 use native.Mathlib.Omega.{arith}
 use lib.Dec.{eqb}
-use lib.ListN.{take, drop}
+use lib.ListN.{take}
 use Rattle.spec.specs.Lists.{mem}
-use Rattle.lent.specs.Bytes.{numAt, Holds}
-use Rattle.lent.proofs.Numbers.{num-prefix, num-suffix}
-use Rattle.layout.specs.Fields.{FIRST-FOUND, LAST-FOUND, COUNT, SPARE, FLAG, markAt, flagAt, countAt}
-use Rattle.layout.specs.Parts.{ROW, fieldsPlace, listPlace, bucketPlace}
-use Rattle.tables.specs.Tables.{SameLinks}
+use Rattle.lent.specs.Bytes.{Holds}
+use Rattle.lent.proofs.Numbers.{num-prefix}
+use Rattle.layout.specs.Fields.{COUNT, HIGHEST, FLAG, flagAt, countAt}
+use Rattle.layout.specs.Parts.{fieldsPlace, listPlace, SameFields}
 use Rattle.reachable.specs.Marks.{flagged}
 use Rattle.reachable.proofs.Frames.{num-in}
 use Rattle.reachable.proofs.Flags.{flagged-same}
@@ -33,9 +32,9 @@ module _ {n : ℕ} {w path : List ℕ} (o : OnPath n w path) where
     counts-same : ((a : ℕ) → a ≤ n → countAt w′ n a ≡ countAt w n a) → OnPath n w′ path
     counts-same e = record { counts = λ a h. e a h ∙ o .counts a h }
 
-    pub counts-kept : ((a : ℕ) → a ≤ n → take 8 (drop (fieldsPlace n a + COUNT) w′) ≡ take 8 (drop (fieldsPlace n a + COUNT) w)) → OnPath n w′ path
+    pub counts-kept : SameFields 4 COUNT n w w′ → OnPath n w′ path
     counts-kept e =
-        counts-same (λ a h. num-in w′ w 8 (fieldsPlace n a + COUNT) (e a h) 4 (fieldsPlace n a + COUNT) (omega arith) (omega arith))
+        counts-same (λ a h. num-in w′ w 4 (fieldsPlace n a + COUNT) (e a h) 4 (fieldsPlace n a + COUNT) (omega arith) (omega arith))
 
     pub counts-prefix : (k : ℕ) → listPlace n ≤ k → take k w′ ≡ take k w → OnPath n w′ path
     counts-prefix k l e = counts-same (λ a h. num-prefix w′ w k e 4 (fieldsPlace n a + COUNT) (omega arith))
@@ -55,26 +54,8 @@ only-after p q = record {
 }
 
 module _ {n : ℕ} {w w′ : List ℕ} (o : CountsOnly n w w′) where
-  -- a number before the count of a, and one after it
-  num-before : (a k i : ℕ) → a ≤ n → fieldsPlace n a ≤ i → i + k ≤ fieldsPlace n a + COUNT → numAt k w′ i ≡ numAt k w i
-  num-before a k i h lo hi = num-in w′ w 12 (fieldsPlace n a) (o .before a h) k i lo hi
-
-  num-after : (a k i : ℕ) → a ≤ n → fieldsPlace n a + SPARE ≤ i → i + k ≤ fieldsPlace n a + ROW → numAt k w′ i ≡ numAt k w i
-  num-after a k i h lo hi = num-in w′ w 4 (fieldsPlace n a + SPARE) (o .after a h) k i lo (omega arith)
-
-  pub only-marks : (a : ℕ) → a ≤ n → markAt w′ n a ≡ markAt w n a
-  only-marks a h = num-before a 4 (fieldsPlace n a) h (omega arith) (omega arith)
-
   pub only-flags : (a : ℕ) → a ≤ n → flagAt w′ n a ≡ flagAt w n a
-  only-flags a h = num-after a 1 (fieldsPlace n a + FLAG) h (omega arith) (omega arith)
+  only-flags a h = num-in w′ w 4 (fieldsPlace n a + HIGHEST) (o .after a h) 1 (fieldsPlace n a + FLAG) (omega arith) (omega arith)
 
   pub only-flagged : flagged w′ n ≡ flagged w n
   only-flagged = flagged-same w w′ n only-flags
-
-  pub only-links : (buckets : ℕ) → SameLinks n buckets w w′
-  only-links buckets = record {
-    firsts = λ a h. num-before a 4 (fieldsPlace n a + FIRST-FOUND) h (omega arith) (omega arith);
-    lasts = λ a h. num-before a 4 (fieldsPlace n a + LAST-FOUND) h (omega arith) (omega arith);
-    heads = λ h l. num-suffix w′ w (listPlace n) (o .back) 4 (bucketPlace n h) (omega arith);
-    long = o .long;
-  }

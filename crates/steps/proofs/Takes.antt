@@ -15,14 +15,14 @@ use Rattle.lent.specs.Bytes.{Holds}
 use Rattle.lent.proofs.Stored.{kept-take, kept-drop}
 use Rattle.layout.specs.Records.{recordPlace, R-KEPT, keptOf}
 use Rattle.layout.specs.Rows.{startOf}
-use Rattle.state.specs.Modes.{modeOf}
+use Rattle.exec.specs.Modes.{modeOf}
 use Rattle.state.specs.Symbols.{symOf}
 use Rattle.state.specs.Cells.{stackAt, State, reach}
 use Rattle.state.specs.Stored.{Readable}
 use Rattle.state.specs.Composed.{Composes, ComposesKept, Composed}
-use Rattle.state.specs.Owns.{Runs, Inside, Owned}
+use Rattle.exec.specs.Owns.{Runs, Inside, Owned}
 use Rattle.state.specs.declared.sym.StackSym.{StackSym}
-use Rattle.state.specs.declared.run.Own.{Own}
+use Rattle.exec.specs.declared.run.Own.{Own}
 use Rattle.state.proofs.States.{state-lies, lies-count, own-walked}
 use Rattle.state.proofs.Composing.{cells-compose}
 use Rattle.tables.specs.Recording.{shortOf}

@@ -2,7 +2,7 @@
 -- Assumes nothing.
 use mathlib.Core.Path.{_≡_}
 use Prim.Native.Nat.{ℕ, suc, _+_, _-_, _*_, _≤_, _<_}
-use mathlib.Core.Bool.{Bool, _&&_, _||_}
+use mathlib.Core.Bool.{Bool, true, _&&_, _||_}
 use mathlib.Core.List.{List, [], _∷_, _++_, map}
 use lib.Dec.{eqb, ltb, leb}
 use lib.ListN.{length, drop}
@@ -23,6 +23,7 @@ use Rattle.layout.specs.Rows.{startOf}
 use Rattle.state.specs.Cells.{stackAt}
 use Rattle.tables.specs.Records.{pathAt}
 use Rattle.parents.specs.Links.{Parents, parentOf, Comes}
+use Rattle.reachable.specs.Edges.{sidesAt}
 
 -- ---- the numbers
 
@@ -30,12 +31,16 @@ use Rattle.parents.specs.Links.{Parents, parentOf, Comes}
 unfoldable pub clipped : ℕ → ℕ → ℕ
 clipped opened link = if (ltb 0 link && leb link opened) (0x10000 + (link - 1)) 0
 
-unfoldable pub firstCursor : List ℕ → ℕ → ℕ → ℕ → ℕ
-firstCursor w n b opened = or-else (rows.firstAt w b) (clipped opened (firstFoundAt w n b))
+-- a link, if it is no higher than the highest
+unfoldable pub upTo : ℕ → ℕ → ℕ
+upTo high link = if (leb link high) link 0
 
-unfoldable pub nextCursor : List ℕ → List ℕ → ℕ → ℕ → ℕ → ℕ → ℕ
-nextCursor w r n b opened at =
-    if (ltb at 0x10000) (or-else (rows.nextAt w b at) (clipped opened (firstFoundAt w n b))) (clipped opened (records.nextAt r (at - 0x10000)))
+unfoldable pub firstCursor : List ℕ → ℕ → ℕ → ℕ → ℕ → ℕ
+firstCursor w n b opened high = or-else (upTo high (rows.firstAt w b)) (clipped opened (firstFoundAt w n b))
+
+unfoldable pub nextCursor : List ℕ → List ℕ → ℕ → ℕ → ℕ → ℕ → ℕ → ℕ
+nextCursor w r n b opened high at =
+    if (ltb at 0x10000) (or-else (upTo high (rows.nextAt w b at)) (clipped opened (firstFoundAt w n b))) (clipped opened (records.nextAt r (at - 0x10000)))
 
 -- ---- the parent that a number stands for: its path, its last block, and its stack
 
@@ -88,9 +93,15 @@ pub record LeadsTo (b : ℕ) (recs : List Rec) (i : ℕ) : Type 0 where
   pub state : Stack
   pub to : rec .to ≡ found b state
 
+-- a direct parent of b, by its start: b is one of its block's static sides
+pub record DirectParent (code w : List ℕ) (n b a : ℕ) : Type 0 where
+  pub comes : Comes code a
+  pub inside : a ≤ n
+  pub side : mem b (sidesAt w a) ≡ true
+
 -- the starts of direct parents rise, and so do the links to them: a level's loop ends
 pub data Left (mode : ℕ) (code w : List ℕ) (n b : ℕ) (recs : List Rec) : ℕ → List Parent → Type 0 where
   none-left : Left mode code w n b recs 0 []
-  direct-left : {link lo : ℕ} {starts : List ℕ} → 1 ≤ link → Parents w n b link starts → Rising lo starts → ((a : ℕ) → In a starts → Comes code a)
+  direct-left : {link lo : ℕ} {starts : List ℕ} → 1 ≤ link → Parents w n b link starts → Rising lo starts → ((a : ℕ) → In a starts → DirectParent code w n b a)
       → Left mode code w n b recs link (map (parentOf mode code b) starts ++ foundTo b recs)
   found-left : {i : ℕ} → LeadsTo b recs i → Left mode code w n b recs (0x10000 + i) (foundTo b (drop i recs))

@@ -7,10 +7,10 @@ use mathlib.Core.List.{List, [], _∷_, _++_}
 use lib.Dec.{eqb, ltb}
 use lib.ListN.{length, take}
 use Rattle.spec.specs.Lists.{if, mem}
-use Rattle.spec.specs.Search.{Found, Rec, dest, dests, kept, St, Turn}
+use Rattle.spec.specs.Search.{Found, nowhere, found, Rec, dest, dests, kept, St, Turn}
 use Rattle.spec.specs.Rooms.{Lent, or-else, shortage}
 use Rattle.theorems.specs.Needs.{clear}
-use Rattle.layout.specs.Fields.{COUNT, markAt}
+use Rattle.layout.specs.Fields.{COUNT, FLAG, markAt, highAt}
 use Rattle.layout.specs.Parts.{SameRows, SameFields, SameList, PastBuckets}
 use Rattle.tables.specs.Addrs.{addrs}
 use Rattle.tables.specs.Tables as tables
@@ -19,30 +19,39 @@ use Rattle.tables.specs.Recording.{Lends, shortOf, entryNeeds, noted, Holding, 
 use Rattle.tables.specs.declared.Rooms.{Rooms}
 use Rattle.tables.specs.declared.Counts.{Counts}
 use Rattle.tables.specs.declared.Entry.{Entry}
-use Rattle.tables.specs.declared.Answer.{Answer}
+use Rattle.tables.specs.declared.Reply.{Reply}
 use Rattle.reachable.specs.Marks.{markedBy}
-use Rattle.reachable.specs.Contracts.{Room}
+use Rattle.reachable.specs.Edges.{sidesAt}
+use Rattle.reachable.specs.Contracts.{Room, SidesWithin, Highest, raised}
 use Rattle.steps.specs.declared.Plan.{Plan}
 
 -- An address counts as reached, for a level that opens with j records, if the round began with it reached or one of those records leads there. That holds
--- from the `since` records on with which the round began.
+-- from the `since` records on with which the round began. And each address has its highest direct parent that is marked.
 pub record Marks (n : ℕ) (w reached : List ℕ) (since : ℕ) (rs : List Rec) : Type 0 where
   pub by : (j : ℕ) → since ≤ j → j ≤ length rs → (a : ℕ) → a ≤ n → markedBy w n a (j + 1) ≡ mem a reached || mem a (dests (take j rs))
   pub most : (a : ℕ) → a ≤ n → markAt w n a ≤ length rs + 1
+  pub high : Highest n w
 
 pub record Lands (p : List ℕ) (np : ℕ) (k : Plan) (m : tables.Mem) (c : Counts) (e : Entry) : Type 0 where
   pub lent : Room (k .n) (m .w)
+  pub within : SidesWithin (m .w) (k .n)
   pub ready : Ready p np (k .n) (k .buckets) (k .rooms) m c e
 
 -- the mark f of an address, when the record after the first l leads there (d) or not
 abbrev pub remarked : Bool → ℕ → ℕ → ℕ
 remarked d l f = if (d && eqb f 0) (l + 2) f
 
+-- the highest direct parent h of the address y, when a record more, or none, leads there
+abbrev pub heightened : List ℕ → Bool → Found → ℕ → ℕ → ℕ
+heightened w new nowhere y h = h
+heightened w new (found t s) y h = raised (new && mem y (sidesAt w t)) t h
+
 -- what stays, where the counts c became d: of R, Q and S every byte that is not a new record's but for an older one's link to the next parent, the cells
--- in use at the bottom of S among them; of W the rows, the fields of each address from byte 12 on, the worklist and what lies past the buckets
+-- in use at the bottom of S among them; of W the rows, the counts and the flags of each address, the worklist and what lies past the buckets
 pub record Around (k : Plan) (m : tables.Mem) (c : Counts) (m′ : tables.Mem) (d : Counts) : Type 0 where
   pub front : SameRows (k .n) (m .w) (m′ .w)
-  pub rests : SameFields 8 COUNT (k .n) (m .w) (m′ .w)
+  pub rests : SameFields 4 COUNT (k .n) (m .w) (m′ .w)
+  pub flags : SameFields 2 FLAG (k .n) (m .w) (m′ .w)
   pub work : SameList (k .n) (m .w) (m′ .w)
   pub back : PastBuckets (k .n) (k .buckets) (m .w) (m′ .w)
   pub longW : length (m′ .w) ≡ length (m .w)
@@ -56,7 +65,7 @@ Grows k m c x m′ d = ((recs k m′ d ≡ recs k m c) × (d .records ≡ c .rec
 
 -- The code is the first shortage of what document 01 notes; where it is 0 the buffers hold what document 01 makes, and W's marks say what is reached; else
 -- all is untouched.
-pub record Noted (p : List ℕ) (np : ℕ) (k : Plan) (m : tables.Mem) (c : Counts) (start energy : ℕ) (x : Found) (m′ : tables.Mem) (a : Answer) : Type 0 where
+pub record Noted (p : List ℕ) (np : ℕ) (k : Plan) (m : tables.Mem) (c : Counts) (start energy : ℕ) (x : Found) (m′ : tables.Mem) (a : Reply) : Type 0 where
   pub code : (t : Turn) (st : St) → Holding (k .rooms) m c start energy t st → (l : Lent) → Lends l (k .rooms)
       → shortage l (noted t x (addrs p 0 np) st .needs) ≡ or-else (shortage l (st .needs)) (a .code)
   pub made : (t : Turn) (st : St) → Holding (k .rooms) m c start energy t st → a .code ≡ 0 → clear (noted t x (addrs p 0 np) st) ≡ with-recs (k .rooms) m′ (a .counts) st
@@ -70,6 +79,8 @@ pub record Noted (p : List ℕ) (np : ℕ) (k : Plan) (m : tables.Mem) (c : Coun
   pub tables : Tables (k .n) (k .buckets) (k .rooms) m′ (a .counts)
   pub marked : (y : ℕ) → y ≤ k .n
       → markAt (m′ .w) (k .n) y ≡ remarked (ltb (c .records) (a .counts .records) && mem y (dest x)) (c .records) (markAt (m .w) (k .n) y)
+  pub heights : (y : ℕ) → y ≤ k .n
+      → highAt (m′ .w) (k .n) y ≡ heightened (m .w) (ltb (c .records) (a .counts .records)) x y (highAt (m .w) (k .n) y)
   pub marks : (reached : List ℕ) (since : ℕ) → since ≤ c .records → Marks (k .n) (m .w) reached since (recs (k .rooms) m c)
       → Marks (k .n) (m′ .w) reached since (recs (k .rooms) m′ (a .counts))
   pub around : Around k m c m′ (a .counts)

@@ -7,7 +7,7 @@ use Rattle.spec.specs.Lists.{some?}
 use Rattle.tables.specs.Rows.{metOf, seenMet, sameMet}
 use Rattle.tables.specs.Mets.{Remembers, Fresh, Memorized}
 use Rattle.tables.specs.declared.Counts.{Counts}
-use Rattle.tables.specs.declared.Answer.{Answer}
+use Rattle.tables.specs.declared.Reply.{Reply}
 use Rattle.tables.specs.declared.row.Seen.{Seen}
 use Rattle.steps.specs.declared.Plan.{Plan}
 use Rattle.steps.specs.declared.meet.Meeting.{Meeting}
@@ -17,7 +17,7 @@ pub record Meets (t s : List ℕ) (k : Plan) (c : Counts) (x : Seen) : Type 0 wh
   pub fresh : Fresh s c x
   pub some : 1 ≤ k .rooms .t → 1 ≤ k .shelves
 
-abbrev pub answerOf : Meeting → Answer
+abbrev pub answerOf : Meeting → Reply
 answerOf r = record { code = r .code; counts = r .counts }
 
 -- met before, with nothing changed; or new, and remembered where T has room

@@ -7,7 +7,7 @@ use lib.Dec.{eqb}
 use lib.ListN.{length, take, drop}
 use Rattle.spec.specs.Lists.{if}
 use Rattle.laws.specs.Lists.{In}
-use Rattle.layout.specs.Fields.{SPARE, countAt}
+use Rattle.layout.specs.Fields.{HIGHEST, countAt}
 use Rattle.layout.specs.Parts.{SameRows, SameStart, SameFields, PastFields}
 use Rattle.layout.specs.Rows.{startOf}
 use Rattle.tables.specs.Addrs.{addrs}
@@ -51,7 +51,7 @@ pub record OnPath (n : ℕ) (w path : List ℕ) : Type 0 where
 pub record CountsOnly (n : ℕ) (w w′ : List ℕ) : Type 0 where
   pub front : SameRows n w w′
   pub before : SameStart 12 n w w′
-  pub after : SameFields 4 SPARE n w w′
+  pub after : SameFields 4 HIGHEST n w w′
   pub back : PastFields n w w′
   pub long : length w′ ≡ length w
 

@@ -8,10 +8,10 @@ use Rattle.spec.specs.Search.{S}
 use Rattle.spec.specs.Rooms.{longest}
 use Rattle.layout.specs.Records.{RECORD, recordPlace, keptOf}
 use Rattle.layout.specs.Rows.{startOf}
-use Rattle.state.specs.Modes.{modeOf}
+use Rattle.exec.specs.Modes.{modeOf}
 use Rattle.state.specs.Symbols.{symOf}
 use Rattle.state.specs.Cells.{stackAt, State, Lies, reach}
-use Rattle.state.specs.Owns.{roomOf}
+use Rattle.exec.specs.Owns.{roomOf}
 use Rattle.tables.specs.Recording.{shortOf}
 use Rattle.tables.specs.declared.Counts.{Counts}
 use Rattle.parents.specs.Links.{Comes}

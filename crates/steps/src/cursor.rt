@@ -13,7 +13,7 @@ use parents::link::parent_start;
 ghost use mathlib.Core.Path.{_≡_};
 ghost use Prim.Native.Nat.{_^_, _<_};
 ghost use Rattle.layout.specs.Fields.{firstFoundAt};
-ghost use Rattle.steps.specs.Cursors.{clipped, firstCursor, nextCursor, lastCursor, AtBlock, Cursor, Asks};
+ghost use Rattle.steps.specs.Cursors.{clipped, upTo, firstCursor, nextCursor, lastCursor, AtBlock, Cursor, Asks};
 
 // The least number of a found parent: it and the record's index.
 pub const FOUND: usize = 0x1_0000;
@@ -32,39 +32,57 @@ fn clip(link: usize, opened: usize) -> usize
     FOUND + (link - 1)
 }
 
-// The first found parent of the block b that was there when the level opened.
-fn first_found(w: &[u8], n: usize, b: usize, opened: usize) -> usize
-    requires { ⌜ AtBlock (now w) n b ⌝ }
-    ensures { λ r. ⌜ r ≡ clipped opened (firstFoundAt (now (w .entry)) n b) ⌝ }
+// The link to a direct parent, if it is no higher than the highest that is reached: from there on none is.
+fn up_to(highest: usize, link: usize) -> usize
+    ensures { λ r. ⌜ r ≡ upTo highest link ⌝ }
 {
-    clip(get32(w, ROW * (n + 1 + b) + FIRST_FOUND), opened)
+    if link <= highest {
+        return link;
+    }
+    0
 }
 
-// The first parent of the block b.
-pub fn first_cursor(w: &[u8], n: usize, b: usize, opened: usize) -> usize
-    requires { ⌜ AtBlock (now w) n b ⌝ }
-    ensures { λ r. ⌜ r ≡ firstCursor (now (w .entry)) n b opened ⌝ }
+// The first found parent of the block `start` that was there when the level opened.
+fn first_found(w: &[u8], size: usize, start: usize, opened: usize) -> usize
+    requires { ⌜ AtBlock (now w) size start ⌝ }
+    ensures { λ r. ⌜ r ≡ clipped opened (firstFoundAt (now (w .entry)) size start) ⌝ }
 {
-    let link = first_parent(w, b);
+    clip(get32(w, ROW * (size + 1 + start) + FIRST_FOUND), opened)
+}
+
+// The first parent of the block `start`; of direct ones, up to the highest that is reached.
+pub fn first_cursor(w: &[u8], size: usize, start: usize, opened: usize, highest: usize) -> usize
+    requires { ⌜ AtBlock (now w) size start ⌝ }
+    ensures { λ r. ⌜ r ≡ firstCursor (now (w .entry)) size start opened highest ⌝ }
+{
+    let link = up_to(highest, first_parent(w, start));
     if link != 0 {
         return link;
     }
-    first_found(w, n, b, opened)
+    first_found(w, size, start, opened)
 }
 
-// The parent of b after the one at `at`.
-pub fn next_cursor(w: &[u8], r: &[u8], n: usize, b: usize, opened: usize, at: usize) -> usize
-    requires { ⌜ (AtBlock (now w) n b) × (Cursor (now w) (now r) n at) ⌝ }
-    ensures { λ x. ⌜ x ≡ nextCursor (now (w .entry)) (now (r .entry)) n b opened at ⌝ }
+// The parent of `start` after the one at `at`.
+pub fn next_cursor(
+    w: &[u8],
+    r: &[u8],
+    size: usize,
+    start: usize,
+    opened: usize,
+    highest: usize,
+    at: usize,
+) -> usize
+    requires { ⌜ (AtBlock (now w) size start) × (Cursor (now w) (now r) size at) ⌝ }
+    ensures { λ x. ⌜ x ≡ nextCursor (now (w .entry)) (now (r .entry)) size start opened highest at ⌝ }
 {
     if FOUND <= at {
         return clip(get32(r, RECORD * (at - FOUND) + NEXT), opened);
     }
-    let link = next_parent(w, b, at);
+    let link = up_to(highest, next_parent(w, start, at));
     if link != 0 {
         return link;
     }
-    first_found(w, n, b, opened)
+    first_found(w, size, start, opened)
 }
 
 // The last block of the path of the parent at `at`.

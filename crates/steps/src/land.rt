@@ -3,9 +3,10 @@
 use crate::Plan;
 use layout::NOWHERE;
 use reachable::mark;
-use tables::Answer;
+use reachable::raise_sides;
 use tables::Counts;
 use tables::Entry;
+use tables::Reply;
 use tables::record_entry;
 ghost use Rattle.tables.specs.Tables.{mem, newFound};
 ghost use Rattle.steps.specs.Lands.{Lands, Noted};
@@ -18,21 +19,34 @@ pub fn land(
     r: &mut [u8],
     q: &mut [u8],
     s: &mut [u8],
-    k: Plan,
-    c: Counts,
-    e: Entry,
-) -> Answer
-    requires { ⌜ Lands (now p) np k (mem (now w) (now r) (now q) (now s)) c e ⌝ }
-    ensures { λ a. ⌜ Noted (now (p .entry)) np k (mem (now (w .entry)) (now (r .entry)) (now (q .entry)) (now (s .entry))) c (e .start) (e .energy) (newFound (now (s .entry)) e)
+    plan: Plan,
+    counts: Counts,
+    entry: Entry,
+) -> Reply
+    requires { ⌜ Lands (now p) np plan (mem (now w) (now r) (now q) (now s)) counts entry ⌝ }
+    ensures { λ a. ⌜ Noted (now (p .entry)) np plan (mem (now (w .entry)) (now (r .entry)) (now (q .entry)) (now (s .entry))) counts (entry .start) (entry .energy) (newFound (now (s .entry)) entry)
         (mem (now (w .exit)) (now (r .exit)) (now (q .exit)) (now (s .exit))) a ⌝ }
 {
-    let a = record_entry(p, np, w, r, q, s, k.rooms, c, k.n, k.buckets, e);
-    if e.to == NOWHERE {
-        return a;
+    let answer = record_entry(
+        p,
+        np,
+        w,
+        r,
+        q,
+        s,
+        plan.rooms,
+        counts,
+        plan.n,
+        plan.buckets,
+        entry,
+    );
+    if entry.to == NOWHERE {
+        return answer;
     }
-    let counts = a.counts;
-    if counts.records != c.records {
-        mark(w, k.n, e.to, c.records + 2);
+    let after = answer.counts;
+    if after.records != counts.records {
+        mark(w, plan.n, entry.to, counts.records + 2);
+        raise_sides(w, plan.n, entry.to);
     }
-    a
+    answer
 }

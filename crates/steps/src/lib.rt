@@ -5,7 +5,7 @@ pub mod meet;
 pub mod path;
 pub mod state_of;
 
-use state::mode::Mode;
+use exec::mode::Mode;
 use tables::Counts;
 use tables::Rooms;
 

@@ -16,31 +16,31 @@ pub struct Meeting {
 }
 
 // Looks up what is seen, right after the cells in use, and remembers it if it is new.
-pub fn meet(t: &mut [u8], s: &[u8], k: Plan, c: Counts, x: Seen) -> Meeting
-    requires { ⌜ Meets (now t) (now s) k c x ⌝ }
-    ensures { λ r. ⌜ Met (now (t .entry)) (now (s .entry)) k c x (now (t .exit)) r ⌝ }
+pub fn meet(t: &mut [u8], s: &[u8], plan: Plan, counts: Counts, seen: Seen) -> Meeting
+    requires { ⌜ Meets (now t) (now s) plan counts seen ⌝ }
+    ensures { λ r. ⌜ Met (now (t .entry)) (now (s .entry)) plan counts seen (now (t .exit)) r ⌝ }
 {
-    let rooms = k.rooms;
+    let rooms = plan.rooms;
     if rooms.t == 0 {
         return Meeting {
             code: 6,
             met: false,
-            counts: c,
+            counts,
         };
     }
-    let sum = stamp_of(s, x);
-    if find_row(t, s, k.shelves, c.rows, x, sum) {
+    let sum = stamp_of(s, seen);
+    if find_row(t, s, plan.shelves, counts.rows, seen, sum) {
         return Meeting {
             code: 0,
             met: true,
-            counts: c,
+            counts,
         };
     }
-    let a = remember(t, s, rooms, c, k.shelves, x, sum);
-    let counts = a.counts;
+    let answer = remember(t, s, rooms, counts, plan.shelves, seen, sum);
+    let after = answer.counts;
     Meeting {
-        code: a.code,
+        code: answer.code,
         met: false,
-        counts,
+        counts: after,
     }
 }

@@ -41,36 +41,36 @@ pub fn grow(p: &mut [u8], r: &[u8], q: &[u8], room: usize, np: usize, at: usize)
     np + len
 }
 
-// Whether a is on the path in hand.
-pub fn on_path(w: &[u8], n: usize, a: usize) -> bool
-    requires { ⌜ Address n (now w) a ⌝ }
-    ensures { λ r. ⌜ r ≡ not (eqb (countAt (now (w .entry)) n a) 0) ⌝ }
+// Whether an address is on the path in hand.
+pub fn on_path(w: &[u8], size: usize, address: usize) -> bool
+    requires { ⌜ Address size (now w) address ⌝ }
+    ensures { λ r. ⌜ r ≡ not (eqb (countAt (now (w .entry)) size address) 0) ⌝ }
 {
-    get32(w, ROW * (n + 1 + a) + COUNT) != 0
+    get32(w, ROW * (size + 1 + address) + COUNT) != 0
 }
 
 // Counts the addresses of the path from `from` to `to`.
-pub fn count(w: &mut [u8], n: usize, p: &[u8], from: usize, to: usize)
-    requires { ⌜ Counting n (now w) (now p) from to ⌝ }
-    ensures { λ _. ⌜ Counted n (now (w .entry)) (now (p .entry)) to (now (w .exit)) ⌝ }
+pub fn count(w: &mut [u8], size: usize, p: &[u8], from: usize, to: usize)
+    requires { ⌜ Counting size (now w) (now p) from to ⌝ }
+    ensures { λ _. ⌜ Counted size (now (w .entry)) (now (p .entry)) to (now (w .exit)) ⌝ }
 {
     let mut i = from;
     while i < to {
-        let at = ROW * (n + 1 + get16(p, 2 * i)) + COUNT;
+        let at = ROW * (size + 1 + get16(p, 2 * i)) + COUNT;
         put32(w, at, get32(w, at) + 1);
         i += 1;
     }
 }
 
 // Takes the addresses of the path from `from` to `to` off the counts.
-pub fn uncount(w: &mut [u8], n: usize, p: &[u8], from: usize, to: usize)
-    requires { ⌜ Uncounting n (now w) (now p) from to ⌝ }
-    ensures { λ _. ⌜ Counted n (now (w .entry)) (now (p .entry)) from (now (w .exit)) ⌝ }
+pub fn uncount(w: &mut [u8], size: usize, p: &[u8], from: usize, to: usize)
+    requires { ⌜ Uncounting size (now w) (now p) from to ⌝ }
+    ensures { λ _. ⌜ Counted size (now (w .entry)) (now (p .entry)) from (now (w .exit)) ⌝ }
 {
     let mut i = to;
     while from < i {
         i -= 1;
-        let at = ROW * (n + 1 + get16(p, 2 * i)) + COUNT;
+        let at = ROW * (size + 1 + get16(p, 2 * i)) + COUNT;
         put32(w, at, get32(w, at) - 1);
     }
 }

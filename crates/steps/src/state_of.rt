@@ -3,6 +3,7 @@
 use crate::Level;
 use crate::Plan;
 use crate::cursor::FOUND;
+use exec::run::run;
 use layout::record::KEPT;
 use layout::record::RECORD;
 use lent::get32;
@@ -12,14 +13,13 @@ use state::compose::compose_own;
 use state::compose::composed_len;
 use state::read::base_at;
 use state::read::symbol_at;
-use state::run::run;
 use state::sym::StackSym;
 use tables::Counts;
 ghost use mathlib.Core.Path.{_≡_};
 ghost use Prim.Native.Nat.{_*_, _≤_, _<_};
 ghost use lib.ListN.{length};
 ghost use Rattle.layout.specs.Records.{recordPlace, keptOf};
-ghost use Rattle.state.specs.Modes.{modeOf};
+ghost use Rattle.exec.specs.Modes.{modeOf};
 ghost use Rattle.steps.specs.Cursors.{stackCursor};
 ghost use Rattle.steps.specs.States.{Composing, Took};
 
@@ -36,32 +36,40 @@ fn take_direct(
     w: &mut [u8],
     s: &mut [u8],
     r: &[u8],
-    k: Plan,
-    c: Counts,
-    l: Level,
+    plan: Plan,
+    counts: Counts,
+    level: Level,
     at: usize,
 ) -> Taken
-    requires { ⌜ Composing (now code) (now w) (now s) (now r) k c l at ⌝ }
+    requires { ⌜ Composing (now code) (now w) (now s) (now r) plan counts level at ⌝ }
     requires { ⌜ at < 0x10000 ⌝ }
-    ensures { λ x. ⌜ Took (now (code .entry)) (now (w .entry)) (now (s .entry)) k c l (stackCursor (modeOf (k .mode)) (now (code .entry)) (now (r .entry)) (now (s .entry)) (k .rooms .s) at)
+    ensures { λ x. ⌜ Took (now (code .entry)) (now (w .entry)) (now (s .entry)) plan counts level (stackCursor (modeOf (plan .mode)) (now (code .entry)) (now (r .entry)) (now (s .entry)) (plan .rooms .s) at)
         (now (w .exit)) (now (s .exit)) x ⌝ }
 {
-    let mode = k.mode;
-    let own = run(mode, code, parent_start(at), w, k.end);
-    let symbol = symbol_at(w, own.at, own.n, l.position);
-    let cells = composed_len(l.cells, base_at(s, 9 * l.from, l.cells), own.n);
-    let rooms = k.rooms;
-    if rooms.s < c.kept + c.used + cells {
+    let mode = plan.mode;
+    let own = run(mode, code, parent_start(at), w, plan.end);
+    let symbol = symbol_at(w, own.at, own.n, level.position);
+    let cells = composed_len(level.cells, base_at(s, 9 * level.from, level.cells), own.n);
+    let rooms = plan.rooms;
+    if rooms.s < counts.kept + counts.used + cells {
         return Taken {
             code: 5,
             cells,
             symbol,
         };
     }
-    let n = compose_own(s, 9 * l.from, l.cells, 9 * c.used, w, own.at, own.n);
+    let made = compose_own(
+        s,
+        9 * level.from,
+        level.cells,
+        9 * counts.used,
+        w,
+        own.at,
+        own.n,
+    );
     Taken {
         code: 0,
-        cells: n,
+        cells: made,
         symbol,
     }
 }
@@ -72,46 +80,53 @@ fn take_found(
     w: &mut [u8],
     s: &mut [u8],
     r: &[u8],
-    k: Plan,
-    c: Counts,
-    l: Level,
+    plan: Plan,
+    counts: Counts,
+    level: Level,
     at: usize,
 ) -> Taken
-    requires { ⌜ Composing (now code) (now w) (now s) (now r) k c l at ⌝ }
+    requires { ⌜ Composing (now code) (now w) (now s) (now r) plan counts level at ⌝ }
     requires { ⌜ 0x10000 ≤ at ⌝ }
-    ensures { λ x. ⌜ Took (now (code .entry)) (now (w .entry)) (now (s .entry)) k c l (stackCursor (modeOf (k .mode)) (now (code .entry)) (now (r .entry)) (now (s .entry)) (k .rooms .s) at)
+    ensures { λ x. ⌜ Took (now (code .entry)) (now (w .entry)) (now (s .entry)) plan counts level (stackCursor (modeOf (plan .mode)) (now (code .entry)) (now (r .entry)) (now (s .entry)) (plan .rooms .s) at)
         (now (w .exit)) (now (s .exit)) x ⌝ }
 {
-    let rooms = k.rooms;
+    let rooms = plan.rooms;
     let kept = get32(r, RECORD * (at - FOUND) + KEPT);
-    let n = kept - kept_before(r, at - FOUND);
+    let theirs = kept - kept_before(r, at - FOUND);
     let from = 9 * (rooms.s - kept);
-    let symbol = symbol_at(s, from, n, l.position);
-    let cells = composed_len(l.cells, base_at(s, 9 * l.from, l.cells), n);
-    if rooms.s < c.kept + c.used + cells {
+    let symbol = symbol_at(s, from, theirs, level.position);
+    let cells = composed_len(level.cells, base_at(s, 9 * level.from, level.cells), theirs);
+    if rooms.s < counts.kept + counts.used + cells {
         return Taken {
             code: 5,
             cells,
             symbol,
         };
     }
-    let m = compose_kept(s, 9 * l.from, l.cells, 9 * c.used, from, n);
+    let made = compose_kept(
+        s,
+        9 * level.from,
+        level.cells,
+        9 * counts.used,
+        from,
+        theirs,
+    );
     Taken {
         code: 0,
-        cells: m,
+        cells: made,
         symbol,
     }
 }
 
-// The kept cells of the records before record i.
-fn kept_before(r: &[u8], i: usize) -> usize
-    requires { ⌜ recordPlace i ≤ length (now r) ⌝ }
-    ensures { λ x. ⌜ x ≡ keptOf (now (r .entry)) i ⌝ }
+// The kept cells of the records before a record.
+fn kept_before(r: &[u8], row: usize) -> usize
+    requires { ⌜ recordPlace row ≤ length (now r) ⌝ }
+    ensures { λ x. ⌜ x ≡ keptOf (now (r .entry)) row ⌝ }
 {
-    if i == 0 {
+    if row == 0 {
         return 0;
     }
-    get32(r, RECORD * (i - 1) + KEPT)
+    get32(r, RECORD * (row - 1) + KEPT)
 }
 
 // Reads the symbol of the parent at `at` that the level asks for, and composes the level's state with the parent's, right after the cells in use.
@@ -120,17 +135,17 @@ pub fn take_state(
     w: &mut [u8],
     s: &mut [u8],
     r: &[u8],
-    k: Plan,
-    c: Counts,
-    l: Level,
+    plan: Plan,
+    counts: Counts,
+    level: Level,
     at: usize,
 ) -> Taken
-    requires { ⌜ Composing (now code) (now w) (now s) (now r) k c l at ⌝ }
-    ensures { λ x. ⌜ Took (now (code .entry)) (now (w .entry)) (now (s .entry)) k c l (stackCursor (modeOf (k .mode)) (now (code .entry)) (now (r .entry)) (now (s .entry)) (k .rooms .s) at)
+    requires { ⌜ Composing (now code) (now w) (now s) (now r) plan counts level at ⌝ }
+    ensures { λ x. ⌜ Took (now (code .entry)) (now (w .entry)) (now (s .entry)) plan counts level (stackCursor (modeOf (plan .mode)) (now (code .entry)) (now (r .entry)) (now (s .entry)) (plan .rooms .s) at)
         (now (w .exit)) (now (s .exit)) x ⌝ }
 {
     if at < FOUND {
-        return take_direct(code, w, s, r, k, c, l, at);
+        return take_direct(code, w, s, r, plan, counts, level, at);
     }
-    take_found(code, w, s, r, k, c, l, at)
+    take_found(code, w, s, r, plan, counts, level, at)
 }

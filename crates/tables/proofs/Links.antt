@@ -2,7 +2,7 @@
 use mathlib.Core.Path.{_≡_, refl, sym, ap, _∙_}
 use mathlib.Core.Logic.{_⊎_, inl, inr}
 use mathlib.Core.List.{List}
-use Prim.Native.Nat.{ℕ, suc, _+_, _-_, _*_, _%_, _^_, _≤_, _<_}
+use Prim.Native.Nat.{ℕ, suc, _+_, _-_, _*_, _^_, _≤_, _<_}
 use native.Mathlib.Nat.{add-zero}
 use native.Mathlib.Numerals.{add-one}
 use native.Mathlib.Omega.{arith}
@@ -16,6 +16,7 @@ use Rattle.layout.specs.Fields.{FIRST-FOUND, LAST-FOUND, COUNT, firstFoundAt, l
 use Rattle.layout.specs.Marks.{NOWHERE}
 use Rattle.layout.specs.Parts.{rowsEnd, fieldsPlace, listPlace, bucketPlace, PastFields}
 use Rattle.layout.specs.Records.{RECORD, recordPlace, R-TO, R-ENDS, R-KEPT, R-NEXT, R-LINK, R-SUM, R-ENERGY, R-FREE, toAt, nextAt, linkAt, sumAt, endOf, keptOf}
+use Rattle.tables.specs.Sums.{bucketOf}
 use Rattle.tables.specs.Records.{bucketAt, Chains}
 use Rattle.tables.specs.Links.{saysBytes, linkBytes, rowBytes, SameRow, Says, Parents, Apart, Beyond, Joins, Joined, Sayable, Links, Linked}
 use Rattle.tables.specs.declared.link.Fields.{Fields}
@@ -208,9 +209,9 @@ module _ {n m a : ℕ} {w r : List ℕ} (j : Joins n w r a m) {x : ℕ} (h : Hol
 
 pub bucket-same : (buckets : ℕ) (r r′ : List ℕ) (i : ℕ) → sumAt r′ i ≡ sumAt r i → bucketAt buckets r′ i ≡ bucketAt buckets r i
 unfolding bucketAt
-bucket-same buckets r r′ i e = ap (λ (v : ℕ). v % buckets) e
+bucket-same buckets r r′ i e = ap (bucketOf buckets) e
 
-module _ {n buckets m : ℕ} {w r : List ℕ} {f : Fields} (l : Links n buckets w r m f) {h x : ℕ} (e : h ≡ f .sum % buckets) (b : h < buckets)
+module _ {n buckets m : ℕ} {w r : List ℕ} {f : Fields} (l : Links n buckets w r m f) {h x : ℕ} (e : h ≡ bucketOf buckets (f .sum)) (b : h < buckets)
     (g : Holds 4 w (bucketPlace n h) x) {w₁ r₁ : List ℕ} (s : Stored 28 r (recordPlace m) (rowBytes f x) r₁)
     (t : Stored 4 w (bucketPlace n h) (little 4 (m + 1)) w₁) where
   says : Says r₁ m f
@@ -218,7 +219,7 @@ module _ {n buckets m : ℕ} {w r : List ℕ} {f : Fields} (l : Links n buckets 
 
   bucket : bucketAt buckets r₁ m ≡ h
   unfolding bucketAt
-  bucket = ap (λ (v : ℕ). v % buckets) (says .sum) ∙ sym e
+  bucket = ap (bucketOf buckets) (says .sum) ∙ sym e
 
   chains-more : Chains n buckets w₁ r₁ (suc m)
   chains-more =

@@ -2,7 +2,7 @@
 use mathlib.Core.Path.{_≡_, refl, sym, ap, _∙_}
 use mathlib.Core.Bool.{Bool, true, false}
 use mathlib.Core.List.{List}
-use Prim.Native.Nat.{ℕ, suc, _+_, _-_, _%_, _≤_, _<_}
+use Prim.Native.Nat.{ℕ, suc, _+_, _-_, _≤_, _<_}
 use native.Mathlib.Omega.{arith}
 use lib.Dec.{eqb}
 use lib.ListN.{length}
@@ -13,6 +13,7 @@ use Rattle.laws.proofs.Branch.{and-false}
 use Rattle.laws.proofs.Members.{and-both}
 use Rattle.layout.specs.Parts.{bucketPlace}
 use Rattle.layout.specs.Records.{recordPlace, R-TO, R-ENDS, R-LINK, R-SUM, toAt, endOf}
+use Rattle.tables.specs.Sums.{bucketOf}
 use Rattle.tables.specs.Addrs.{addrs, pathSum, Beside}
 use Rattle.tables.specs.Chains.{Left}
 use Rattle.tables.specs.Records.{bucketAt, pathAt, isRec, hasRec, Seek, Compare}
@@ -70,17 +71,17 @@ module _ {p w r q : List ℕ} {np n buckets m sum : ℕ} (s : Seek p np w r q n 
   abbrev path : List ℕ
   path = addrs p 0 np
 
-  inside : (i : ℕ) → i < m → isRec r q to path i ≡ true → bucketAt buckets r i ≡ sum % buckets
+  inside : (i : ℕ) → i < m → isRec r q to path i ≡ true → bucketAt buckets r i ≡ bucketOf buckets sum
   unfolding isRec bucketAt
   inside i l e =
       let same-path = same-true path (pathAt r q i) (and-both (eqb to (toAt r i)) (same path (pathAt r q i)) e .1) in
-      ap (λ (x : ℕ). x % buckets) (s .rows i l .sum ∙ ap pathSum (sym same-path) ∙ sym (s .summed .is))
+      ap (bucketOf buckets) (s .rows i l .sum ∙ ap pathSum (sym same-path) ∙ sym (s .summed .is))
 
   -- the chain of its bucket
-  pub first-left : (h : ℕ) {x : ℕ} → h ≡ sum % buckets → h < buckets → Holds 4 w (bucketPlace n h) x → Left (bucketAt buckets r) (isRec r q to path) m h x
+  pub first-left : (h : ℕ) {x : ℕ} → h ≡ bucketOf buckets sum → h < buckets → Holds 4 w (bucketPlace n h) x → Left (bucketAt buckets r) (isRec r q to path) m h x
   first-left h e l g = left-first (s .chains .chained) (isRec r q to path) h (λ i b f. inside i b f ∙ sym e) l (g .is)
 
-  module _ {h cur : ℕ} (e : h ≡ sum % buckets) (l : Left (bucketAt buckets r) (isRec r q to path) m h cur) where
+  module _ {h cur : ℕ} (e : h ≡ bucketOf buckets sum) (l : Left (bucketAt buckets r) (isRec r q to path) m h cur) where
     in-bucket : (i : ℕ) → i < m → isRec r q to path i ≡ true → bucketAt buckets r i ≡ h
     in-bucket i b f = inside i b f ∙ sym e
 

@@ -25,7 +25,7 @@ use Rattle.tables.specs.Recording.{Lends, shortOf, entryNeeds, noted, Ho
 use Rattle.tables.specs.declared.Rooms.{Rooms}
 use Rattle.tables.specs.declared.Counts.{Counts}
 use Rattle.tables.specs.declared.Entry.{Entry}
-use Rattle.tables.specs.declared.Answer.{Answer}
+use Rattle.tables.specs.declared.Reply.{Reply}
 use Rattle.tables.proofs.Addrs.{addrs-length}
 use Rattle.tables.proofs.Chains.{keyed}
 use Rattle.tables.proofs.Links.{same-all}
@@ -204,7 +204,7 @@ abbrev pub Once : Rooms → Mem → Counts → ℕ → Rec → Mem → Counts �
 Once k m c np x m′ d =
     ((recs k m′ d ≡ recs k m c) × (d ≡ c)) ⊎ ((recs k m′ d ≡ recs k m c ++ x ∷ []) × (d ≡ counted c np (kept (x .to))))
 
-pub recorded-more : {p : List ℕ} {np n buckets start energy : ℕ} {k : Rooms} {m m′ : Mem} {c : Counts} {x : Found} {a : Answer} → Recorded p np n buckets k m c start energy x m′ a
+pub recorded-more : {p : List ℕ} {np n buckets start energy : ℕ} {k : Rooms} {m m′ : Mem} {c : Counts} {x : Found} {a : Reply} → Recorded p np n buckets k m c start energy x m′ a
     → Once k m c np (record { start = start; to = x; path = addrs p 0 np; energy = energy }) m′ (a .counts)
 recorded-more {p} {np} {start = start} {energy = energy} {k = k} {m} {m′} {c} {x} {a} h = go (keyed (a .code) 0) (recorded? x (addrs p 0 np) (recs k m c)) refl
   where

@@ -3,7 +3,7 @@ use mathlib.Core.Path.{_≡_, refl, sym, ap, _∙_}
 use mathlib.Core.Logic.{_⊎_, inl, inr}
 use mathlib.Core.Bool.{Bool, true, false}
 use mathlib.Core.List.{List}
-use Prim.Native.Nat.{ℕ, suc, _+_, _*_, _%_, _<_}
+use Prim.Native.Nat.{ℕ, suc, _+_, _*_, _<_}
 use native.Mathlib.Decide.{decLt}
 use native.Mathlib.Omega.{arith}
 use lib.ListN.{length}
@@ -14,6 +14,7 @@ use Rattle.lent.proofs.Once.{Bytes, Same, same-num, same-both, same-as, same-th
 use Rattle.layout.specs.Fields.{COUNT}
 use Rattle.layout.specs.Parts.{fieldsPlace, listPlace}
 use Rattle.layout.specs.Seens.{SEEN, seenPlace, T-MARK, T-FROM, T-CELLS, T-SUM, T-LINK, T-HEAD, topAt}
+use Rattle.tables.specs.Sums.{bucketOf}
 use Rattle.tables.specs.Addrs.{addrs}
 use Rattle.tables.specs.Chains.{newest}
 use Rattle.tables.specs.Tables.{Mem, recs, counted}
@@ -22,13 +23,13 @@ use Rattle.tables.specs.Rows.{shelfAt, Stamped, Pushed}
 use Rattle.tables.specs.Mets.{Memorized, Emptied}
 use Rattle.tables.specs.declared.Rooms.{Rooms}
 use Rattle.tables.specs.declared.Counts.{Counts}
-use Rattle.tables.specs.declared.Answer.{Answer}
+use Rattle.tables.specs.declared.Reply.{Reply}
 use Rattle.tables.specs.declared.row.Seen.{Seen}
 use Rattle.tables.proofs.Chains.{keyed, newest-same}
 use Rattle.tables.proofs.Shelves.{tells-stamp, shelf-same}
 use Rattle.tables.proofs.Alike.{AllBytes, AllLong, one-tables, one-more}
 
-pub one-answer : {a b : Answer} → a .code ≡ b .code → a .counts ≡ b .counts → a ≡ b
+pub one-answer : {a b : Reply} → a .code ≡ b .code → a .counts ≡ b .counts → a ≡ b
 one-answer p q = λ i. record { code = p i; counts = q i }
 
 pub one-stamped : {s : List ℕ} {x : Seen} {a b : ℕ} → Stamped s x a → Stamped s x b → a ≡ b
@@ -70,7 +71,7 @@ module _ {buckets m sum : ℕ} {t u v : List ℕ} {x : Seen} (b : Bytes u) (d : 
   push-shelves =
       each (λ (i : ℕ). shelfAt buckets u i) (λ (i : ℕ). shelfAt buckets v i) m
       (λ i l. shelf-same buckets (p .rows i l) ∙ sym (shelf-same buckets (q .rows i l)))
-      (ap (λ (y : ℕ). y % buckets) (tells-stamp (p .tells) ∙ sym (tells-stamp (q .tells))))
+      (ap (bucketOf buckets) (tells-stamp (p .tells) ∙ sym (tells-stamp (q .tells))))
 
   push-chain : numAt 4 u (seenPlace m + T-LINK) ≡ numAt 4 v (seenPlace m + T-LINK)
   push-chain =
@@ -107,7 +108,7 @@ module _ {buckets m sum : ℕ} {t u v : List ℕ} {x : Seen} (b : Bytes u) (d : 
   one-pushed : u ≡ v
   one-pushed = by-rows b d push-long push-rows push-tops
 
-pub one-memorized : {buckets : ℕ} {k : Rooms} {t s u v : List ℕ} {c : Counts} {x : Seen} {a e : Answer} → Bytes u → Bytes v
+pub one-memorized : {buckets : ℕ} {k : Rooms} {t s u v : List ℕ} {c : Counts} {x : Seen} {a e : Reply} → Bytes u → Bytes v
     → Memorized buckets k t s c x u a → Memorized buckets k t s c x v e → (a ≡ e) × (u ≡ v)
 one-memorized {u} {v} {a} {e} b d p q = go (keyed (a .code) 0)
   where
@@ -122,7 +123,7 @@ one-memorized {u} {v} {a} {e} b d p q = go (keyed (a .code) 0)
 
 -- ---- recording
 
-pub one-recorded : {p : List ℕ} {np n buckets start energy : ℕ} {k : Rooms} {m m′ m″ : Mem} {c : Counts} {x : Found} {a e : Answer} → AllBytes m′ → AllBytes m″
+pub one-recorded : {p : List ℕ} {np n buckets start energy : ℕ} {k : Rooms} {m m′ m″ : Mem} {c : Counts} {x : Found} {a e : Reply} → AllBytes m′ → AllBytes m″
     → Recorded p np n buckets k m c start energy x m′ a → Recorded p np n buckets k m c start energy x m″ e → (a ≡ e) × (m′ ≡ m″)
 one-recorded {p} {np} {n} {buckets} {start} {energy} {k} {m} {m′} {m″} {c} {x} {a} {e} b d f g = go (keyed (a .code) 0) (recorded? x (addrs p 0 np) (recs k m c)) refl
   where

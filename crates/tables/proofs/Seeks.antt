@@ -21,7 +21,7 @@ use Rattle.state.specs.declared.sym.StackSym.{StackSym}
 use Rattle.state.proofs.States.{state-lies, state-syms, lies-count}
 use Rattle.tables.specs.Chains.{any, Left}
 use Rattle.tables.specs.Rows.{shelfAt, metAt, seenMet, sameMet, isMet, MetRow, Stamped, Compares, Finds}
-use Rattle.tables.specs.Sums.{mixed, weight, symSums, summed, stamp, SumsWith}
+use Rattle.tables.specs.Sums.{mixed, weight, symSums, summed, stamp, bucketOf, SumsWith}
 use Rattle.tables.specs.declared.row.Sums.{Sums}
 use Rattle.tables.specs.declared.row.Seen.{Seen}
 use Rattle.tables.proofs.Orders.{left-first, left-none, left-below, left-hit, left-less, left-more}
@@ -123,10 +123,10 @@ module _ {t s : List ℕ} {buckets m : ℕ} {x : Seen} {sum : ℕ} (f : Finds t 
   compare : (i : ℕ) → i < m → Compares t s i x sum
   compare i l = record { state = f .state; stamped = f .stamped; row = f .rows i l }
 
-  module _ {h : ℕ} (e : h ≡ sum % buckets) where
+  module _ {h : ℕ} (e : h ≡ bucketOf buckets sum) where
     on-shelf : (i : ℕ) → i < m → isMet t s (seenMet s x) i ≡ true → shelfAt buckets t i ≡ h
     unfolding shelfAt
-    on-shelf i l g = ap (λ (v : ℕ). v % buckets) (same-stamp (compare i l) g) ∙ sym e
+    on-shelf i l g = ap (bucketOf buckets) (same-stamp (compare i l) g) ∙ sym e
 
     pub first-row : {y : ℕ} → h < buckets → Holds 4 t (seenPlace h + T-HEAD) y → Left (shelfAt buckets t) (isMet t s (seenMet s x)) m h y
     first-row l g = left-first (f .shelves .chained) (isMet t s (seenMet s x)) h on-shelf l (g .is)

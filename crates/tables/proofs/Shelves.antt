@@ -16,6 +16,7 @@ use Rattle.lent.proofs.Stored.{kept-take, kept-drop, kept-part, kept-num, read-
 use Rattle.layout.specs.Seens.{seenPlace, T-SYMBOL, T-MARK, T-FROM, T-CELLS, T-SUM, T-LINK, T-HEAD, blockAt, stampAt, chainAt, topAt}
 use Rattle.state.specs.Symbols.{symOf}
 use Rattle.state.specs.Cells.{symAt, Put}
+use Rattle.tables.specs.Sums.{bucketOf}
 use Rattle.tables.specs.Rows.{shelfAt, Tells, SameTold, SeenPut, placeBytes, Tellable, RowPut, Pushes, Pushed}
 use Rattle.tables.specs.declared.row.Seen.{Seen}
 use Rattle.tables.proofs.Orders.{chained-more}
@@ -123,11 +124,11 @@ module _ (h v : ℕ) {t t′ : List ℕ} (s : Stored 4 t (seenPlace h + T-HEAD) 
 
 pub shelf-same : (buckets : ℕ) {t t′ : List ℕ} {i : ℕ} → SameTold t t′ i → shelfAt buckets t′ i ≡ shelfAt buckets t i
 unfolding shelfAt
-shelf-same buckets s = ap (λ (v : ℕ). v % buckets) (told-stamp s)
+shelf-same buckets s = ap (bucketOf buckets) (told-stamp s)
 
 -- ---- on its shelf
 
-module _ {buckets : ℕ} {t : List ℕ} {m : ℕ} {x : Seen} {sum : ℕ} (p : Pushes buckets t m x sum) {h y : ℕ} (e : h ≡ sum % buckets) (b : h < buckets) (g : Holds 4 t (seenPlace h + T-HEAD) y) where
+module _ {buckets : ℕ} {t : List ℕ} {m : ℕ} {x : Seen} {sum : ℕ} (p : Pushes buckets t m x sum) {h y : ℕ} (e : h ≡ bucketOf buckets sum) (b : h < buckets) (g : Holds 4 t (seenPlace h + T-HEAD) y) where
   module _ {t₁ t₂ : List ℕ} (r : RowPut t m x sum y t₁) (s : Stored 4 t₁ (seenPlace h + T-HEAD) (little 4 (m + 1)) t₂) where
     row-before : (i : ℕ) → i < m → SameTold t t₁ i
     row-before i l =
@@ -166,7 +167,7 @@ module _ {buckets : ℕ} {t : List ℕ} {m : ℕ} {x : Seen} {sum : ℕ} (p : Pu
 
     shelf : shelfAt buckets t₂ m ≡ h
     unfolding shelfAt
-    shelf = ap (λ (v : ℕ). v % buckets) (tells-stamp now-tells) ∙ sym e
+    shelf = ap (bucketOf buckets) (tells-stamp now-tells) ∙ sym e
 
     apart : (k : ℕ) → (k ≡ shelfAt buckets t₂ m → ⊥) → k ≡ h → ⊥
     apart k d z = d (z ∙ sym shelf)

@@ -5,7 +5,7 @@ use Prim.Native.Nat.{ℕ, _+_, _*_, _%_, _^_, _<_}
 use native.Mathlib.Omega.{arith}
 use Rattle.spec.specs.Stacks.{Sym, before, constant, jumpdest}
 use Rattle.state.specs.Cells.{tag, value}
-use Rattle.tables.specs.Sums.{mixed, weight, symSums, summed}
+use Rattle.tables.specs.Sums.{mixed, weight, symSums, summed, stamp, bucketOf}
 
 -- of the number only the lowest 32 bits count
 pub mix-low : (k sum x : ℕ) → mixed k sum (x % 2 ^ 32) ≡ mixed k sum x
@@ -51,5 +51,6 @@ weighing x {v} {g = g} p q f q′ h = both v (g * 1000000) q q′ h ∙ ap₂ (�
 
 -- the example of docs/LAYOUT.md
 example : (summed 37 4 (jumpdest 7) (constant 4294967295 ∷ before 2 ∷ before 3 ∷ []) ≡ 3898602115) × (summed 3 4 (jumpdest 7) (constant 4294967295 ∷ before 2 ∷ before 3 ∷ []) % 256 ≡ 193)
-unfolding summed symSums mixed weight
-example = (refl, refl)
+    × (bucketOf 2048 (stamp 4 (jumpdest 7) (constant 4294967295 ∷ before 2 ∷ before 3 ∷ [])) ≡ 791)
+unfolding summed symSums mixed weight stamp bucketOf
+example = (refl, refl, refl)

@@ -3,7 +3,7 @@ use mathlib.Core.Path.{_≡_, refl, sym, ap, ap₂, subst, _∙_}
 use mathlib.Core.Bool.{Bool, _||_}
 use mathlib.Core.Logic.{_⊎_, inl, inr}
 use mathlib.Core.List.{List, _∷_}
-use Prim.Native.Nat.{ℕ, zero, suc, _+_, _*_, _%_, _≤_, _<_}
+use Prim.Native.Nat.{ℕ, zero, suc, _+_, _*_, _≤_, _<_}
 use native.Mathlib.Numerals.{add-one}
 use native.Mathlib.Omega.{arith}
 use lib.ListN.{length, take, drop}
@@ -21,7 +21,7 @@ use Rattle.state.proofs.States.{state-lies, lies-within, lies-count}
 use Rattle.tables.specs.Chains.{newest, any}
 use Rattle.tables.specs.Recording.{shortOf}
 use Rattle.tables.specs.Rows.{shelfAt, metAt, metOf, seenMet, sameMet, isMet, usedOf, MetRow, Shelves, Stamped, Finds, Pushes, Pushed}
-use Rattle.tables.specs.Sums.{stamp}
+use Rattle.tables.specs.Sums.{stamp, bucketOf}
 use Rattle.tables.specs.Mets.{Remembers, Packs, Fresh, Memorizes, remembering, Memorized, Heads, Begins, Emptied, Wiped, Forgetting}
 use Rattle.tables.specs.declared.Rooms.{Rooms}
 use Rattle.tables.specs.declared.Counts.{Counts}
@@ -223,7 +223,7 @@ module _ {buckets : ℕ} {t : List ℕ} where
     forgets-some l = c .some (λ z. omega arith)
 
     module _ {i : ℕ} {t₁ : List ℕ} (o : Forgetting buckets t m i t₁) where
-      pub forgets-more : {v h : ℕ} {t₂ : List ℕ} → i < m → v ≡ stampAt t₁ i → h ≡ v % buckets → h < buckets → Stored 4 t₁ (seenPlace h + T-HEAD) (little 4 0) t₂
+      pub forgets-more : {v h : ℕ} {t₂ : List ℕ} → i < m → v ≡ stampAt t₁ i → h ≡ bucketOf buckets v → h < buckets → Stored 4 t₁ (seenPlace h + T-HEAD) (little 4 0) t₂
           → Forgetting buckets t m (i + 1) t₂
       unfolding shelfAt
       forgets-more {v} {h} {t₂} l g e b s =
@@ -235,7 +235,7 @@ module _ {buckets : ℕ} {t : List ℕ} where
           }
         where
           mine : shelfAt buckets t i ≡ h
-          mine = ap (λ (y : ℕ). y % buckets) (sym (told-stamp (o .heads .told i)) ∙ sym g) ∙ sym e
+          mine = ap (bucketOf buckets) (sym (told-stamp (o .heads .told i)) ∙ sym g) ∙ sym e
 
           other : (k : ℕ) → (k ≡ h → ⊥) → newest (shelfAt buckets t) k (suc i) ≡ newest (shelfAt buckets t) k i
           other k d = newest-other (shelfAt buckets t) k i (λ z. d (sym z ∙ mine))

@@ -11,7 +11,7 @@ use Rattle.tables.specs.Recording.{shortOf}
 use Rattle.tables.specs.Rows.{shelfAt, metOf, seenMet, stampOf, usedOf, MetRow, Shelves, Stamped, SameTold, Pushed}
 use Rattle.tables.specs.declared.Rooms.{Rooms}
 use Rattle.tables.specs.declared.Counts.{Counts}
-use Rattle.tables.specs.declared.Answer.{Answer}
+use Rattle.tables.specs.declared.Reply.{Reply}
 use Rattle.tables.specs.declared.row.Seen.{Seen}
 
 -- all that holds of the remembered rows: each lies in T, its state within the cells in use at the bottom of S
@@ -49,7 +49,7 @@ abbrev pub remembering : Counts → Seen → Counts
 remembering c x = record { records = c .records; addresses = c .addresses; kept = c .kept; used = c .used + x .cells; rows = c .rows + 1 }
 
 -- The code is the shortage of T; where it is 0 a row more is remembered, on its shelf, and else T is untouched.
-pub record Memorized (buckets : ℕ) (k : Rooms) (t s : List ℕ) (c : Counts) (x : Seen) (t′ : List ℕ) (a : Answer) : Type 0 where
+pub record Memorized (buckets : ℕ) (k : Rooms) (t s : List ℕ) (c : Counts) (x : Seen) (t′ : List ℕ) (a : Reply) : Type 0 where
   pub code : a .code ≡ shortOf k (rowNeeds c)
   pub made : a .code ≡ 0 → metOf t′ s (a .counts .rows) ≡ seenMet s x ∷ metOf t s (c .rows)
   pub pushed : a .code ≡ 0 → Pushed buckets t (c .rows) x (stampOf s x) t′

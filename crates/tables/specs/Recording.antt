@@ -13,7 +13,7 @@ use Rattle.tables.specs.Links.{Beyond}
 use Rattle.tables.specs.Tables.{Mem, recs, counted, Tables, Stays}
 use Rattle.tables.specs.declared.Rooms.{Rooms}
 use Rattle.tables.specs.declared.Counts.{Counts}
-use Rattle.tables.specs.declared.Answer.{Answer}
+use Rattle.tables.specs.declared.Reply.{Reply}
 
 -- ---- rooms by value
 
@@ -72,7 +72,7 @@ recorded? nowhere path = some? (λ (r : Rec). is-nowhere (r .to) && same path (r
 recorded? (found u s) path = some? (λ (r : Rec). is-at u (r .to) && same path (r .path))
 
 -- The code is the first shortage of what document 01 notes; where it is 0 the buffers hold what document 01 makes, and else they are untouched.
-pub record Recorded (p : List ℕ) (np n buckets : ℕ) (k : Rooms) (m : Mem) (c : Counts) (start energy : ℕ) (x : Found) (m′ : Mem) (a : Answer) : Type 0 where
+pub record Recorded (p : List ℕ) (np n buckets : ℕ) (k : Rooms) (m : Mem) (c : Counts) (start energy : ℕ) (x : Found) (m′ : Mem) (a : Reply) : Type 0 where
   pub code : (t : Turn) (st : St) → Holding k m c start energy t st → (l : Lent) → Lends l k
       → shortage l (noted t x (addrs p 0 np) st .needs) ≡ or-else (shortage l (st .needs)) (a .code)
   pub made : (t : Turn) (st : St) → Holding k m c start energy t st → a .code ≡ 0 → clear (noted t x (addrs p 0 np) st) ≡ with-recs k m′ (a .counts) st

@@ -1,6 +1,6 @@
 -- The records, in the buffers R, Q and S, and the links between them, in R and W. Assumes nothing.
 use mathlib.Core.Path.{_≡_}
-use Prim.Native.Nat.{ℕ, zero, suc, _+_, _-_, _*_, _%_, _≤_, _<_}
+use Prim.Native.Nat.{ℕ, zero, suc, _+_, _-_, _*_, _≤_, _<_}
 use mathlib.Core.Bool.{Bool, _&&_}
 use mathlib.Core.List.{List, [], _∷_, _++_}
 use lib.Dec.{eqb}
@@ -12,11 +12,12 @@ use Rattle.layout.specs.Marks.{NOWHERE}
 use Rattle.layout.specs.Parts.{bucketPlace}
 use Rattle.layout.specs.Records.{RECORD, recordPlace, startAt, toAt, linkAt, sumAt, energyAt, endOf, keptOf}
 use Rattle.state.specs.Cells.{stackAt}
+use Rattle.tables.specs.Sums.{bucketOf}
 use Rattle.tables.specs.Addrs.{addrs, pathSum, Path, Summed}
 use Rattle.tables.specs.Chains.{any, Chained}
 
 unfoldable pub bucketAt : ℕ → List ℕ → ℕ → ℕ
-bucketAt buckets r i = sumAt r i % buckets
+bucketAt buckets r i = bucketOf buckets (sumAt r i)
 
 -- ---- the records: the path lies in Q, the state among the kept cells of S, which are counted from the end of the room
 

@@ -12,12 +12,12 @@ use Rattle.lent.specs.Bytes.{Stored}
 use Rattle.layout.specs.Seens.{SEEN, seenPlace, T-SYMBOL, T-MARK, T-HEAD, blockAt, placeAt, cellsAt, rowSumAt, markAt, stampAt, chainAt, topAt}
 use Rattle.state.specs.Symbols.{symOf}
 use Rattle.state.specs.Cells.{cell, symAt, symsAt, stackAt, State}
-use Rattle.tables.specs.Sums.{stamp}
+use Rattle.tables.specs.Sums.{stamp, bucketOf}
 use Rattle.tables.specs.Chains.{Chained}
 use Rattle.tables.specs.declared.row.Seen.{Seen}
 
 unfoldable pub shelfAt : ℕ → List ℕ → ℕ → ℕ
-shelfAt buckets t i = stampAt t i % buckets
+shelfAt buckets t i = bucketOf buckets (stampAt t i)
 
 -- ---- the rows: the state lies at the bottom of S
 

@@ -1,6 +1,6 @@
 -- The sum of numbers and of symbols, in 32 bits. Assumes nothing.
 use mathlib.Core.Path.{_≡_}
-use Prim.Native.Nat.{ℕ, _+_, _*_, _%_, _^_}
+use Prim.Native.Nat.{ℕ, _+_, _*_, _/_, _%_, _^_, min}
 use mathlib.Core.List.{List, [], _∷_}
 use Rattle.spec.specs.Stacks.{Sym}
 use Rattle.state.specs.Cells.{tag, value}
@@ -29,6 +29,10 @@ summed k last x xs = symSums k (mixed k (mixed k 0 last) (weight x)) xs
 -- a row's sum, and the mark that tells apart rows of one sum, in the lowest byte
 unfoldable pub stamp : ℕ → Sym → List Sym → ℕ
 stamp last x xs = summed 37 last x xs * 256 + summed 3 last x xs % 256
+
+-- the bucket of a sum: its lowest 32 bits are spread over 32 bits by a factor, and what comes out is scaled down to the buckets
+unfoldable pub bucketOf : ℕ → ℕ → ℕ
+bucketOf buckets sum = sum % 2 ^ 32 * 2654435769 % 2 ^ 32 * min buckets (2 ^ 32) / 2 ^ 32
 
 -- r has both sums with the symbols
 pub record SumsWith (a : Sums) (xs : List Sym) (r : Sums) : Type 0 where

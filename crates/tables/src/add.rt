@@ -15,31 +15,31 @@ ghost use Rattle.tables.specs.Addrs.{Path};
 ghost use Rattle.tables.specs.Tables.{mem, fields, counted, Counting, Keeps, Adds, Added};
 
 // What the row of a new record is to say.
-fn fields_of(c: Counts, np: usize, e: Entry, sum: usize) -> Fields
-    requires { ⌜ Counting c np e ⌝ }
-    ensures { λ f. ⌜ f ≡ fields c np e sum ⌝ }
+fn fields_of(counts: Counts, np: usize, entry: Entry, sum: usize) -> Fields
+    requires { ⌜ Counting counts np entry ⌝ }
+    ensures { λ f. ⌜ f ≡ fields counts np entry sum ⌝ }
 {
     Fields {
-        start: e.start,
-        to: e.to,
-        ends: c.addresses + np,
-        kept: c.kept + e.cells,
+        start: entry.start,
+        to: entry.to,
+        ends: counts.addresses + np,
+        kept: counts.kept + entry.cells,
         sum,
-        energy: e.energy,
+        energy: entry.energy,
     }
 }
 
 // The counts with a record more.
-fn counted_with(c: Counts, np: usize, e: Entry) -> Counts
-    requires { ⌜ Counting c np e ⌝ }
-    ensures { λ d. ⌜ d ≡ counted c np (e .cells) ⌝ }
+fn counted_with(counts: Counts, np: usize, entry: Entry) -> Counts
+    requires { ⌜ Counting counts np entry ⌝ }
+    ensures { λ d. ⌜ d ≡ counted counts np (entry .cells) ⌝ }
 {
     Counts {
-        records: c.records + 1,
-        addresses: c.addresses + np,
-        kept: c.kept + e.cells,
-        used: c.used,
-        rows: c.rows,
+        records: counts.records + 1,
+        addresses: counts.addresses + np,
+        kept: counts.kept + entry.cells,
+        used: counts.used,
+        rows: counts.rows,
     }
 }
 
@@ -67,20 +67,20 @@ pub fn add_record(
     r: &mut [u8],
     q: &mut [u8],
     s: &mut [u8],
-    k: Rooms,
-    c: Counts,
-    n: usize,
+    rooms: Rooms,
+    counts: Counts,
+    size: usize,
     buckets: usize,
-    e: Entry,
+    entry: Entry,
     sum: usize,
 ) -> Counts
-    requires { ⌜ Adds (now p) np n buckets k (mem (now w) (now r) (now q) (now s)) c e sum ⌝ }
-    ensures { λ d. ⌜ Added (now (p .entry)) np n buckets k (mem (now (w .entry)) (now (r .entry)) (now (q .entry)) (now (s .entry))) c e
+    requires { ⌜ Adds (now p) np size buckets rooms (mem (now w) (now r) (now q) (now s)) counts entry sum ⌝ }
+    ensures { λ d. ⌜ Added (now (p .entry)) np size buckets rooms (mem (now (w .entry)) (now (r .entry)) (now (q .entry)) (now (s .entry))) counts entry
         (mem (now (w .exit)) (now (r .exit)) (now (q .exit)) (now (s .exit))) d ⌝ }
 {
-    let f = fields_of(c, np, e, sum);
-    link_record(w, r, n, buckets, c.records, f);
-    keep_path(p, np, q, c.addresses);
-    keep_state(s, k.s, f.kept, e.from, e.cells);
-    counted_with(c, np, e)
+    let fields = fields_of(counts, np, entry, sum);
+    link_record(w, r, size, buckets, counts.records, fields);
+    keep_path(p, np, q, counts.addresses);
+    keep_state(s, rooms.s, fields.kept, entry.from, entry.cells);
+    counted_with(counts, np, entry)
 }

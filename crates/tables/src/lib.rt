@@ -40,7 +40,7 @@ pub struct Entry {
 }
 
 // 0 or the number of a refusal, and the counts.
-pub struct Answer {
+pub struct Reply {
     pub code: usize,
     pub counts: Counts,
 }

@@ -36,14 +36,14 @@ pub struct Fields {
 }
 
 // Stores what a record's row says of its path and its state.
-fn put_says(r: &mut [u8], at: usize, f: Fields)
+fn put_says(r: &mut [u8], at: usize, fields: Fields)
     requires { ⌜ at + 12 ≤ length (now r) ⌝ }
-    ensures { λ _. ⌜ Stored 12 (now (r .entry)) at (saysBytes f) (now (r .exit)) ⌝ }
+    ensures { λ _. ⌜ Stored 12 (now (r .entry)) at (saysBytes fields) (now (r .exit)) ⌝ }
 {
-    put16(r, at, f.start);
-    put16(r, at + TO, f.to);
-    put32(r, at + ENDS, f.ends);
-    put32(r, at + KEPT, f.kept);
+    put16(r, at, fields.start);
+    put16(r, at + TO, fields.to);
+    put32(r, at + ENDS, fields.ends);
+    put32(r, at + KEPT, fields.kept);
 }
 
 // Stores the links, the sum and the number of the record whose row begins at `at`; it has no next parent yet.
@@ -57,40 +57,47 @@ fn put_links(r: &mut [u8], at: usize, link: usize, sum: usize, energy: usize)
     put32(r, at + ENERGY, energy);
 }
 
-// Stores the row of record m, with the given link.
-fn put_row(r: &mut [u8], m: usize, f: Fields, link: usize)
-    requires { ⌜ recordPlace m + RECORD ≤ length (now r) ⌝ }
-    ensures { λ _. ⌜ Stored 28 (now (r .entry)) (recordPlace m) (rowBytes f link) (now (r .exit)) ⌝ }
+// Stores the row of a record, with the given link.
+fn put_row(r: &mut [u8], row: usize, fields: Fields, link: usize)
+    requires { ⌜ recordPlace row + RECORD ≤ length (now r) ⌝ }
+    ensures { λ _. ⌜ Stored 28 (now (r .entry)) (recordPlace row) (rowBytes fields link) (now (r .exit)) ⌝ }
 {
-    put_says(r, RECORD * m, f);
-    put_links(r, RECORD * m, link, f.sum, f.energy);
+    put_says(r, RECORD * row, fields);
+    put_links(r, RECORD * row, link, fields.sum, fields.energy);
 }
 
-// Puts record m behind the found parents of its destination a.
-fn link_parent(w: &mut [u8], r: &mut [u8], n: usize, a: usize, m: usize)
-    requires { ⌜ Joins n (now w) (now r) a m ⌝ }
-    ensures { λ _. ⌜ Joined n (now (w .entry)) (now (r .entry)) m (now (w .exit)) (now (r .exit)) ⌝ }
+// Puts a record behind the found parents of its destination.
+fn link_parent(w: &mut [u8], r: &mut [u8], size: usize, to: usize, row: usize)
+    requires { ⌜ Joins size (now w) (now r) to row ⌝ }
+    ensures { λ _. ⌜ Joined size (now (w .entry)) (now (r .entry)) row (now (w .exit)) (now (r .exit)) ⌝ }
 {
-    let at = ROW * (n + 1 + a);
+    let at = ROW * (size + 1 + to);
     let last = get32(w, at + LAST_FOUND);
-    put32(w, at + LAST_FOUND, m + 1);
+    put32(w, at + LAST_FOUND, row + 1);
     if last == 0 {
-        return put32(w, at + FIRST_FOUND, m + 1);
+        return put32(w, at + FIRST_FOUND, row + 1);
     }
-    put32(r, RECORD * (last - 1) + NEXT, m + 1)
+    put32(r, RECORD * (last - 1) + NEXT, row + 1)
 }
 
-// Stores the row of record m and puts it on its chains.
-pub fn link_record(w: &mut [u8], r: &mut [u8], n: usize, buckets: usize, m: usize, f: Fields)
-    requires { ⌜ Links n buckets (now w) (now r) m f ⌝ }
-    ensures { λ _. ⌜ Linked n buckets (now (w .entry)) (now (r .entry)) m f (now (w .exit)) (now (r .exit)) ⌝ }
+// Stores the row of a record and puts it on its chains.
+pub fn link_record(
+    w: &mut [u8],
+    r: &mut [u8],
+    size: usize,
+    buckets: usize,
+    row: usize,
+    fields: Fields,
+)
+    requires { ⌜ Links size buckets (now w) (now r) row fields ⌝ }
+    ensures { λ _. ⌜ Linked size buckets (now (w .entry)) (now (r .entry)) row fields (now (w .exit)) (now (r .exit)) ⌝ }
 {
-    let at = BUCKETS * (n + 1) + BUCKET * bucket_of(f.sum, buckets);
+    let at = BUCKETS * (size + 1) + BUCKET * bucket_of(fields.sum, buckets);
     let head = get32(w, at);
-    put_row(r, m, f, head);
-    put32(w, at, m + 1);
-    if f.to == NOWHERE {
+    put_row(r, row, fields, head);
+    put32(w, at, row + 1);
+    if fields.to == NOWHERE {
         return;
     }
-    link_parent(w, r, n, f.to, m)
+    link_parent(w, r, size, fields.to, row)
 }

@@ -1,7 +1,7 @@
 // What was met in a turn: remembering it, and forgetting all of it when the turn ends.
 // "when a turn ends, T and the cells of its first and remembered states are free and used again"
-use crate::Answer;
 use crate::Counts;
+use crate::Reply;
 use crate::Rooms;
 use crate::record::bucket_of;
 use crate::row::Seen;
@@ -16,16 +16,16 @@ ghost use Rattle.tables.specs.Rows.{Shelves};
 ghost use Rattle.tables.specs.Mets.{Memorizes, Memorized, Begins, Emptied, remembering};
 
 // The counts with a row more.
-fn counted_row(c: Counts, x: Seen) -> Counts
-    requires { ⌜ (c .used + x .cells < 2 ^ 64) × (c .rows + 1 < 2 ^ 64) ⌝ }
-    ensures { λ d. ⌜ d ≡ remembering c x ⌝ }
+fn counted_row(counts: Counts, seen: Seen) -> Counts
+    requires { ⌜ (counts .used + seen .cells < 2 ^ 64) × (counts .rows + 1 < 2 ^ 64) ⌝ }
+    ensures { λ d. ⌜ d ≡ remembering counts seen ⌝ }
 {
     Counts {
-        records: c.records,
-        addresses: c.addresses,
-        kept: c.kept,
-        used: c.used + x.cells,
-        rows: c.rows + 1,
+        records: counts.records,
+        addresses: counts.addresses,
+        kept: counts.kept,
+        used: counts.used + seen.cells,
+        rows: counts.rows + 1,
     }
 }
 
@@ -33,21 +33,21 @@ fn counted_row(c: Counts, x: Seen) -> Counts
 pub fn remember(
     t: &mut [u8],
     s: &[u8],
-    k: Rooms,
-    c: Counts,
+    rooms: Rooms,
+    counts: Counts,
     buckets: usize,
-    x: Seen,
+    seen: Seen,
     sum: usize,
-) -> Answer
-    requires { ⌜ Memorizes buckets k (now t) (now s) c x sum ⌝ }
-    ensures { λ a. ⌜ Memorized buckets k (now (t .entry)) (now (s .entry)) c x (now (t .exit)) a ⌝ }
+) -> Reply
+    requires { ⌜ Memorizes buckets rooms (now t) (now s) counts seen sum ⌝ }
+    ensures { λ a. ⌜ Memorized buckets rooms (now (t .entry)) (now (s .entry)) counts seen (now (t .exit)) a ⌝ }
 {
-    if k.t < c.rows + 1 {
-        return Answer { code: 6, counts: c };
+    if rooms.t < counts.rows + 1 {
+        return Reply { code: 6, counts };
     }
-    push_row(t, buckets, c.rows, x, sum);
-    let counts = counted_row(c, x);
-    Answer { code: 0, counts }
+    push_row(t, buckets, counts.rows, seen, sum);
+    let counts = counted_row(counts, seen);
+    Reply { code: 0, counts }
 }
 
 // Empties the buckets before the first turn.
@@ -55,22 +55,22 @@ pub fn begin_rows(t: &mut [u8], buckets: usize)
     requires { ⌜ Begins buckets (now t) ⌝ }
     ensures { λ _. ⌜ Emptied buckets (now (t .entry)) (now (t .exit)) ⌝ }
 {
-    let mut h = 0;
-    while h < buckets {
-        put32(t, SEEN * h + HEAD, 0);
-        h += 1;
+    let mut bucket = 0;
+    while bucket < buckets {
+        put32(t, SEEN * bucket + HEAD, 0);
+        bucket += 1;
     }
 }
 
-// Empties the buckets that the m rows of a turn are in.
-pub fn forget(t: &mut [u8], buckets: usize, m: usize)
-    requires { ⌜ Shelves buckets (now t) m ⌝ }
+// Empties the buckets that the rows of a turn are in.
+pub fn forget(t: &mut [u8], buckets: usize, rows: usize)
+    requires { ⌜ Shelves buckets (now t) rows ⌝ }
     ensures { λ _. ⌜ Emptied buckets (now (t .entry)) (now (t .exit)) ⌝ }
 {
-    let mut i = 0;
-    while i < m {
-        let h = bucket_of(stamp_at(t, i), buckets);
-        put32(t, SEEN * h + HEAD, 0);
-        i += 1;
+    let mut row = 0;
+    while row < rows {
+        let bucket = bucket_of(stamp_at(t, row), buckets);
+        put32(t, SEEN * bucket + HEAD, 0);
+        row += 1;
     }
 }

@@ -1,8 +1,8 @@
 // Recording the path in hand: unless it is recorded already, and where R, then Q, then S have room.
 // "A record needs R, then Q, then (with a destination) S."
-use crate::Answer;
 use crate::Counts;
 use crate::Entry;
+use crate::Reply;
 use crate::Rooms;
 use crate::add::add_record;
 use crate::path::path_sum;
@@ -12,17 +12,17 @@ ghost use Rattle.tables.specs.Tables.{mem, newFound, Ready};
 ghost use Rattle.tables.specs.Recording.{shortOf, entryNeeds, Testing, Recorded};
 
 // The first room, of R, Q and S, that a record more would pass; 0 if none.
-fn shortage(k: Rooms, c: Counts, np: usize, cells: usize) -> usize
-    requires { ⌜ Testing c np cells ⌝ }
-    ensures { λ x. ⌜ x ≡ shortOf k (entryNeeds c np cells) ⌝ }
+fn shortage(rooms: Rooms, counts: Counts, np: usize, cells: usize) -> usize
+    requires { ⌜ Testing counts np cells ⌝ }
+    ensures { λ x. ⌜ x ≡ shortOf rooms (entryNeeds counts np cells) ⌝ }
 {
-    if k.r < c.records + 1 {
+    if rooms.r < counts.records + 1 {
         return 7;
     }
-    if k.q < c.addresses + np {
+    if rooms.q < counts.addresses + np {
         return 8;
     }
-    if k.s < c.kept + c.used + cells {
+    if rooms.s < counts.kept + counts.used + cells {
         return 5;
     }
     0
@@ -36,24 +36,24 @@ pub fn record_entry(
     r: &mut [u8],
     q: &mut [u8],
     s: &mut [u8],
-    k: Rooms,
-    c: Counts,
-    n: usize,
+    rooms: Rooms,
+    counts: Counts,
+    size: usize,
     buckets: usize,
-    e: Entry,
-) -> Answer
-    requires { ⌜ Ready (now p) np n buckets k (mem (now w) (now r) (now q) (now s)) c e ⌝ }
-    ensures { λ a. ⌜ Recorded (now (p .entry)) np n buckets k (mem (now (w .entry)) (now (r .entry)) (now (q .entry)) (now (s .entry))) c (e .start) (e .energy) (newFound (now (s .entry)) e)
+    entry: Entry,
+) -> Reply
+    requires { ⌜ Ready (now p) np size buckets rooms (mem (now w) (now r) (now q) (now s)) counts entry ⌝ }
+    ensures { λ a. ⌜ Recorded (now (p .entry)) np size buckets rooms (mem (now (w .entry)) (now (r .entry)) (now (q .entry)) (now (s .entry))) counts (entry .start) (entry .energy) (newFound (now (s .entry)) entry)
         (mem (now (w .exit)) (now (r .exit)) (now (q .exit)) (now (s .exit))) a ⌝ }
 {
     let sum = path_sum(p, np);
-    if recorded(p, np, w, r, q, n, buckets, c.records, e.to, sum) {
-        return Answer { code: 0, counts: c };
+    if recorded(p, np, w, r, q, size, buckets, counts.records, entry.to, sum) {
+        return Reply { code: 0, counts };
     }
-    let code = shortage(k, c, np, e.cells);
+    let code = shortage(rooms, counts, np, entry.cells);
     if code != 0 {
-        return Answer { code, counts: c };
+        return Reply { code, counts };
     }
-    let counts = add_record(p, np, w, r, q, s, k, c, n, buckets, e, sum);
-    Answer { code: 0, counts }
+    let counts = add_record(p, np, w, r, q, s, rooms, counts, size, buckets, entry, sum);
+    Reply { code: 0, counts }
 }

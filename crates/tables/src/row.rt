@@ -47,10 +47,10 @@ struct Sums {
 }
 
 // A symbol's tag.
-fn tag_of(x: StackSym) -> usize
-    ensures { λ r. ⌜ (r ≡ tag (symOf x)) × (r < 4) ⌝ }
+fn tag_of(symbol: StackSym) -> usize
+    ensures { λ r. ⌜ (r ≡ tag (symOf symbol)) × (r < 4) ⌝ }
 {
-    match x {
+    match symbol {
         StackSym::Before(_) => BEFORE,
         StackSym::Constant(_) => CONSTANT,
         StackSym::Jumpdest(_) => JUMPDEST,
@@ -59,97 +59,102 @@ fn tag_of(x: StackSym) -> usize
 }
 
 // A symbol's number.
-fn value_of(x: StackSym) -> usize
-    ensures { λ r. ⌜ r ≡ value (symOf x) ⌝ }
+fn value_of(symbol: StackSym) -> usize
+    ensures { λ r. ⌜ r ≡ value (symOf symbol) ⌝ }
 {
-    match x {
-        StackSym::Before(n) => n,
-        StackSym::Constant(n) => n,
-        StackSym::Jumpdest(n) => n,
-        StackSym::Other(n) => n,
+    match symbol {
+        StackSym::Before(number) => number,
+        StackSym::Constant(number) => number,
+        StackSym::Jumpdest(number) => number,
+        StackSym::Other(number) => number,
     }
 }
 
 // What a symbol adds to a sum.
-fn weigh(x: StackSym) -> u32
-    ensures { λ r. ⌜ r ≡ weight (symOf x) ⌝ }
+fn weigh(symbol: StackSym) -> u32
+    ensures { λ r. ⌜ r ≡ weight (symOf symbol) ⌝ }
 {
-    wrapping_add_u32(low(value_of(x)), low(tag_of(x) * 1000000))
+    wrapping_add_u32(low(value_of(symbol)), low(tag_of(symbol) * 1000000))
 }
 
 // Whether two symbols are the same.
-fn same_symbol(x: StackSym, y: StackSym) -> bool
-    ensures { λ r. ⌜ r ≡ eqSym (symOf x) (symOf y) ⌝ }
+fn same_symbol(one: StackSym, other: StackSym) -> bool
+    ensures { λ r. ⌜ r ≡ eqSym (symOf one) (symOf other) ⌝ }
 {
-    if tag_of(x) != tag_of(y) {
+    if tag_of(one) != tag_of(other) {
         return false;
     }
-    value_of(x) == value_of(y)
+    value_of(one) == value_of(other)
 }
 
-// Both sums with the n symbols in the cells of S from the cell `from` on.
-fn sum_cells(s: &[u8], from: usize, n: usize, a: Sums) -> Sums
-    requires { ⌜ 9 * (from + n) ≤ length (now s) ⌝ }
-    ensures { λ r. ⌜ SumsWith a (symsAt (now (s .entry)) (9 * from) n) r ⌝ }
+// Both sums with the symbols of so many cells of S from the cell `from` on.
+fn sum_cells(s: &[u8], from: usize, cells: usize, sums: Sums) -> Sums
+    requires { ⌜ 9 * (from + cells) ≤ length (now s) ⌝ }
+    ensures { λ r. ⌜ SumsWith sums (symsAt (now (s .entry)) (9 * from) cells) r ⌝ }
 {
-    let mut sum = a.sum;
-    let mut mark = a.mark;
+    let mut sum = sums.sum;
+    let mut mark = sums.mark;
     let mut i = 0;
-    while i < n {
-        let x = weigh(get_cell(s, 9 * (from + i)));
-        sum = mix(sum, x);
-        mark = blend(mark, x);
+    while i < cells {
+        let weight = weigh(get_cell(s, 9 * (from + i)));
+        sum = mix(sum, weight);
+        mark = blend(mark, weight);
         i += 1;
     }
     Sums { sum, mark }
 }
 
 // The sum of what is looked up, and its mark in the lowest byte.
-pub fn stamp_of(s: &[u8], x: Seen) -> usize
-    requires { ⌜ (State (now s) (9 * x .from) (x .cells)) × (x .last < 2 ^ 16) ⌝ }
-    ensures { λ r. ⌜ Stamped (now (s .entry)) x r ⌝ }
+pub fn stamp_of(s: &[u8], seen: Seen) -> usize
+    requires { ⌜ (State (now s) (9 * seen .from) (seen .cells)) × (seen .last < 2 ^ 16) ⌝ }
+    ensures { λ r. ⌜ Stamped (now (s .entry)) seen r ⌝ }
 {
-    let symbol = x.symbol;
-    let last = low(x.last);
+    let symbol = seen.symbol;
+    let last = low(seen.last);
     let weight = weigh(symbol);
     let sum = mix(mix(0, last), weight);
     let mark = blend(blend(0, last), weight);
-    let a = sum_cells(s, x.from, x.cells, Sums { sum, mark });
-    wide(a.sum) * 256 + wide(a.mark) % 256
+    let sums = sum_cells(s, seen.from, seen.cells, Sums { sum, mark });
+    wide(sums.sum) * 256 + wide(sums.mark) % 256
 }
 
-// Whether row i remembers x, whose sum is given.
-fn is_row(t: &[u8], s: &[u8], i: usize, x: Seen, sum: usize) -> bool
-    requires { ⌜ Compares (now t) (now s) i x sum ⌝ }
-    ensures { λ r. ⌜ r ≡ isMet (now (t .entry)) (now (s .entry)) (seenMet (now (s .entry)) x) i ⌝ }
+// Whether a row remembers `seen`, whose sum is given.
+fn is_row(t: &[u8], s: &[u8], row: usize, seen: Seen, sum: usize) -> bool
+    requires { ⌜ Compares (now t) (now s) row seen sum ⌝ }
+    ensures { λ r. ⌜ r ≡ isMet (now (t .entry)) (now (s .entry)) (seenMet (now (s .entry)) seen) row ⌝ }
 {
-    let symbol = x.symbol;
-    if stamp_at(t, i) != sum {
+    let symbol = seen.symbol;
+    if stamp_at(t, row) != sum {
         return false;
     }
-    if get16(t, SEEN * i) != x.last {
+    if get16(t, SEEN * row) != seen.last {
         return false;
     }
-    if !same_symbol(symbol, get_cell(t, SEEN * i + SYMBOL)) {
+    if !same_symbol(symbol, get_cell(t, SEEN * row + SYMBOL)) {
         return false;
     }
-    if get32(t, SEEN * i + CELLS) != x.cells {
+    if get32(t, SEEN * row + CELLS) != seen.cells {
         return false;
     }
-    same_state(s, 9 * x.from, 9 * get32(t, SEEN * i + FROM), x.cells)
+    same_state(
+        s,
+        9 * seen.from,
+        9 * get32(t, SEEN * row + FROM),
+        seen.cells,
+    )
 }
 
-// Whether one of the m rows remembers x, whose sum is given.
-pub fn find_row(t: &[u8], s: &[u8], buckets: usize, m: usize, x: Seen, sum: usize) -> bool
-    requires { ⌜ Finds (now t) (now s) buckets m x sum ⌝ }
-    ensures { λ r. ⌜ r ≡ any (isMet (now (t .entry)) (now (s .entry)) (seenMet (now (s .entry)) x)) m ⌝ }
+// Whether one of the rows remembers `seen`, whose sum is given.
+pub fn find_row(t: &[u8], s: &[u8], buckets: usize, rows: usize, seen: Seen, sum: usize) -> bool
+    requires { ⌜ Finds (now t) (now s) buckets rows seen sum ⌝ }
+    ensures { λ r. ⌜ r ≡ any (isMet (now (t .entry)) (now (s .entry)) (seenMet (now (s .entry)) seen)) rows ⌝ }
 {
-    let h = bucket_of(sum, buckets);
-    let mut cur = get32(t, SEEN * h + HEAD);
+    let bucket = bucket_of(sum, buckets);
+    let mut cur = get32(t, SEEN * bucket + HEAD);
     while cur != 0 {
-        let i = cur - 1;
-        cur = get32(t, SEEN * i + LINK);
-        if is_row(t, s, i, x, sum) {
+        let row = cur - 1;
+        cur = get32(t, SEEN * row + LINK);
+        if is_row(t, s, row, seen, sum) {
             return true;
         }
     }

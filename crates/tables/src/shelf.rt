@@ -25,12 +25,12 @@ ghost use Rattle.layout.specs.Seens.{SEEN, seenPlace, T-FROM, stampAt};
 ghost use Rattle.state.specs.Symbols.{symOf};
 ghost use Rattle.tables.specs.Rows.{placeBytes, SeenPut, Tellable, RowPut, Pushes, Pushed};
 
-// The sum and the mark that are stored with row i.
-pub fn stamp_at(t: &[u8], i: usize) -> usize
-    requires { ⌜ seenPlace i + SEEN ≤ length (now t) ⌝ }
-    ensures { λ r. ⌜ r ≡ stampAt (now (t .entry)) i ⌝ }
+// The sum and the mark that are stored with a row.
+pub fn stamp_at(t: &[u8], row: usize) -> usize
+    requires { ⌜ seenPlace row + SEEN ≤ length (now t) ⌝ }
+    ensures { λ r. ⌜ r ≡ stampAt (now (t .entry)) row ⌝ }
 {
-    get32(t, SEEN * i + SUM) * 256 + get8(t, SEEN * i + MARK)
+    get32(t, SEEN * row + SUM) * 256 + get8(t, SEEN * row + MARK)
 }
 
 // Stores a last block and its symbol.
@@ -53,24 +53,24 @@ fn put_place(t: &mut [u8], at: usize, from: usize, cells: usize, sum: usize, lin
     put32(t, at + LINK, link);
 }
 
-// Stores row i.
-fn put_met(t: &mut [u8], i: usize, x: Seen, sum: usize, link: usize)
-    requires { ⌜ (seenPlace i + SEEN ≤ length (now t)) × (Tellable x sum link) ⌝ }
-    ensures { λ _. ⌜ RowPut (now (t .entry)) i x sum link (now (t .exit)) ⌝ }
+// Stores a row.
+fn put_met(t: &mut [u8], row: usize, seen: Seen, sum: usize, link: usize)
+    requires { ⌜ (seenPlace row + SEEN ≤ length (now t)) × (Tellable seen sum link) ⌝ }
+    ensures { λ _. ⌜ RowPut (now (t .entry)) row seen sum link (now (t .exit)) ⌝ }
 {
-    let symbol = x.symbol;
-    put_seen(t, SEEN * i, x.last, symbol);
-    put8(t, SEEN * i + MARK, sum % 256);
-    put_place(t, SEEN * i, x.from, x.cells, sum / 256, link);
+    let symbol = seen.symbol;
+    put_seen(t, SEEN * row, seen.last, symbol);
+    put8(t, SEEN * row + MARK, sum % 256);
+    put_place(t, SEEN * row, seen.from, seen.cells, sum / 256, link);
 }
 
-// Stores row m and puts it at the head of its bucket.
-pub fn push_row(t: &mut [u8], buckets: usize, m: usize, x: Seen, sum: usize)
-    requires { ⌜ Pushes buckets (now t) m x sum ⌝ }
-    ensures { λ _. ⌜ Pushed buckets (now (t .entry)) m x sum (now (t .exit)) ⌝ }
+// Stores a row and puts it at the head of its bucket.
+pub fn push_row(t: &mut [u8], buckets: usize, row: usize, seen: Seen, sum: usize)
+    requires { ⌜ Pushes buckets (now t) row seen sum ⌝ }
+    ensures { λ _. ⌜ Pushed buckets (now (t .entry)) row seen sum (now (t .exit)) ⌝ }
 {
     let at = SEEN * bucket_of(sum, buckets) + HEAD;
     let head = get32(t, at);
-    put_met(t, m, x, sum, head);
-    put32(t, at, m + 1);
+    put_met(t, row, seen, sum, head);
+    put32(t, at, row + 1);
 }

@@ -6,39 +6,39 @@ ghost use Rattle.tables.specs.Sums.{mixed};
 use std::num::wrapping_add_u32;
 
 // The lowest 32 bits of a number.
-pub fn low(x: usize) -> u32
-    ensures { λ r. ⌜ r ≡ x % 2 ^ 32 ⌝ }
+pub fn low(number: usize) -> u32
+    ensures { λ r. ⌜ r ≡ number % 2 ^ 32 ⌝ }
 {
-    (x % 0x1_0000_0000) as u32
+    (number % 0x1_0000_0000) as u32
 }
 
 // 32 bits as a number.
-pub fn wide(x: u32) -> usize
-    ensures { λ r. ⌜ (r ≡ x) × (r < 2 ^ 32) ⌝ }
+pub fn wide(number: u32) -> usize
+    ensures { λ r. ⌜ (r ≡ number) × (r < 2 ^ 32) ⌝ }
 {
-    x as usize
+    number as usize
 }
 
 // Twice a number.
-fn twice(x: u32) -> u32
-    ensures { λ r. ⌜ r ≡ (x + x) % 2 ^ 32 ⌝ }
+fn twice(number: u32) -> u32
+    ensures { λ r. ⌜ r ≡ (number + number) % 2 ^ 32 ⌝ }
 {
-    wrapping_add_u32(x, x)
+    wrapping_add_u32(number, number)
 }
 
 // A sum with one number more: 37 times the sum, and the number. Nine is eight and one, and 37 four times nine and one.
-pub fn mix(sum: u32, x: u32) -> u32
-    ensures { λ r. ⌜ r ≡ mixed 37 sum x ⌝ }
+pub fn mix(sum: u32, number: u32) -> u32
+    ensures { λ r. ⌜ r ≡ mixed 37 sum number ⌝ }
 {
     let eight = twice(twice(twice(sum)));
     let nine = wrapping_add_u32(eight, sum);
     let most = twice(twice(nine));
-    wrapping_add_u32(wrapping_add_u32(most, sum), x)
+    wrapping_add_u32(wrapping_add_u32(most, sum), number)
 }
 
 // The same with 3 times the sum.
-pub fn blend(sum: u32, x: u32) -> u32
-    ensures { λ r. ⌜ r ≡ mixed 3 sum x ⌝ }
+pub fn blend(sum: u32, number: u32) -> u32
+    ensures { λ r. ⌜ r ≡ mixed 3 sum number ⌝ }
 {
-    wrapping_add_u32(wrapping_add_u32(twice(sum), sum), x)
+    wrapping_add_u32(wrapping_add_u32(twice(sum), sum), number)
 }

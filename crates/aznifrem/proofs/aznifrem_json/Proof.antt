@@ -1,44 +1,55 @@
 -- `aznifrem_json`: the number, or both counts. Assumes nothing.
 use borrow.Author.Needs.{needs}
-use native.Mathlib.Omega.{arith}
-use Rattle.aznifrem.proofs.Exports.{json-number-given, json-counts-given, written-few, texted-few}
+use Rattle.aznifrem.proofs.Exports.{json-few, json-given}
 use Rattle.aznifrem.proofs.aznifrem_json.Statement.{statement}
 use Rattle.aznifrem.proofs.aznifrem_json.Tie as tie
 
+-- where the call has answered
+abbrev called : tie.After-slice-known16 → tie.After-map-json
+called c = c .before .before .before .before .before .before .before .before .before .before .before .before .before .before .before .before
+
+given-both-requires : tie.Need-given-both-requires
+given-both-requires c κs = json-few (called c .map-json .ensures)
+
+same-length : tie.Need-same-length
+same-length c = called (c .before) .map-json .kept .1 .1 .1 .1 .0
+
+same-length-2 : tie.Need-same-length-2
+same-length-2 c = called (c .before) .map-json .kept .1 .1 .1 .1 .1 .0
+
+same-length-3 : tie.Need-same-length-3
+same-length-3 c = called (c .before) .map-json .kept .1 .1 .1 .1 .1 .1 .0
+
+same-length-4 : tie.Need-same-length-4
+same-length-4 c = called (c .before) .map-json .kept .1 .1 .1 .1 .1 .1 .1 .0
+
+same-length-5 : tie.Need-same-length-5
+same-length-5 c = called (c .before) .map-json .kept .1 .1 .1 .1 .1 .1 .1 .1 .0
+
+same-length-6 : tie.Need-same-length-6
+same-length-6 c = called (c .before) .map-json .kept .1 .1 .1 .1 .1 .1 .1 .1 .1 .0
+
+same-length-7 : tie.Need-same-length-7
+same-length-7 c = called (c .before) .map-json .kept .1 .1 .1 .1 .1 .1 .1 .1 .1 .1 .0
+
+same-length-8 : tie.Need-same-length-8
+same-length-8 c = called (c .before) .map-json .kept .1 .1 .1 .1 .1 .1 .1 .1 .1 .1 .1 .0
+
 returns : tie.Need-returns
-returns c = json-number-given (c .before .before .before .before .before .before .before .before .before .before .before .before .before .before .before .before .before .before .map-json .ensures) (c .if1 .taken)
-
-mul-result : tie.Need-mul-result
-mul-result c = omega (arith, texted-few (c .before .before .before .before .before .before .before .before .before .before .before .before .before .before .before .before .before .before .before .map-json .ensures))
-
-add-result : tie.Need-add-result
-add-result c = omega (arith, written-few (c .before .before .before .before .before .before .before .before .before .before .before .before .before .before .before .before .before .before .before .before .map-json .ensures), texted-few (c .before .before .before .before .before .before .before .before .before .before .before .before .before .before .before .before .before .before .before .before .map-json .ensures))
-
-returns-2 : tie.Need-returns-2
-returns-2 c = json-counts-given (c .before .before .before .before .before .before .before .before .before .before .before .before .before .before .before .before .before .before .before .before .map-json .ensures) (c .before .before .if1 .left)
+returns c = json-given (called (c .before) .map-json .ensures) (c .given-both .ensures)
 
 pub aznifrem-json-spec : {M : Type 1} → statement M
 aznifrem-json-spec =
     tie.close
     (tie.spec
     (λ c κs. search needs)
-    (λ c. search needs)
-    (λ c. search needs)
-    (λ c. search needs)
-    (λ c. search needs)
-    (λ c. search needs)
-    (λ c. search needs)
-    (λ c. search needs)
-    (λ c. search needs)
-    returns
-    mul-result
-    add-result
-    (λ c. search needs)
-    (λ c. search needs)
-    (λ c. search needs)
-    (λ c. search needs)
-    (λ c. search needs)
-    (λ c. search needs)
-    (λ c. search needs)
-    (λ c. search needs)
-    returns-2)
+    given-both-requires
+    same-length
+    same-length-2
+    same-length-3
+    same-length-4
+    same-length-5
+    same-length-6
+    same-length-7
+    same-length-8
+    returns)

@@ -1,7 +1,7 @@
 use borrow.Author.Needs.{needs}
-use Rattle.state.specs.Modes.{modeOf}
+use Rattle.exec.specs.Modes.{modeOf}
 use Rattle.parents.proofs.Ends.{prepared-all}
-use Rattle.parents.proofs.Pass.{Pass, pass-none, pass-settles, pass-sides, pass-more}
+use Rattle.parents.proofs.Pass.{Pass, pass-none, pass-row, pass-more}
 use Rattle.parents.proofs.prepare.Statement.{statement}
 use Rattle.parents.proofs.prepare.Tie as tie
 
@@ -14,12 +14,8 @@ abbrev μ-loop : tie.MeasureT-loop
 loop-holds : tie.Need-loop-holds Inv-loop μ-loop
 loop-holds c = search pass-none
 
-settle-requires : tie.Need-settle-requires Inv-loop μ-loop
-settle-requires c κs = search pass-settles
-
-link-sides-requires : tie.Need-link-sides-requires Inv-loop μ-loop
-link-sides-requires c κs =
-    pass-sides (c .before .before .before .before .before .before .before .before .before .pre) (c .before .before .before .before .before .before .loop .inv) (c .before .before .before .before .before .loop-test .taken) (c .before .before .before .settle .ensures)
+prepare-row-requires : tie.Need-prepare-row-requires Inv-loop μ-loop
+prepare-row-requires c κs = search pass-row
 
 loop-again : tie.Need-loop-again Inv-loop μ-loop
 loop-again c = search pass-more
@@ -36,8 +32,7 @@ prepare-spec =
     (λ c. search needs)
     loop-holds
     (λ c. search needs)
-    settle-requires
-    link-sides-requires
+    prepare-row-requires
     (λ c. search needs)
     loop-again
     (λ c. search needs)

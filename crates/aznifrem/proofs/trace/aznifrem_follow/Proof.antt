@@ -1,54 +1,14 @@
--- `aznifrem_follow` meets its contract: each way out is a law of its own. Assumes nothing.
-use Rattle.aznifrem.proofs.FollowExports.{sum-fits, most-fits, follow-given, follow-beyond}
+-- `aznifrem_follow` meets its contract: the number and the value as one. Assumes nothing.
+use Rattle.aznifrem.proofs.FollowExports.{follow-low, follow-given}
 use borrow.Author.Needs.{needs}
 use Rattle.aznifrem.proofs.trace.aznifrem_follow.Statement.{statement}
 use Rattle.aznifrem.proofs.trace.aznifrem_follow.Tie as tie
 
-follow-requires : tie.Need-follow-requires
-follow-requires c κs = search needs
-
-mul-result : tie.Need-mul-result
-mul-result c = search needs
-
-add-result : tie.Need-add-result
-add-result c = search sum-fits
-
-same-length : tie.Need-same-length
-same-length c = search needs
-
-same-length-2 : tie.Need-same-length-2
-same-length-2 c = search needs
+told-of-requires : tie.Need-told-of-requires
+told-of-requires c κs = search follow-low
 
 returns : tie.Need-returns
 returns c = search follow-given
 
-mul-result-2 : tie.Need-mul-result-2
-mul-result-2 c = search needs
-
-add-result-2 : tie.Need-add-result-2
-add-result-2 c = search most-fits
-
-same-length-3 : tie.Need-same-length-3
-same-length-3 c = search needs
-
-same-length-4 : tie.Need-same-length-4
-same-length-4 c = search needs
-
-returns-2 : tie.Need-returns-2
-returns-2 c = search follow-beyond
-
 pub aznifrem-follow-spec : {M : Type 1} → statement M
-aznifrem-follow-spec =
-    tie.close
-    (tie.spec
-    follow-requires
-    mul-result
-    add-result
-    same-length
-    same-length-2
-    returns
-    mul-result-2
-    add-result-2
-    same-length-3
-    same-length-4
-    returns-2)
+aznifrem-follow-spec = tie.close (tie.spec (λ c κs. search needs) told-of-requires (λ c. search needs) (λ c. search needs) returns)

@@ -3,20 +3,20 @@ use borrow.Author.Needs.{needs}
 use Rattle.follow.proofs.block.seen_in.Statement.{statement}
 use Rattle.follow.proofs.block.seen_in.Tie as tie
 
-enum-known-e : tie.Need-enum-known-e
-enum-known-e c = search needs
+enum-known-entry : tie.Need-enum-known-entry
+enum-known-entry c = search needs
 
-enum-known-e-2 : tie.Need-enum-known-e-2
-enum-known-e-2 c = search needs
+enum-known-entry-2 : tie.Need-enum-known-entry-2
+enum-known-entry-2 c = search needs
 
-enum-known-e-3 : tie.Need-enum-known-e-3
-enum-known-e-3 c = search needs
+enum-known-entry-3 : tie.Need-enum-known-entry-3
+enum-known-entry-3 c = search needs
 
-enum-known-e-4 : tie.Need-enum-known-e-4
-enum-known-e-4 c = search needs
+enum-known-entry-4 : tie.Need-enum-known-entry-4
+enum-known-entry-4 c = search needs
 
-enum-known-e-5 : tie.Need-enum-known-e-5
-enum-known-e-5 c = search needs
+enum-known-entry-5 : tie.Need-enum-known-entry-5
+enum-known-entry-5 c = search needs
 
 enum-told : tie.Need-enum-told
 enum-told c = search needs
@@ -73,11 +73,11 @@ pub seen-in-spec : {M : Type 1} → statement M
 seen-in-spec =
     tie.close
     (tie.spec
-    enum-known-e
-    enum-known-e-2
-    enum-known-e-3
-    enum-known-e-4
-    enum-known-e-5
+    enum-known-entry
+    enum-known-entry-2
+    enum-known-entry-3
+    enum-known-entry-4
+    enum-known-entry-5
     enum-told
     enum-told-2
     enum-told-3

@@ -15,8 +15,8 @@ returns-2 c = search follow-uneven
 room-for-requires : tie.Need-room-for-requires
 room-for-requires c κs = search follow-walking
 
-enum-known-n : tie.Need-enum-known-n
-enum-known-n c = search needs
+enum-known-slots : tie.Need-enum-known-slots
+enum-known-slots c = search needs
 
 answer-requires : tie.Need-answer-requires
 answer-requires c κs = (search follow-ready, (search follow-count, search follow-room))
@@ -44,7 +44,7 @@ follow-spec =
     returns
     returns-2
     room-for-requires
-    enum-known-n
+    enum-known-slots
     answer-requires
     enum-told
     same-length

@@ -26,8 +26,8 @@ fresh-requires c κs = search needs
 keep-requires : tie.Need-keep-requires Inv-loop μ-loop
 keep-requires c κs = (search link-fits, search link-place)
 
-add-n : tie.Need-add-n Inv-loop μ-loop
-add-n c = search link-sum
+add-count : tie.Need-add-count Inv-loop μ-loop
+add-count c = search link-sum
 
 add-passed : tie.Need-add-passed Inv-loop μ-loop
 add-passed c = search link-passed
@@ -58,7 +58,7 @@ link-spec =
     enum-known-to
     fresh-requires
     keep-requires
-    add-n
+    add-count
     add-passed
     loop-less
     loop-again

@@ -6,8 +6,8 @@ use Rattle.follow.proofs.edges.shelf_of.Tie as tie
 mul-base : tie.Need-mul-base
 mul-base c = search needs
 
-sub-n : tie.Need-sub-n
-sub-n c = search needs
+sub-entries : tie.Need-sub-entries
+sub-entries c = search needs
 
 returns : tie.Need-returns
 returns c = search shelf-lacking
@@ -32,7 +32,7 @@ shelf-of-spec =
     tie.close
     (tie.spec
     mul-base
-    sub-n
+    sub-entries
     returns
     sub-spread
     spread-requires

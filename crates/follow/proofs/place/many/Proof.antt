@@ -6,11 +6,11 @@ use Rattle.follow.proofs.place.many.Tie as tie
 seek-requires : tie.Need-seek-requires
 seek-requires c κs = search needs
 
-enum-known-n : tie.Need-enum-known-n
-enum-known-n c = search needs
+enum-known-count : tie.Need-enum-known-count
+enum-known-count c = search needs
 
-enum-known-n-2 : tie.Need-enum-known-n-2
-enum-known-n-2 c = search needs
+enum-known-count-2 : tie.Need-enum-known-count-2
+enum-known-count-2 c = search needs
 
 returns : tie.Need-returns
 returns c = search many-at
@@ -19,4 +19,4 @@ returns-2 : tie.Need-returns-2
 returns-2 c = search many-not
 
 pub many-spec : {M : Type 1} → statement M
-many-spec = tie.close (tie.spec seek-requires enum-known-n enum-known-n-2 returns returns-2)
+many-spec = tie.close (tie.spec seek-requires enum-known-count enum-known-count-2 returns returns-2)

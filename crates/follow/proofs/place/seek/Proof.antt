@@ -29,8 +29,8 @@ returns c = search seek-hit
 fresh-requires : tie.Need-fresh-requires Inv-loop μ-loop
 fresh-requires c κs = search needs
 
-add-n : tie.Need-add-n Inv-loop μ-loop
-add-n c = search seek-sum
+add-count : tie.Need-add-count Inv-loop μ-loop
+add-count c = search seek-sum
 
 add-passed : tie.Need-add-passed Inv-loop μ-loop
 add-passed c = search seek-passed
@@ -59,7 +59,7 @@ seek-spec =
     hits-requires
     returns
     fresh-requires
-    add-n
+    add-count
     add-passed
     loop-less
     loop-again

@@ -17,8 +17,8 @@ loop-holds c = search room-start
 block-from-requires : tie.Need-block-from-requires Inv-loop μ-loop
 block-from-requires c κs = search needs
 
-enum-known-k : tie.Need-enum-known-k Inv-loop μ-loop
-enum-known-k c = search needs
+enum-known-block : tie.Need-enum-known-block Inv-loop μ-loop
+enum-known-block c = search needs
 
 many-requires : tie.Need-many-requires Inv-loop μ-loop
 many-requires c κs = search (room-walking, room-few)
@@ -29,11 +29,11 @@ sub-if1 c = search needs
 returns : tie.Need-returns Inv-loop μ-loop
 returns c = search room-short
 
-add-n : tie.Need-add-n Inv-loop μ-loop
-add-n c = search needs
+add-slots : tie.Need-add-slots Inv-loop μ-loop
+add-slots c = search needs
 
-add-n-2 : tie.Need-add-n-2 Inv-loop μ-loop
-add-n-2 c = search needs
+add-slots-2 : tie.Need-add-slots-2 Inv-loop μ-loop
+add-slots-2 c = search needs
 
 loop-less : tie.Need-loop-less Inv-loop μ-loop
 loop-less c = search room-less
@@ -55,12 +55,12 @@ room-for-spec =
     μ-loop
     loop-holds
     block-from-requires
-    enum-known-k
+    enum-known-block
     many-requires
     sub-if1
     returns
-    add-n
-    add-n-2
+    add-slots
+    add-slots-2
     loop-less
     loop-again
     enum-told

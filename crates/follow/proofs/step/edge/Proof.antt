@@ -6,14 +6,14 @@ use Rattle.follow.proofs.step.edge.Tie as tie
 place-of-requires : tie.Need-place-of-requires
 place-of-requires c κs = search needs
 
-enum-known-n : tie.Need-enum-known-n
-enum-known-n c = search needs
+enum-known-place : tie.Need-enum-known-place
+enum-known-place c = search needs
 
 find-requires : tie.Need-find-requires
 find-requires c κs = search needs
 
-enum-known-to : tie.Need-enum-known-to
-enum-known-to c = search needs
+enum-known-entered : tie.Need-enum-known-entered
+enum-known-entered c = search needs
 
 add-taken : tie.Need-add-taken
 add-taken c = search edge-one
@@ -41,9 +41,9 @@ edge-spec =
     tie.close
     (tie.spec
     place-of-requires
-    enum-known-n
+    enum-known-place
     find-requires
-    enum-known-to
+    enum-known-entered
     add-taken
     add-taken-2
     enum-told

@@ -9,8 +9,8 @@ enum-told c = search needs
 begin-requires : tie.Need-begin-requires
 begin-requires c κs = search needs
 
-enum-known-s : tie.Need-enum-known-s
-enum-known-s c = search needs
+enum-known-stand : tie.Need-enum-known-stand
+enum-known-stand c = search needs
 
 inside-requires : tie.Need-inside-requires
 inside-requires c κs = search step-stood
@@ -23,4 +23,4 @@ returns-2 c = search step-inside
 
 pub step-spec : {M : Type 1} → statement M
 step-spec =
-    tie.close (tie.spec enum-told begin-requires enum-known-s inside-requires returns returns-2)
+    tie.close (tie.spec enum-told begin-requires enum-known-stand inside-requires returns returns-2)

@@ -23,8 +23,8 @@ get64-requires c κs = search needs
 count-step-requires : tie.Need-count-step-requires Inv-loop μ-loop
 count-step-requires c κs = (search needs, (search needs, (search follow-standing, search follow-fits)))
 
-enum-known-t : tie.Need-enum-known-t Inv-loop μ-loop
-enum-known-t c = search needs
+enum-known-next : tie.Need-enum-known-next Inv-loop μ-loop
+enum-known-next c = search needs
 
 add-i : tie.Need-add-i Inv-loop μ-loop
 add-i c = search needs
@@ -60,7 +60,7 @@ walk-spec =
     mul-get64
     get64-requires
     count-step-requires
-    enum-known-t
+    enum-known-next
     add-i
     loop-less
     loop-again

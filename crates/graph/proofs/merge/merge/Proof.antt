@@ -17,8 +17,8 @@ loop-holds c = search merge-start
 merge-row-requires : tie.Need-merge-row-requires Inv-loop μ-loop
 merge-row-requires c κs = (search merge-room, search needs)
 
-add-a : tie.Need-add-a Inv-loop μ-loop
-add-a c = search needs
+add-start : tie.Need-add-start Inv-loop μ-loop
+add-start c = search needs
 
 loop-less : tie.Need-loop-less Inv-loop μ-loop
 loop-less c = search needs
@@ -40,7 +40,7 @@ merge-spec =
     μ-loop
     loop-holds
     merge-row-requires
-    add-a
+    add-start
     loop-less
     loop-again
     same-length

@@ -20,8 +20,8 @@ loop-holds c = search note-start
 note-requires : tie.Need-note-requires Inv-loop μ-loop
 note-requires c κs = (search note-room, search note-row)
 
-add-i : tie.Need-add-i Inv-loop μ-loop
-add-i c = search needs
+add-row : tie.Need-add-row Inv-loop μ-loop
+add-row c = search needs
 
 loop-less : tie.Need-loop-less Inv-loop μ-loop
 loop-less c = search needs
@@ -44,7 +44,7 @@ note-all-spec =
     begin-requires
     loop-holds
     note-requires
-    add-i
+    add-row
     loop-less
     loop-again
     same-length

@@ -17,8 +17,8 @@ loop-holds c = search rewrite-start
 rewrite-row-requires : tie.Need-rewrite-row-requires Inv-loop μ-loop
 rewrite-row-requires c κs = search rewrite-row
 
-add-i : tie.Need-add-i Inv-loop μ-loop
-add-i c = search needs
+add-row : tie.Need-add-row Inv-loop μ-loop
+add-row c = search needs
 
 loop-less : tie.Need-loop-less Inv-loop μ-loop
 loop-less c = search needs
@@ -40,7 +40,7 @@ rewrite-spec =
     μ-loop
     loop-holds
     rewrite-row-requires
-    add-i
+    add-row
     loop-less
     loop-again
     same-length

@@ -5,8 +5,8 @@ use Rattle.graph.proofs.Finished.{graphed}
 use Rattle.graph.proofs.whole.graph.Statement.{statement}
 use Rattle.graph.proofs.whole.graph.Tie as tie
 
-settle-requires : tie.Need-settle-requires
-settle-requires c κs = search notes-asked
+merge-all-requires : tie.Need-merge-all-requires
+merge-all-requires c κs = search notes-asked
 
 rewrite-requires : tie.Need-rewrite-requires
 rewrite-requires c κs = search rewrites-asked
@@ -20,4 +20,4 @@ returns c = search graphed
 pub graph-spec : {M : Type 1} → statement M
 graph-spec =
     tie.close
-    (tie.spec settle-requires rewrite-requires prune-requires (λ c. search needs) (λ c. search needs) returns)
+    (tie.spec merge-all-requires rewrite-requires prune-requires (λ c. search needs) (λ c. search needs) returns)

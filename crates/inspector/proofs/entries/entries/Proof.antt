@@ -1,6 +1,6 @@
 -- `entries` meets its contract: each way out is a law of its own. Assumes nothing.
 use Rattle.theorems.proofs.Bytes.{Bytes}
-use Rattle.state.specs.Modes.{modeOf}
+use Rattle.exec.specs.Modes.{modeOf}
 use Rattle.inspector.proofs.Showing.{Looking, looking-start, looking-tables, looking-path, looking-less, looking-right, looking-wrong, looking-of, looking-over}
 use lib.ListN.{length}
 use Prim.Native.Nat.{_-_}

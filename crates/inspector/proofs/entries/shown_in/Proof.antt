@@ -4,32 +4,32 @@ use borrow.Author.Needs.{needs}
 use Rattle.inspector.proofs.entries.shown_in.Statement.{statement}
 use Rattle.inspector.proofs.entries.shown_in.Tie as tie
 
-enum-known-e : tie.Need-enum-known-e
-enum-known-e c = search needs
+enum-known-entry : tie.Need-enum-known-entry
+enum-known-entry c = search needs
 
 shown-by-requires : tie.Need-shown-by-requires
 shown-by-requires c κs = search needs
 
-enum-known-e-2 : tie.Need-enum-known-e-2
-enum-known-e-2 c = search needs
+enum-known-entry-2 : tie.Need-enum-known-entry-2
+enum-known-entry-2 c = search needs
 
 shown-by-requires-2 : tie.Need-shown-by-requires-2
 shown-by-requires-2 c κs = search needs
 
-enum-known-e-3 : tie.Need-enum-known-e-3
-enum-known-e-3 c = search needs
+enum-known-entry-3 : tie.Need-enum-known-entry-3
+enum-known-entry-3 c = search needs
 
-enum-known-e-4 : tie.Need-enum-known-e-4
-enum-known-e-4 c = search needs
+enum-known-entry-4 : tie.Need-enum-known-entry-4
+enum-known-entry-4 c = search needs
 
-enum-known-e-5 : tie.Need-enum-known-e-5
-enum-known-e-5 c = search needs
+enum-known-entry-5 : tie.Need-enum-known-entry-5
+enum-known-entry-5 c = search needs
 
-enum-known-e-6 : tie.Need-enum-known-e-6
-enum-known-e-6 c = search needs
+enum-known-entry-6 : tie.Need-enum-known-entry-6
+enum-known-entry-6 c = search needs
 
-enum-known-e-7 : tie.Need-enum-known-e-7
-enum-known-e-7 c = search needs
+enum-known-entry-7 : tie.Need-enum-known-entry-7
+enum-known-entry-7 c = search needs
 
 enum-told : tie.Need-enum-told
 enum-told c = search needs
@@ -80,15 +80,15 @@ pub shown-in-spec : {M : Type 1} → statement M
 shown-in-spec =
     tie.close
     (tie.spec
-    enum-known-e
+    enum-known-entry
     shown-by-requires
-    enum-known-e-2
+    enum-known-entry-2
     shown-by-requires-2
-    enum-known-e-3
-    enum-known-e-4
-    enum-known-e-5
-    enum-known-e-6
-    enum-known-e-7
+    enum-known-entry-3
+    enum-known-entry-4
+    enum-known-entry-5
+    enum-known-entry-6
+    enum-known-entry-7
     enum-told
     enum-told-2
     enum-told-3

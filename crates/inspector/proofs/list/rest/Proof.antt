@@ -1,5 +1,5 @@
 -- `rest` meets its contract: each way out is a law of its own. Assumes nothing.
-use Rattle.state.specs.Modes.{modeOf}
+use Rattle.exec.specs.Modes.{modeOf}
 use Rattle.inspector.proofs.Rowing.{Resting, rest-start, rest-walking, rest-tables, rest-within, rest-over, rest-less, rest-full, rest-sum, rest-on}
 use lib.ListN.{length}
 use Prim.Native.Nat.{_-_}

@@ -1,5 +1,5 @@
 -- `along` meets its contract: each way out is a law of its own. Assumes nothing.
-use Rattle.state.specs.Modes.{modeOf}
+use Rattle.exec.specs.Modes.{modeOf}
 use Rattle.inspector.proofs.Passing.{Passed, passed-start, passed-unsound, passed-tables, passed-between, passed-unjoined, joined-lent, passed-looks, passed-less, passed-on, along-right, along-wrong}
 use lib.ListN.{length}
 use Prim.Native.Nat.{_-_}
@@ -43,8 +43,8 @@ looked-requires c κs =
     let turn = edge .before .before .before .before .before in
     (joined-lent (edge .joined .ensures), passed-looks (turn .before .loop .inv) (turn .loop-test .taken))
 
-add-i : tie.Need-add-i Inv-loop μ-loop
-add-i c = search needs
+add-place : tie.Need-add-place Inv-loop μ-loop
+add-place c = search needs
 
 loop-less : tie.Need-loop-less Inv-loop μ-loop
 loop-less c = search passed-less
@@ -89,7 +89,7 @@ along-spec =
     same-length-2
     returns-2
     looked-requires
-    add-i
+    add-place
     loop-less
     loop-again
     is-jumpdest-requires

@@ -4,14 +4,14 @@ use borrow.Author.Needs.{needs}
 use Rattle.inspector.proofs.seek.sight_of.Statement.{statement}
 use Rattle.inspector.proofs.seek.sight_of.Tie as tie
 
-enum-known-e : tie.Need-enum-known-e
-enum-known-e c = search needs
+enum-known-entry : tie.Need-enum-known-entry
+enum-known-entry c = search needs
 
 sight-by-requires : tie.Need-sight-by-requires
 sight-by-requires c κs = search needs
 
-enum-known-e-2 : tie.Need-enum-known-e-2
-enum-known-e-2 c = search needs
+enum-known-entry-2 : tie.Need-enum-known-entry-2
+enum-known-entry-2 c = search needs
 
 one-requires : tie.Need-one-requires
 one-requires c κs = search needs
@@ -19,8 +19,8 @@ one-requires c κs = search needs
 sight-by-requires-2 : tie.Need-sight-by-requires-2
 sight-by-requires-2 c κs = search needs
 
-enum-known-e-3 : tie.Need-enum-known-e-3
-enum-known-e-3 c = search needs
+enum-known-entry-3 : tie.Need-enum-known-entry-3
+enum-known-entry-3 c = search needs
 
 either-requires : tie.Need-either-requires
 either-requires c κs = search needs
@@ -28,14 +28,14 @@ either-requires c κs = search needs
 sight-by-requires-3 : tie.Need-sight-by-requires-3
 sight-by-requires-3 c κs = search needs
 
-enum-known-e-4 : tie.Need-enum-known-e-4
-enum-known-e-4 c = search needs
+enum-known-entry-4 : tie.Need-enum-known-entry-4
+enum-known-entry-4 c = search needs
 
 sight-by-requires-4 : tie.Need-sight-by-requires-4
 sight-by-requires-4 c κs = search needs
 
-enum-known-e-5 : tie.Need-enum-known-e-5
-enum-known-e-5 c = search needs
+enum-known-entry-5 : tie.Need-enum-known-entry-5
+enum-known-entry-5 c = search needs
 
 one-requires-2 : tie.Need-one-requires-2
 one-requires-2 c κs = search needs
@@ -43,8 +43,8 @@ one-requires-2 c κs = search needs
 sight-by-requires-5 : tie.Need-sight-by-requires-5
 sight-by-requires-5 c κs = search needs
 
-enum-known-e-6 : tie.Need-enum-known-e-6
-enum-known-e-6 c = search needs
+enum-known-entry-6 : tie.Need-enum-known-entry-6
+enum-known-entry-6 c = search needs
 
 seven-requires : tie.Need-seven-requires
 seven-requires c κs = search needs
@@ -104,20 +104,20 @@ pub sight-of-spec : {M : Type 1} → statement M
 sight-of-spec =
     tie.close
     (tie.spec
-    enum-known-e
+    enum-known-entry
     sight-by-requires
-    enum-known-e-2
+    enum-known-entry-2
     one-requires
     sight-by-requires-2
-    enum-known-e-3
+    enum-known-entry-3
     either-requires
     sight-by-requires-3
-    enum-known-e-4
+    enum-known-entry-4
     sight-by-requires-4
-    enum-known-e-5
+    enum-known-entry-5
     one-requires-2
     sight-by-requires-5
-    enum-known-e-6
+    enum-known-entry-6
     seven-requires
     sight-by-requires-6
     enum-told

@@ -4,8 +4,8 @@ use borrow.Author.Needs.{needs}
 use Rattle.inspector.proofs.symbol.is_jumpdest.Statement.{statement}
 use Rattle.inspector.proofs.symbol.is_jumpdest.Tie as tie
 
-enum-known-x : tie.Need-enum-known-x
-enum-known-x c = search needs
+enum-known-symbol : tie.Need-enum-known-symbol
+enum-known-symbol c = search needs
 
 enum-told : tie.Need-enum-told
 enum-told c = search needs
@@ -31,4 +31,4 @@ returns-4 c = search needs
 pub is-jumpdest-spec : {M : Type 1} → statement M
 is-jumpdest-spec =
     tie.close
-    (tie.spec enum-known-x enum-told enum-told-2 enum-told-3 returns returns-2 returns-3 returns-4)
+    (tie.spec enum-known-symbol enum-told enum-told-2 enum-told-3 returns returns-2 returns-3 returns-4)

@@ -4,8 +4,8 @@ use borrow.Author.Needs.{needs}
 use Rattle.inspector.proofs.symbol.looked.Statement.{statement}
 use Rattle.inspector.proofs.symbol.looked.Tie as tie
 
-enum-known-x : tie.Need-enum-known-x
-enum-known-x c = search needs
+enum-known-symbol : tie.Need-enum-known-symbol
+enum-known-symbol c = search needs
 
 mul-end : tie.Need-mul-end
 mul-end c = search needs
@@ -19,14 +19,14 @@ run-requires c κs = search run-asks
 symbol-at-requires : tie.Need-symbol-at-requires
 symbol-at-requires c κs = search looked-readable
 
-enum-known-x-2 : tie.Need-enum-known-x-2
-enum-known-x-2 c = search needs
+enum-known-symbol-2 : tie.Need-enum-known-symbol-2
+enum-known-symbol-2 c = search needs
 
-enum-known-x-3 : tie.Need-enum-known-x-3
-enum-known-x-3 c = search needs
+enum-known-symbol-3 : tie.Need-enum-known-symbol-3
+enum-known-symbol-3 c = search needs
 
-enum-known-x-4 : tie.Need-enum-known-x-4
-enum-known-x-4 c = search needs
+enum-known-symbol-4 : tie.Need-enum-known-symbol-4
+enum-known-symbol-4 c = search needs
 
 same-length : tie.Need-same-length
 same-length c = search needs
@@ -47,14 +47,14 @@ pub looked-spec : {M : Type 1} → statement M
 looked-spec =
     tie.close
     (tie.spec
-    enum-known-x
+    enum-known-symbol
     mul-end
     add-end
     run-requires
     symbol-at-requires
-    enum-known-x-2
-    enum-known-x-3
-    enum-known-x-4
+    enum-known-symbol-2
+    enum-known-symbol-3
+    enum-known-symbol-4
     same-length
     returns
     returns-2

@@ -21,7 +21,10 @@ loop-holds : tie.Need-loop-holds Inv-loop μ-loop
 loop-holds c = (search needs, stored-none _ _ (omega arith))
 
 loop-again : tie.Need-loop-again Inv-loop μ-loop
-loop-again c = (search needs, hex-more _ _ _ (c .before .before .before .before .before .before .loop .inv .1) (omega arith) (c .before .before .before .get8 .ensures) (c .before .before .put-digits .ensures))
+loop-again c =
+    let put = c .before .before in
+    let got = put .before in
+    (search needs, hex-more _ _ _ (got .before .before .before .loop .inv .1) (omega arith) (got .get8 .ensures) (put .put-digits .ensures))
 
 returns : tie.Need-returns Inv-loop μ-loop
 returns c = search hex-done

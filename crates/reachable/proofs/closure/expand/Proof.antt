@@ -2,15 +2,14 @@
 use Prim.Native.Nat.{_+_, _-_, _*_}
 use lib.ListN.{length}
 use borrow.Author.Needs.{needs}
-use Rattle.reachable.specs.Edges.{rowEdges}
 use Rattle.reachable.specs.Marks.{flagged}
-use Rattle.reachable.proofs.Spreading.{Spreading, turn-few, turn-going, turn-less}
-use Rattle.reachable.proofs.Expanding.{expand-start, expand-turn, expand-done}
+use Rattle.reachable.proofs.Spreading.{turn-few}
+use Rattle.reachable.proofs.Expanding.{Extending, expand-start, expand-address, expand-going, expand-within, expand-less, expand-turn, expand-done}
 use Rattle.reachable.proofs.closure.expand.Statement.{statement}
 use Rattle.reachable.proofs.closure.expand.Tie as tie
 
 abbrev Inv-loop : tie.InvT-loop
-Inv-loop w₀ n a when count₀ w count = Spreading (rowEdges w₀ n) n when w₀ w count
+Inv-loop w₀ n a when count₀ w count = Extending n when w₀ w count
 
 abbrev μ-loop : tie.MeasureT-loop
 μ-loop w₀ n a when count₀ w count = 2 * (n + 1 - length (flagged w n)) + count
@@ -21,11 +20,24 @@ loop-holds c = search expand-start
 last-requires : tie.Need-last-requires Inv-loop μ-loop
 last-requires c κs = (search needs, (search needs, search turn-few))
 
+raise-sides-requires : tie.Need-raise-sides-requires Inv-loop μ-loop
+raise-sides-requires c κs = (search expand-address, search needs)
+
 follow-requires : tie.Need-follow-requires Inv-loop μ-loop
-follow-requires c κs = (search turn-going, search needs)
+follow-requires c κs =
+    let at-raise-sides = c .before .before .before in
+    let at-last = at-raise-sides .before .before in
+    let at-loop-test = at-last .before .before in
+    let at-loop = at-loop-test .before in
+    let at-entry = at-loop .before .before .before .before .before .before .before in
+    let s = at-loop .loop .inv in
+    let more = at-loop-test .loop-test .taken in
+    let e = at-last .last .ensures in
+    let r = at-raise-sides .raise-sides .ensures in
+    (expand-going s more e r (at-entry .pre .small), expand-within s more e r)
 
 loop-less : tie.Need-loop-less Inv-loop μ-loop
-loop-less c = search turn-less
+loop-less c = search expand-less
 
 loop-again : tie.Need-loop-again Inv-loop μ-loop
 loop-again c = search expand-turn
@@ -42,6 +54,7 @@ expand-spec =
     (λ c κs. search needs)
     loop-holds
     last-requires
+    raise-sides-requires
     (λ c. search needs)
     follow-requires
     loop-less

@@ -1,18 +1,15 @@
 -- `follow_from`: what waits is followed, until nothing waits, as `expand` does. Assumes nothing.
-use mathlib.Core.List.{_++_}
 use Prim.Native.Nat.{_+_, _-_, _*_}
 use lib.ListN.{length}
 use borrow.Author.Needs.{needs}
-use Rattle.reachable.specs.Links.{edgesAt}
-use Rattle.reachable.specs.Edges.{rowEdges}
 use Rattle.reachable.specs.Marks.{flagged}
-use Rattle.reachable.proofs.Pruned.{prune-start, prune-going, prune-turn, prune-done}
-use Rattle.reachable.proofs.Spreading.{Spreading, turn-few, turn-less}
+use Rattle.reachable.proofs.Pruned.{Going-on, prune-start, prune-going, prune-turn, prune-done}
+use Rattle.reachable.proofs.Spreading.{turn-few, turn-less}
 use Rattle.reachable.proofs.pruning.follow_from.Statement.{statement}
 use Rattle.reachable.proofs.pruning.follow_from.Tie as tie
 
 abbrev Inv-loop : tie.InvT-loop
-Inv-loop w₀ n r m count₀ w count = Spreading (rowEdges w₀ n ++ edgesAt r m) n 1 w₀ w count
+Inv-loop w₀ n r m count₀ w count = Going-on n m r w₀ w count
 
 abbrev μ-loop : tie.MeasureT-loop
 μ-loop w₀ n r m count₀ w count = 2 * (n + 1 - length (flagged w n)) + count

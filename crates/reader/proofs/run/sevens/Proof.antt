@@ -17,8 +17,8 @@ abbrev μ-loop : tie.MeasureT-loop
 loop-holds : tie.Need-loop-holds Inv-loop μ-loop
 loop-holds c = search count-none
 
-add-n : tie.Need-add-n Inv-loop μ-loop
-add-n c = search count-fits
+add-count : tie.Need-add-count Inv-loop μ-loop
+add-count c = search count-fits
 
 add-to : tie.Need-add-to Inv-loop μ-loop
 add-to c = search sum-6
@@ -50,7 +50,7 @@ sevens-spec =
     (λ c. search needs)
     (λ c κs. search needs)
     (λ c. search needs)
-    add-n
+    add-count
     add-to
     add-to-2
     loop-less

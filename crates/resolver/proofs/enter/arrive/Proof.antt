@@ -1,53 +1,36 @@
 -- `arrive`: the symbol says whether a level opens or the path ends. Assumes nothing.
-use Rattle.resolver.proofs.PathEnds.{arrived-before, arrived-jumpdest, arrived-constant, arrived-other, arriving-lands, arriving-nowhere}
 use borrow.Author.Needs.{needs}
+use Rattle.resolver.proofs.PathEnds.{arrived-before, arrived-ended, arriving-lands}
 use Rattle.resolver.proofs.enter.arrive.Statement.{statement}
 use Rattle.resolver.proofs.enter.arrive.Tie as tie
 
-land-requires : tie.Need-land-requires
-land-requires c κs = search arriving-lands
+-- The moments that the answers cite, from later ones: a far one is found by its type.
+abbrev to-entry : tie.At-match-keys2 → tie.Start
+to-entry c = search
 
-land-requires-2 : tie.Need-land-requires-2
-land-requires-2 c κs = search arriving-nowhere
+abbrev to-match : tie.After-entry-of → tie.At-match-keys2
+to-match c = c .before .before
 
-land-requires-3 : tie.Need-land-requires-3
-land-requires-3 c κs = search arriving-nowhere
+abbrev to-entry-of : tie.After-land-arg4 → tie.After-entry-of
+to-entry-of c = c .before .before .before .before
+
+abbrev to-land : tie.After-ended → tie.After-land
+to-land c = search
 
 returns : tie.Need-returns
 returns c = search arrived-before
 
+land-requires : tie.Need-land-requires
+land-requires c κs =
+    let at-entry-of = to-entry-of c in
+    arriving-lands (to-entry (to-match at-entry-of) .pre) (at-entry-of .entry-of .ensures)
+
 returns-2 : tie.Need-returns-2
 returns-2 c =
-    let at-entry = c .before .before .before .before .before .before .before .before .before .before .before .before .before .before .before .before .before .before .before .before .before .before .before .pre in
-    let noted = c .before .before .before .before .before .before .before .before .before .land .ensures in
-    let told = c .ended .ensures in
-    let near-1 = c .before .before .before .before .before .before .before .before .before .before .before .before .before .before in
-    let near-2 = c .before .before .before .before .before .before .before .before .before .before .before .before .before .before .before in
-    let near-3 = c .before .before .before .before .before .before .before .before .before .before .before .before .before .before .before .before in
-    let near-4 = c .before .before .before .before .before .before .before .before .before .before .before .before .before .before .before .before .before in
-    search arrived-jumpdest
-
-returns-3 : tie.Need-returns-3
-returns-3 c =
-    let nowhere = c .before .before .before .before .before .before .before .before .before .before .no-entry .ensures in
-    let noted = c .before .before .before .before .before .before .before .before .before .land2 .ensures in
-    let told = c .ended2 .ensures in
-    let near-1 = c .before .before .before .before .before .before .before .before .before .before .before .before .before .before .before in
-    let near-2 = c .before .before .before .before .before .before .before .before .before .before .before .before .before .before .before .before in
-    let near-3 = c .before .before .before .before .before .before .before .before .before .before .before .before .before .before .before .before .before in
-    let near-4 = c .before .before .before .before .before .before .before .before .before .before .before .before .before .before .before .before .before .before in
-    search arrived-constant
-
-returns-4 : tie.Need-returns-4
-returns-4 c =
-    let nowhere = c .before .before .before .before .before .before .before .before .before .before .no-entry2 .ensures in
-    let noted = c .before .before .before .before .before .before .before .before .before .land3 .ensures in
-    let told = c .ended3 .ensures in
-    let near-1 = c .before .before .before .before .before .before .before .before .before .before .before .before .before .before .before in
-    let near-2 = c .before .before .before .before .before .before .before .before .before .before .before .before .before .before .before .before in
-    let near-3 = c .before .before .before .before .before .before .before .before .before .before .before .before .before .before .before .before .before in
-    let near-4 = c .before .before .before .before .before .before .before .before .before .before .before .before .before .before .before .before .before .before in
-    search arrived-other
+    let at-land = to-land c in
+    let at-entry-of = to-entry-of (at-land .before) in
+    let at-match = to-match at-entry-of in
+    arrived-ended (to-entry at-match .pre) (at-match .match .keys2) (at-entry-of .entry-of .ensures) (at-land .land .ensures) (c .ended .ensures)
 
 pub arrive-spec : {M : Type 1} → statement M
 arrive-spec =
@@ -55,30 +38,12 @@ arrive-spec =
     (tie.spec
     (λ c. search needs)
     (λ c κs. search needs)
-    (λ c. search needs)
+    returns
+    (λ c κs. search needs)
     land-requires
     (λ c κs. search needs)
     (λ c. search needs)
-    (λ c κs. search needs)
-    land-requires-2
-    (λ c κs. search needs)
-    (λ c. search needs)
-    (λ c κs. search needs)
-    land-requires-3
-    (λ c κs. search needs)
-    returns
     (λ c. search needs)
     (λ c. search needs)
     (λ c. search needs)
-    (λ c. search needs)
-    returns-2
-    (λ c. search needs)
-    (λ c. search needs)
-    (λ c. search needs)
-    (λ c. search needs)
-    returns-3
-    (λ c. search needs)
-    (λ c. search needs)
-    (λ c. search needs)
-    (λ c. search needs)
-    returns-4)
+    returns-2)

@@ -1,9 +1,10 @@
 -- `round`: the blocks that are left of those that take turns, in the loop; their links rise. Assumes nothing.
+mod RoundLoop
 use mathlib.Core.Path.{refl, _∙_}
 use native.Mathlib.Omega.{arith}
 use borrow.Author.Needs.{needs}
 use Rattle.layout.specs.Buffers.{buffers}
-use Rattle.resolver.proofs.RoundLoop.{Going, linksLeft, round-begins, round-row, round-address, round-turns, round-less, round-skips, round-over, round-refused, round-goes-on, round-done}
+use RoundLoop.{Going, linksLeft, round-begins, round-row, round-address, round-turns, round-less, round-skips, round-over, round-refused, round-goes-on, round-done}
 use Rattle.resolver.proofs.round.round.Statement.{statement}
 use Rattle.resolver.proofs.round.round.Tie as tie
 
@@ -14,134 +15,149 @@ Inv-loop code w₀ p₀ s₀ t₀ r₀ q₀ k by link₀ cur₀ w p s t r q link
 abbrev μ-loop : tie.MeasureT-loop
 μ-loop code w₀ p₀ s₀ t₀ r₀ q₀ k by link₀ cur₀ w p s t r q link cur = linksLeft (k .n) link
 
+-- The moments that the answers cite, from later ones: a far one is found by its type.
+abbrev to-entry : tie.After-struct-known Inv-loop μ-loop → tie.Start Inv-loop μ-loop
+to-entry c = search
+
+abbrev to-loop-test : tie.After-next-taker Inv-loop μ-loop → tie.In-loop Inv-loop μ-loop
+to-loop-test c = c .before .before
+
+abbrev to-loop-test-from-then2 : tie.Then2 Inv-loop μ-loop → tie.In-loop Inv-loop μ-loop
+to-loop-test-from-then2 c = search
+
+abbrev to-next-taker : tie.After-is-marked Inv-loop μ-loop → tie.After-next-taker Inv-loop μ-loop
+to-next-taker c = c .before .before
+
+abbrev to-next-taker-from-else2 : tie.Else2 Inv-loop μ-loop → tie.After-next-taker Inv-loop μ-loop
+to-next-taker-from-else2 c = search
+
+abbrev to-next-taker-from-turn : tie.After-turn Inv-loop μ-loop → tie.After-next-taker Inv-loop μ-loop
+to-next-taker-from-turn c = search
+
+abbrev to-loop : tie.After-turn Inv-loop μ-loop → tie.At-loop Inv-loop μ-loop
+to-loop c = to-loop-test (to-next-taker-from-turn c) .before
+
+abbrev to-if1 : tie.Then2 Inv-loop μ-loop → tie.Then1 Inv-loop μ-loop
+to-if1 c = c .before .before .before
+
+abbrev to-if2 : tie.After-turn-arg6 Inv-loop μ-loop → tie.Then2 Inv-loop μ-loop
+to-if2 c = search
+
+abbrev to-turn : tie.After-struct-known4 Inv-loop μ-loop → tie.After-turn Inv-loop μ-loop
+to-turn c = search
+
 add-by : tie.Need-add-by Inv-loop μ-loop
 add-by c =
-    let at-entry = c .before .before .before .before .before .before .before .before .before in
-    let w = at-entry .pre .idle .tables .within in omega (arith, w .fitsR, w .mostR)
+    let w = to-entry c .pre .idle .tables .within in omega (arith, w .fitsR, w .mostR)
 
 loop-holds : tie.Need-loop-holds Inv-loop μ-loop
-loop-holds c =
-    let at-entry = c .before .before .before .before .before .before .before .before .before in
-    round-begins (at-entry .pre) refl
+loop-holds c = round-begins (to-entry c .pre) refl
 
 next-taker-requires : tie.Need-next-taker-requires Inv-loop μ-loop
 next-taker-requires c κs =
-    let at-loop = c .before .before in
-    let at-entry = at-loop .before .before .before .before .before .before .before .before .before .before in
-    round-row (at-loop .loop .inv) (c .before .loop-test .taken) (at-entry .pre)
+    let at-loop-test = c .before in
+    let at-loop = at-loop-test .before in
+    round-row (at-loop .loop .inv) (at-loop-test .loop-test .taken) (to-entry (at-loop .before) .pre)
 
 is-marked-requires : tie.Need-is-marked-requires Inv-loop μ-loop
 is-marked-requires c κs =
-    let at-loop-test = c .before .before .before in
+    let at-loop-test = to-loop-test (c .before) in
     let at-loop = at-loop-test .before in
-    let at-entry = at-loop .before .before .before .before .before .before .before .before .before .before in
-    round-address (at-loop .loop .inv) (at-loop-test .loop-test .taken) (at-entry .pre)
+    round-address (at-loop .loop .inv) (at-loop-test .loop-test .taken) (to-entry (at-loop .before) .pre)
 
 turn-requires : tie.Need-turn-requires Inv-loop μ-loop
 turn-requires c κs =
-    let at-if2 = c .before .before .before .before .before .before in
-    let at-loop-test = at-if2 .before .before .before .before .before .before .before .before in
+    let at-if2 = to-if2 c in
+    let at-loop-test = to-loop-test-from-then2 at-if2 in
     let at-loop = at-loop-test .before in
-    let at-entry = at-loop .before .before .before .before .before .before .before .before .before .before in
-    round-turns (at-loop .loop .inv) (at-loop-test .loop-test .taken) (at-entry .pre) (at-if2 .if2 .taken)
+    round-turns (at-loop .loop .inv) (at-loop-test .loop-test .taken) (to-entry (at-loop .before) .pre) (at-if2 .if2 .taken)
 
 same-length : tie.Need-same-length Inv-loop μ-loop
 same-length c =
-    let at-turn = c .before .before .before .before .before .before .before .before .before .before .before .before .before .before in
-    let at-loop = at-turn .before .before .before .before .before .before .before .before .before .before .before .before .before .before .before .before in
-    at-turn .turn .kept .1 .0 ∙ at-loop .loop .inv .long .w
+    let at-turn = to-turn (c .before) in
+    at-turn .turn .kept .1 .0 ∙ to-loop at-turn .loop .inv .long .w
 
 same-length-2 : tie.Need-same-length-2 Inv-loop μ-loop
 same-length-2 c =
-    let at-turn = c .before .before .before .before .before .before .before .before .before .before .before .before .before .before in
-    let at-loop = at-turn .before .before .before .before .before .before .before .before .before .before .before .before .before .before .before .before in
-    at-turn .turn .kept .1 .1 .0 ∙ at-loop .loop .inv .long .p
+    let at-turn = to-turn (c .before) in
+    at-turn .turn .kept .1 .1 .0 ∙ to-loop at-turn .loop .inv .long .p
 
 same-length-3 : tie.Need-same-length-3 Inv-loop μ-loop
 same-length-3 c =
-    let at-turn = c .before .before .before .before .before .before .before .before .before .before .before .before .before .before in
-    let at-loop = at-turn .before .before .before .before .before .before .before .before .before .before .before .before .before .before .before .before in
-    at-turn .turn .kept .1 .1 .1 .0 ∙ at-loop .loop .inv .long .s
+    let at-turn = to-turn (c .before) in
+    at-turn .turn .kept .1 .1 .1 .0 ∙ to-loop at-turn .loop .inv .long .s
 
 same-length-4 : tie.Need-same-length-4 Inv-loop μ-loop
 same-length-4 c =
-    let at-turn = c .before .before .before .before .before .before .before .before .before .before .before .before .before .before in
-    let at-loop = at-turn .before .before .before .before .before .before .before .before .before .before .before .before .before .before .before .before in
-    at-turn .turn .kept .1 .1 .1 .1 .0 ∙ at-loop .loop .inv .long .t
+    let at-turn = to-turn (c .before) in
+    at-turn .turn .kept .1 .1 .1 .1 .0 ∙ to-loop at-turn .loop .inv .long .t
 
 same-length-5 : tie.Need-same-length-5 Inv-loop μ-loop
 same-length-5 c =
-    let at-turn = c .before .before .before .before .before .before .before .before .before .before .before .before .before .before in
-    let at-loop = at-turn .before .before .before .before .before .before .before .before .before .before .before .before .before .before .before .before in
-    at-turn .turn .kept .1 .1 .1 .1 .1 .0 ∙ at-loop .loop .inv .long .r
+    let at-turn = to-turn (c .before) in
+    at-turn .turn .kept .1 .1 .1 .1 .1 .0 ∙ to-loop at-turn .loop .inv .long .r
 
 same-length-6 : tie.Need-same-length-6 Inv-loop μ-loop
 same-length-6 c =
-    let at-turn = c .before .before .before .before .before .before .before .before .before .before .before .before .before .before in
-    let at-loop = at-turn .before .before .before .before .before .before .before .before .before .before .before .before .before .before .before .before in
-    at-turn .turn .kept .1 .1 .1 .1 .1 .1 .0 ∙ at-loop .loop .inv .long .q
+    let at-turn = to-turn (c .before) in
+    at-turn .turn .kept .1 .1 .1 .1 .1 .1 .0 ∙ to-loop at-turn .loop .inv .long .q
 
 returns : tie.Need-returns Inv-loop μ-loop
 returns c =
-    let at-turn = c .before .before .before .before .before .before .before .before .before .before .before .before .before .before in
-    let at-if2 = at-turn .before .before .before .before .before .before .before in
-    let at-if1 = at-if2 .before .before .before in
+    let at-turn = to-turn (c .before) in
+    let at-if2 = to-if2 (at-turn .before) in
+    let at-if1 = to-if1 at-if2 in
     let at-is-marked = at-if1 .before in
-    let at-loop-test = at-is-marked .before .before .before .before in
-    let at-loop = at-loop-test .before in
-    round-refused (at-loop .loop .inv) (at-loop-test .loop-test .taken) (at-is-marked .is-marked .ensures) (at-if1 .if1 .taken) (at-if2 .if2 .taken) (at-turn .turn .ensures) (c .if3 .taken)
+    let at-loop-test = to-loop-test (to-next-taker at-is-marked) in
+    round-refused (at-loop-test .before .loop .inv) (at-loop-test .loop-test .taken) (at-is-marked .is-marked .ensures) (at-if1 .if1 .taken) (at-if2 .if2 .taken) (at-turn .turn .ensures) (c .if3 .taken)
 
 loop-less : tie.Need-loop-less Inv-loop μ-loop
 loop-less c =
-    let at-next-taker = c .before .before .before .before .before .before .before .before .before .before .before .before .before .before .before .before .before .before .before .before .before .before .before .before .before .before .before in
-    let at-loop-test = at-next-taker .before .before in
+    let at-next-taker = to-next-taker-from-turn (to-turn (c .before)) in
+    let at-loop-test = to-loop-test at-next-taker in
     let at-loop = at-loop-test .before in
-    let at-entry = at-loop .before .before .before .before .before .before .before .before .before .before in
-    round-less (at-loop .loop .inv) (at-loop-test .loop-test .taken) (at-entry .pre) (at-next-taker .next-taker .ensures)
+    round-less (at-loop .loop .inv) (at-loop-test .loop-test .taken) (to-entry (at-loop .before) .pre) (at-next-taker .next-taker .ensures)
 
 loop-again : tie.Need-loop-again Inv-loop μ-loop
 loop-again c =
-    let at-turn = c .before .before .before .before .before .before .before .before .before .before .before .before .before .before in
-    let at-if2 = at-turn .before .before .before .before .before .before .before in
-    let at-if1 = at-if2 .before .before .before in
+    let at-turn = to-turn (c .before) in
+    let at-if2 = to-if2 (at-turn .before) in
+    let at-if1 = to-if1 at-if2 in
     let at-is-marked = at-if1 .before in
-    let at-next-taker = at-is-marked .before .before in
-    let at-loop-test = at-next-taker .before .before in
+    let at-next-taker = to-next-taker at-is-marked in
+    let at-loop-test = to-loop-test at-next-taker in
     let at-loop = at-loop-test .before in
-    let at-entry = at-loop .before .before .before .before .before .before .before .before .before .before in
     let kept = at-turn .turn .kept in
-    round-goes-on (at-loop .loop .inv) (at-loop-test .loop-test .taken) (at-is-marked .is-marked .ensures) (at-if1 .if1 .taken) (at-if2 .if2 .taken) (at-turn .turn .ensures) (c .if3 .left) (at-entry .pre) (at-next-taker .next-taker .ensures)
+    round-goes-on (at-loop .loop .inv) (at-loop-test .loop-test .taken) (at-is-marked .is-marked .ensures) (at-if1 .if1 .taken) (at-if2 .if2 .taken) (at-turn .turn .ensures) (c .if3 .left) (to-entry (at-loop .before) .pre) (at-next-taker .next-taker .ensures)
     (record { w = kept .1 .0; p = kept .1 .1 .0; s = kept .1 .1 .1 .0; t = kept .1 .1 .1 .1 .0; r = kept .1 .1 .1 .1 .1 .0; q = kept .1 .1 .1 .1 .1 .1 .0 })
 
 loop-less-2 : tie.Need-loop-less-2 Inv-loop μ-loop
 loop-less-2 c =
-    let at-next-taker = c .before .before .before .before .before .before in
-    let at-loop-test = at-next-taker .before .before in
+    let at-next-taker = to-next-taker-from-else2 c in
+    let at-loop-test = to-loop-test at-next-taker in
     let at-loop = at-loop-test .before in
-    let at-entry = at-loop .before .before .before .before .before .before .before .before .before .before in
-    round-less (at-loop .loop .inv) (at-loop-test .loop-test .taken) (at-entry .pre) (at-next-taker .next-taker .ensures)
+    round-less (at-loop .loop .inv) (at-loop-test .loop-test .taken) (to-entry (at-loop .before) .pre) (at-next-taker .next-taker .ensures)
 
 loop-again-2 : tie.Need-loop-again-2 Inv-loop μ-loop
 loop-again-2 c =
-    let at-next-taker = c .before .before .before .before .before .before in
-    let at-loop-test = at-next-taker .before .before in
+    let at-next-taker = to-next-taker-from-else2 c in
+    let at-loop-test = to-loop-test at-next-taker in
     let at-loop = at-loop-test .before in
     round-over (at-loop .loop .inv) (at-loop-test .loop-test .taken) (at-next-taker .next-taker .ensures) (omega (arith, c .if2 .left))
 
 loop-less-3 : tie.Need-loop-less-3 Inv-loop μ-loop
 loop-less-3 c =
-    let at-next-taker = c .before .before .before in
-    let at-loop-test = at-next-taker .before .before in
+    let at-next-taker = to-next-taker (c .before) in
+    let at-loop-test = to-loop-test at-next-taker in
     let at-loop = at-loop-test .before in
-    let at-entry = at-loop .before .before .before .before .before .before .before .before .before .before in
-    round-less (at-loop .loop .inv) (at-loop-test .loop-test .taken) (at-entry .pre) (at-next-taker .next-taker .ensures)
+    round-less (at-loop .loop .inv) (at-loop-test .loop-test .taken) (to-entry (at-loop .before) .pre) (at-next-taker .next-taker .ensures)
 
 loop-again-3 : tie.Need-loop-again-3 Inv-loop μ-loop
 loop-again-3 c =
-    let at-next-taker = c .before .before .before in
-    let at-loop-test = at-next-taker .before .before in
-    let at-loop = at-loop-test .before in
-    round-skips (at-loop .loop .inv) (at-loop-test .loop-test .taken) (at-next-taker .next-taker .ensures) (c .before .is-marked .ensures) (c .if1 .left)
+    let at-is-marked = c .before in
+    let at-next-taker = to-next-taker at-is-marked in
+    let at-loop-test = to-loop-test at-next-taker in
+    round-skips (at-loop-test .before .loop .inv) (at-loop-test .loop-test .taken) (at-next-taker .next-taker .ensures) (at-is-marked .is-marked .ensures) (c .if1 .left)
 
 same-length-7 : tie.Need-same-length-7 Inv-loop μ-loop
 same-length-7 c = c .before .loop .inv .long .w

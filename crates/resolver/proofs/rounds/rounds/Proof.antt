@@ -20,107 +20,122 @@ loop-holds c = search roll-start
 returns : tie.Need-returns Inv-loop μ-loop
 returns c = search roll-limit
 
-settle-requires : tie.Need-settle-requires Inv-loop μ-loop
-settle-requires c κs = search roll-settles
+hand-all-requires : tie.Need-hand-all-requires Inv-loop μ-loop
+hand-all-requires c κs = search roll-settles
 
 round-requires : tie.Need-round-requires Inv-loop μ-loop
 round-requires c κs = search roll-asks
 
+-- The moments that the answers cite, from later ones: a far one is found by its type.
+abbrev to-loop : tie.After-hand-all Inv-loop μ-loop → tie.At-loop Inv-loop μ-loop
+to-loop c = search
+
+abbrev to-loop-test : tie.Else1 Inv-loop μ-loop → tie.In-loop Inv-loop μ-loop
+to-loop-test c = c .before .before .before
+
+abbrev to-if1 : tie.After-hand-all Inv-loop μ-loop → tie.Else1 Inv-loop μ-loop
+to-if1 c = c .before .before .before .before
+
+abbrev to-hand-all : tie.After-round Inv-loop μ-loop → tie.After-hand-all Inv-loop μ-loop
+to-hand-all c = search
+
+abbrev to-round : tie.After-struct-known3 Inv-loop μ-loop → tie.After-round Inv-loop μ-loop
+to-round c = search
+
+abbrev to-if2 : tie.After-struct-known4 Inv-loop μ-loop → tie.Else2 Inv-loop μ-loop
+to-if2 c = c .before .before
+
 same-length-7 : tie.Need-same-length-7 Inv-loop μ-loop
 same-length-7 c =
-    let at-round = c .before .before .before .before .before .before .before .before .before .before .before .before .before .before in
-    let at-settle = at-round .before .before .before .before .before .before .before .before .before in
-    let at-loop = at-settle .before .before .before .before .before .before .before .before in
-    at-round .round .kept .1 .0 ∙ at-settle .settle .kept .0 ∙ at-loop .loop .inv .long .w
+    let at-round = to-round (c .before) in
+    let at-hand-all = to-hand-all at-round in
+    at-round .round .kept .1 .0 ∙ at-hand-all .hand-all .kept .0 ∙ to-loop at-hand-all .loop .inv .long .w
 
 same-length-8 : tie.Need-same-length-8 Inv-loop μ-loop
 same-length-8 c =
-    let at-round = c .before .before .before .before .before .before .before .before .before .before .before .before .before .before in
-    let at-loop = at-round .before .before .before .before .before .before .before .before .before .before .before .before .before .before .before .before .before in
-    at-round .round .kept .1 .1 .0 ∙ at-loop .loop .inv .long .p
+    let at-round = to-round (c .before) in
+    at-round .round .kept .1 .1 .0 ∙ to-loop (to-hand-all at-round) .loop .inv .long .p
 
 same-length-9 : tie.Need-same-length-9 Inv-loop μ-loop
 same-length-9 c =
-    let at-round = c .before .before .before .before .before .before .before .before .before .before .before .before .before .before in
-    let at-loop = at-round .before .before .before .before .before .before .before .before .before .before .before .before .before .before .before .before .before in
-    at-round .round .kept .1 .1 .1 .0 ∙ at-loop .loop .inv .long .s
+    let at-round = to-round (c .before) in
+    at-round .round .kept .1 .1 .1 .0 ∙ to-loop (to-hand-all at-round) .loop .inv .long .s
 
 same-length-10 : tie.Need-same-length-10 Inv-loop μ-loop
 same-length-10 c =
-    let at-round = c .before .before .before .before .before .before .before .before .before .before .before .before .before .before in
-    let at-loop = at-round .before .before .before .before .before .before .before .before .before .before .before .before .before .before .before .before .before in
-    at-round .round .kept .1 .1 .1 .1 .0 ∙ at-loop .loop .inv .long .t
+    let at-round = to-round (c .before) in
+    at-round .round .kept .1 .1 .1 .1 .0 ∙ to-loop (to-hand-all at-round) .loop .inv .long .t
 
 same-length-11 : tie.Need-same-length-11 Inv-loop μ-loop
 same-length-11 c =
-    let at-round = c .before .before .before .before .before .before .before .before .before .before .before .before .before .before in
-    let at-loop = at-round .before .before .before .before .before .before .before .before .before .before .before .before .before .before .before .before .before in
-    at-round .round .kept .1 .1 .1 .1 .1 .0 ∙ at-loop .loop .inv .long .r
+    let at-round = to-round (c .before) in
+    at-round .round .kept .1 .1 .1 .1 .1 .0 ∙ to-loop (to-hand-all at-round) .loop .inv .long .r
 
 same-length-12 : tie.Need-same-length-12 Inv-loop μ-loop
 same-length-12 c =
-    let at-round = c .before .before .before .before .before .before .before .before .before .before .before .before .before .before in
-    let at-loop = at-round .before .before .before .before .before .before .before .before .before .before .before .before .before .before .before .before .before in
-    at-round .round .kept .1 .1 .1 .1 .1 .1 .0 ∙ at-loop .loop .inv .long .q
+    let at-round = to-round (c .before) in
+    at-round .round .kept .1 .1 .1 .1 .1 .1 .0 ∙ to-loop (to-hand-all at-round) .loop .inv .long .q
 
 returns-2 : tie.Need-returns-2 Inv-loop μ-loop
 returns-2 c =
-    let at-round = c .before .before .before .before .before .before .before .before .before .before .before .before .before .before in
-    let at-settle = at-round .before .before .before .before .before .before .before .before .before in
-    let at-if1 = at-settle .before .before .before .before in
-    let at-loop-test = at-if1 .before .before .before in
-    let at-loop = at-loop-test .before in
-    roll-short (at-loop .loop .inv) (at-settle .settle .ensures) (at-loop-test .loop-test .taken) (at-if1 .if1 .left) (at-round .round .ensures) (c .if2 .taken)
+    let at-round = to-round (c .before) in
+    let at-hand-all = to-hand-all at-round in
+    let at-if1 = to-if1 at-hand-all in
+    let at-loop-test = to-loop-test at-if1 in
+    roll-short (at-loop-test .before .loop .inv) (at-hand-all .hand-all .ensures) (at-loop-test .loop-test .taken) (at-if1 .if1 .left) (at-round .round .ensures) (c .if2 .taken)
 
 same-length-13 : tie.Need-same-length-13 Inv-loop μ-loop
 same-length-13 c =
-    let at-round = c .before .before .before .before .before .before .before .before .before .before .before .before .before .before .before .before .before in
-    let at-settle = at-round .before .before .before .before .before .before .before .before .before in
-    let at-loop = at-settle .before .before .before .before .before .before .before .before in
-    at-round .round .kept .1 .0 ∙ at-settle .settle .kept .0 ∙ at-loop .loop .inv .long .w
+    let at-round = to-round (to-if2 (c .before) .before) in
+    let at-hand-all = to-hand-all at-round in
+    at-round .round .kept .1 .0 ∙ at-hand-all .hand-all .kept .0 ∙ to-loop at-hand-all .loop .inv .long .w
 
 same-length-14 : tie.Need-same-length-14 Inv-loop μ-loop
 same-length-14 c =
-    let at-round = c .before .before .before .before .before .before .before .before .before .before .before .before .before .before .before .before .before in
-    let at-loop = at-round .before .before .before .before .before .before .before .before .before .before .before .before .before .before .before .before .before in
-    at-round .round .kept .1 .1 .0 ∙ at-loop .loop .inv .long .p
+    let at-round = to-round (to-if2 (c .before) .before) in
+    at-round .round .kept .1 .1 .0 ∙ to-loop (to-hand-all at-round) .loop .inv .long .p
 
 same-length-15 : tie.Need-same-length-15 Inv-loop μ-loop
 same-length-15 c =
-    let at-round = c .before .before .before .before .before .before .before .before .before .before .before .before .before .before .before .before .before in
-    let at-loop = at-round .before .before .before .before .before .before .before .before .before .before .before .before .before .before .before .before .before in
-    at-round .round .kept .1 .1 .1 .0 ∙ at-loop .loop .inv .long .s
+    let at-round = to-round (to-if2 (c .before) .before) in
+    at-round .round .kept .1 .1 .1 .0 ∙ to-loop (to-hand-all at-round) .loop .inv .long .s
 
 same-length-16 : tie.Need-same-length-16 Inv-loop μ-loop
 same-length-16 c =
-    let at-round = c .before .before .before .before .before .before .before .before .before .before .before .before .before .before .before .before .before in
-    let at-loop = at-round .before .before .before .before .before .before .before .before .before .before .before .before .before .before .before .before .before in
-    at-round .round .kept .1 .1 .1 .1 .0 ∙ at-loop .loop .inv .long .t
+    let at-round = to-round (to-if2 (c .before) .before) in
+    at-round .round .kept .1 .1 .1 .1 .0 ∙ to-loop (to-hand-all at-round) .loop .inv .long .t
 
 same-length-17 : tie.Need-same-length-17 Inv-loop μ-loop
 same-length-17 c =
-    let at-round = c .before .before .before .before .before .before .before .before .before .before .before .before .before .before .before .before .before in
-    let at-loop = at-round .before .before .before .before .before .before .before .before .before .before .before .before .before .before .before .before .before in
-    at-round .round .kept .1 .1 .1 .1 .1 .0 ∙ at-loop .loop .inv .long .r
+    let at-round = to-round (to-if2 (c .before) .before) in
+    at-round .round .kept .1 .1 .1 .1 .1 .0 ∙ to-loop (to-hand-all at-round) .loop .inv .long .r
 
 same-length-18 : tie.Need-same-length-18 Inv-loop μ-loop
 same-length-18 c =
-    let at-round = c .before .before .before .before .before .before .before .before .before .before .before .before .before .before .before .before .before in
-    let at-loop = at-round .before .before .before .before .before .before .before .before .before .before .before .before .before .before .before .before .before in
-    at-round .round .kept .1 .1 .1 .1 .1 .1 .0 ∙ at-loop .loop .inv .long .q
+    let at-round = to-round (to-if2 (c .before) .before) in
+    at-round .round .kept .1 .1 .1 .1 .1 .1 .0 ∙ to-loop (to-hand-all at-round) .loop .inv .long .q
 
 returns-3 : tie.Need-returns-3 Inv-loop μ-loop
-returns-3 c = roll-last (c .before .before .before .before .before .before .before .before .before .before .before .before .before .before .before .before .before .before .before .before .before .before .before .before .before .before .before .before .before .before .before .before .before .before .loop .inv) (c .before .before .before .before .before .before .before .before .before .before .before .before .before .before .before .before .before .before .before .before .before .before .before .before .before .before .settle .ensures) (c .before .before .before .before .before .before .before .before .before .before .before .before .before .before .before .before .before .before .before .before .before .before .before .before .before .before .before .before .before .before .before .before .before .loop-test .taken) (c .before .before .before .before .before .before .before .before .before .before .before .before .before .before .before .before .before .before .before .before .before .before .before .before .before .before .before .before .before .before .if1 .left) (c .before .before .before .before .before .before .before .before .before .before .before .before .before .before .before .before .before .round .ensures) (search needs) (c .if3 .taken)
+returns-3 c =
+    let at-if2 = to-if2 (c .before) in
+    let at-round = to-round (at-if2 .before) in
+    let at-hand-all = to-hand-all at-round in
+    let at-if1 = to-if1 at-hand-all in
+    let at-loop-test = to-loop-test at-if1 in
+    roll-last (at-loop-test .before .loop .inv) (at-hand-all .hand-all .ensures) (at-loop-test .loop-test .taken) (at-if1 .if1 .left) (at-round .round .ensures) (at-if2 .if2 .left) (c .if3 .taken)
 
 loop-less : tie.Need-loop-less Inv-loop μ-loop
-loop-less c =
-    let at-loop-test = c .before .before .before .before .before .before .before .before .before .before .before .before .before .before .before .before .before .before .before .before .before .before .before .before .before .before .before .before .before .before .before .before .before in
-    omega (arith, at-loop-test .loop-test .taken)
+loop-less c = omega (arith, to-loop-test (to-if1 (to-hand-all (to-round (to-if2 (c .before) .before)))) .loop-test .taken)
 
 loop-again : tie.Need-loop-again Inv-loop μ-loop
 loop-again c =
-    let d = c .before .before .before .before .before .before .before .before .before .before .before .before .before .before .before .before .before .round in
-    roll-next (c .before .before .before .before .before .before .before .before .before .before .before .before .before .before .before .before .before .before .before .before .before .before .before .before .before .before .before .before .before .before .before .before .before .before .loop .inv) (c .before .before .before .before .before .before .before .before .before .before .before .before .before .before .before .before .before .before .before .before .before .before .before .before .before .before .settle .ensures) (c .before .before .before .before .before .before .before .before .before .before .before .before .before .before .before .before .before .before .before .before .before .before .before .before .before .before .before .before .before .before .before .before .before .loop-test .taken) (c .before .before .before .before .before .before .before .before .before .before .before .before .before .before .before .before .before .before .before .before .before .before .before .before .before .before .before .before .before .before .if1 .left) (c .before .before .before .before .before .before .before .before .before .before .before .before .before .before .before .before .before .round .ensures) (search needs) (c .if3 .left)
+    let at-if2 = to-if2 (c .before) in
+    let at-round = to-round (at-if2 .before) in
+    let at-hand-all = to-hand-all at-round in
+    let at-if1 = to-if1 at-hand-all in
+    let at-loop-test = to-loop-test at-if1 in
+    let d = at-round .round in
+    roll-next (at-loop-test .before .loop .inv) (at-hand-all .hand-all .ensures) (at-loop-test .loop-test .taken) (at-if1 .if1 .left) (at-round .round .ensures) (at-if2 .if2 .left) (c .if3 .left)
     (record { w = d .kept .1 .0; p = d .kept .1 .1 .0; s = d .kept .1 .1 .1 .0; t = d .kept .1 .1 .1 .1 .0; r = d .kept .1 .1 .1 .1 .1 .0; q = d .kept .1 .1 .1 .1 .1 .1 .0 })
 
 returns-4 : tie.Need-returns-4 Inv-loop μ-loop
@@ -141,7 +156,7 @@ rounds-spec =
     (λ c. search needs)
     (λ c. search needs)
     returns
-    settle-requires
+    hand-all-requires
     round-requires
     same-length-7
     same-length-8

@@ -13,11 +13,17 @@ put16-requires c κs = search place-puts
 count-requires : tie.Need-count-requires
 count-requires c κs = search place-counts
 
+-- The moments that the answers cite, from later ones: a far one is found by its type.
+abbrev to-entry : tie.After-count → tie.Start
+to-entry c = search
+
+abbrev to-count : tie.After-position-at-arg → tie.After-count
+to-count c = c .before .before .before
+
 position-at-requires : tie.Need-position-at-requires
 position-at-requires c κs =
-    let at-count = c .before .before .before in
-    let at-entry = at-count .before .before .before .before .before .before .before .before .before .before .before .before .before .before .before .before in
-    place-reads (at-entry .pre) (at-count .count .ensures)
+    let at-count = to-count c in
+    place-reads (to-entry at-count .pre) (at-count .count .ensures)
 
 returns : tie.Need-returns
 returns c = search place-done

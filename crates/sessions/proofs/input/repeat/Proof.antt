@@ -20,7 +20,10 @@ slice-read-code : tie.Need-slice-read-code Inv-loop μ-loop
 slice-read-code c = omega (arith, ltb-true)
 
 loop-again : tie.Need-loop-again Inv-loop μ-loop
-loop-again c = repeating-more (c .before .before .before .loop .inv) (c .before .before .loop-test .taken) (ltb-true _ _ (c .before .if1 .taken))
+loop-again c =
+    let tested = c .before in
+    let turned = tested .before in
+    repeating-more (turned .before .loop .inv) (turned .loop-test .taken) (ltb-true _ _ (tested .if1 .taken))
 
 returns : tie.Need-returns Inv-loop μ-loop
 returns c = repeating-full (c .before .before .loop .inv) (ltb-false _ _ (c .if1 .left))

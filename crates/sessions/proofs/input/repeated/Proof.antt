@@ -5,7 +5,9 @@ use Rattle.sessions.proofs.input.repeated.Statement.{statement}
 use Rattle.sessions.proofs.input.repeated.Tie as tie
 
 returns : tie.Need-returns
-returns c = repeated (c .before .before .before .before .before .before .bytes .ensures) (c .before .before .repeat .ensures)
+returns c =
+    let d = c .before .before in
+    repeated (d .before .before .before .before .bytes .ensures) (d .repeat .ensures)
 
 pub repeated-spec : {M : Type 1} → statement M
 repeated-spec =

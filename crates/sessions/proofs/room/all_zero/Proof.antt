@@ -17,10 +17,14 @@ loop-holds : tie.Need-loop-holds Inv-loop μ-loop
 loop-holds c = record { is = refl }
 
 returns : tie.Need-returns Inv-loop μ-loop
-returns c = looking-not (c .before .before .before .loop .inv) (c .before .before .loop-test .taken) refl (c .if1 .taken)
+returns c =
+    let turned = c .before .before in
+    looking-not (turned .before .loop .inv) (turned .loop-test .taken) refl (c .if1 .taken)
 
 loop-again : tie.Need-loop-again Inv-loop μ-loop
-loop-again c = looking-more (c .before .before .before .loop .inv) (c .before .before .loop-test .taken) refl (c .if1 .left)
+loop-again c =
+    let turned = c .before .before in
+    looking-more (turned .before .loop .inv) (turned .loop-test .taken) refl (c .if1 .left)
 
 returns-2 : tie.Need-returns-2 Inv-loop μ-loop
 returns-2 c = search looking-done

@@ -17,8 +17,9 @@ loop-holds c = summing-none _ _ _
 
 loop-again : tie.Need-loop-again Inv-loop μ-loop
 loop-again c =
-    summing-more (c .before .before .before .before .before .loop .inv) (c .before .before .before .before .loop-test .taken)
-    (ltb-true _ _ (c .before .before .before .if1 .taken)) (c .before .wide .ensures) (c .times .ensures)
+    let tested = c .before .before .before in
+    let turned = tested .before in
+    summing-more (turned .before .loop .inv) (turned .loop-test .taken) (ltb-true _ _ (tested .if1 .taken)) (c .before .wide .ensures) (c .times .ensures)
 
 returns : tie.Need-returns Inv-loop μ-loop
 returns c = summing-full (c .before .before .loop .inv) (ltb-false _ _ (c .if1 .left))

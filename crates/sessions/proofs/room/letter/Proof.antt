@@ -5,16 +5,24 @@ use Rattle.sessions.proofs.room.letter.Statement.{statement}
 use Rattle.sessions.proofs.room.letter.Tie as tie
 
 returns : tie.Need-returns
-returns c = letter-none (c .before .before .before .all-zero .ensures) (c .before .before .all-marked .ensures) (c .before .if1 .taken) (c .if2 .taken)
+returns c =
+    let d = c .before .before in
+    letter-none (d .before .all-zero .ensures) (d .all-marked .ensures) (c .before .if1 .taken) (c .if2 .taken)
 
 returns-2 : tie.Need-returns-2
-returns-2 c = letter-wiped (c .before .before .before .all-zero .ensures) (c .before .before .all-marked .ensures) (c .before .if1 .taken) (c .if2 .left)
+returns-2 c =
+    let d = c .before .before in
+    letter-wiped (d .before .all-zero .ensures) (d .all-marked .ensures) (c .before .if1 .taken) (c .if2 .left)
 
 returns-3 : tie.Need-returns-3
-returns-3 c = letter-untouched (c .before .before .before .all-zero .ensures) (c .before .before .all-marked .ensures) (c .before .if1 .left) (c .if3 .taken)
+returns-3 c =
+    let d = c .before .before in
+    letter-untouched (d .before .all-zero .ensures) (d .all-marked .ensures) (c .before .if1 .left) (c .if3 .taken)
 
 returns-4 : tie.Need-returns-4
-returns-4 c = letter-other (c .before .before .before .all-zero .ensures) (c .before .before .all-marked .ensures) (c .before .if1 .left) (c .if3 .left)
+returns-4 c =
+    let d = c .before .before in
+    letter-other (d .before .all-zero .ensures) (d .all-marked .ensures) (c .before .if1 .left) (c .if3 .left)
 
 pub letter-spec : {M : Type 1} → statement M
 letter-spec =

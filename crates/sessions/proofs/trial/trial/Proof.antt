@@ -22,6 +22,30 @@ coded c = lent c .before .before .before .before .before .before .before .before
 abbrev numbered : tie.After-slice-known16 → tie.After-numbers
 numbered c = coded c .before .before
 
+same-length : tie.Need-same-length
+same-length c = coded c .repeated .kept .1 .1 .1 .0
+
+same-length-2 : tie.Need-same-length-2
+same-length-2 c = lent c .lend .kept .1 .1 .0
+
+same-length-3 : tie.Need-same-length-3
+same-length-3 c = lent c .lend .kept .1 .1 .1 .0
+
+same-length-4 : tie.Need-same-length-4
+same-length-4 c = lent c .lend .kept .1 .1 .1 .1 .0
+
+same-length-5 : tie.Need-same-length-5
+same-length-5 c = lent c .lend .kept .1 .1 .1 .1 .1 .0
+
+same-length-6 : tie.Need-same-length-6
+same-length-6 c = lent c .lend .kept .1 .1 .1 .1 .1 .1 .0
+
+same-length-7 : tie.Need-same-length-7
+same-length-7 c = lent c .lend .kept .1 .1 .1 .1 .1 .1 .1 .0
+
+same-length-8 : tie.Need-same-length-8
+same-length-8 c = lent c .lend .kept .1 .1 .1 .1 .1 .1 .1 .1 .0
+
 returns : tie.Need-returns
 returns c =
     let d : tie.After-numbers = numbered c in
@@ -34,12 +58,12 @@ trial-spec =
     (λ c κs. search needs)
     repeated-requires
     (λ c κs. search needs)
-    (λ c. search needs)
-    (λ c. search needs)
-    (λ c. search needs)
-    (λ c. search needs)
-    (λ c. search needs)
-    (λ c. search needs)
-    (λ c. search needs)
-    (λ c. search needs)
+    same-length
+    same-length-2
+    same-length-3
+    same-length-4
+    same-length-5
+    same-length-6
+    same-length-7
+    same-length-8
     returns)

@@ -11,4 +11,4 @@ returns-2 : tie.Need-returns-2
 returns-2 c = search first-other
 
 pub first-cursor-spec : {M : Type 1} → statement M
-first-cursor-spec = tie.close (tie.spec (λ c κs. search needs) returns (λ c κs. search needs) returns-2)
+first-cursor-spec = tie.close (tie.spec (λ c κs. search needs) (λ c κs. search needs) returns (λ c κs. search needs) returns-2)

@@ -1,32 +1,54 @@
 -- `land`: there is no destination, the record is new and its destination is marked, or nothing is. Assumes nothing.
 use borrow.Author.Needs.{needs}
-use Rattle.steps.proofs.Lands.{lands-few, lands-address, landed-nowhere, landed-new, landed-old}
+use Rattle.steps.proofs.Lands.{lands-few, lands-address, raises-address, raises-within, landed-nowhere, landed-new, landed-old}
 use Rattle.steps.proofs.land.land.Statement.{statement}
 use Rattle.steps.proofs.land.land.Tie as tie
 
+-- The moments that the answers cite, from later ones: a far one is found by its type.
+abbrev to-entry : tie.After-record-entry → tie.Start
+to-entry c = search
+
+abbrev to-record-entry : tie.Else1 → tie.After-record-entry
+to-record-entry c = search
+
+abbrev to-if1 : tie.Then2 → tie.Else1
+to-if1 c = c .before .before .before .before
+
+abbrev to-if2 : tie.After-struct-known4 → tie.Then2
+to-if2 c = c .before .before
+
 add-mark : tie.Need-add-mark
 add-mark c =
-    let at-entry = c .before .before .before .before .before .before .before .before .before .before .before .before .before .before .before .before .before .before .before .before .before .before .before .before .before .before in
+    let at-entry = to-entry (to-record-entry (to-if1 (to-if2 c))) in
     let few = lands-few (at-entry .pre) in
     search needs
 
 mark-requires : tie.Need-mark-requires
 mark-requires c κs =
-    let at-if1 = c .before .before .before .before .before .before in
-    let at-record-entry = at-if1 .before .before .before .before .before .before .before .before .before .before in
-    let at-entry = at-record-entry .before .before .before .before .before .before .before .before .before .before in
-    lands-address (at-entry .pre) (at-record-entry .record-entry .ensures) (at-if1 .if1 .left)
+    let at-if1 = to-if1 (to-if2 c) in
+    let at-record-entry = to-record-entry at-if1 in
+    lands-address (to-entry at-record-entry .pre) (at-record-entry .record-entry .ensures) (at-if1 .if1 .left)
 
 returns : tie.Need-returns
 returns c = search landed-nowhere
 
+raise-sides-requires : tie.Need-raise-sides-requires
+raise-sides-requires c κs =
+    let at-mark = c .before .before .before in
+    let at-if1 = to-if1 (to-if2 (at-mark .before)) in
+    let at-record-entry = to-record-entry at-if1 in
+    let asks = to-entry at-record-entry .pre in
+    let recorded = at-record-entry .record-entry .ensures in
+    (raises-address asks recorded (at-if1 .if1 .left) (at-mark .mark .ensures), raises-within asks recorded (at-if1 .if1 .left) (at-mark .mark .ensures))
+
 returns-2 : tie.Need-returns-2
 returns-2 c =
-    let at-if2 = c .before .before .before .before .before in
-    let at-if1 = at-if2 .before .before .before .before in
-    let at-record-entry = at-if1 .before .before .before .before .before .before .before .before .before .before in
-    let at-entry = at-record-entry .before .before .before .before .before .before .before .before .before .before in
-    landed-new (at-entry .pre) (at-record-entry .record-entry .ensures) (at-if1 .if1 .left) (at-if2 .if2 .taken) (c .before .before .mark .ensures)
+    let at-raise-sides = c .before .before in
+    let at-mark = at-raise-sides .before .before .before .before in
+    let at-if2 = to-if2 (at-mark .before) in
+    let at-if1 = to-if1 at-if2 in
+    let at-record-entry = to-record-entry at-if1 in
+    landed-new (to-entry at-record-entry .pre) (at-record-entry .record-entry .ensures) (at-if1 .if1 .left) (at-if2 .if2 .taken) (at-mark .mark .ensures) (at-raise-sides .raise-sides .ensures)
 
 returns-3 : tie.Need-returns-3
 returns-3 c = search landed-old
@@ -43,6 +65,7 @@ land-spec =
     returns
     add-mark
     mark-requires
+    raise-sides-requires
     (λ c. search needs)
     (λ c. search needs)
     (λ c. search needs)

@@ -11,17 +11,27 @@ returns c = search direct-short
 returns-2 : tie.Need-returns-2
 returns-2 c = search direct-grown
 
+-- The moments that the answers cite, from later ones: a far one is found by its type.
+abbrev to-entry : tie.Else1 → tie.Start
+to-entry c = c .before .before .before .before
+
+abbrev to-if1 : tie.After-copy-arg → tie.Else1
+to-if1 c = c .before .before .before .before
+
+abbrev to-get32 : tie.After-copy-arg → tie.After-get32
+to-get32 c = c .before .before
+
 end-before-requires : tie.Need-end-before-requires
-end-before-requires c κs = omega (arith, found-row (c .before .before .before .before .pre) (c .if1 .left))
+end-before-requires c κs = omega (arith, found-row (to-entry c .pre) (c .if1 .left))
 
 mul-get32 : tie.Need-mul-get32
-mul-get32 c = let h = found-row (c .before .before .before .before .before .pre) (c .before .if1 .left) in search needs
+mul-get32 c = let h = found-row (to-entry (c .before) .pre) (c .before .if1 .left) in search needs
 
 add-get32 : tie.Need-add-get32
-add-get32 c = let h = found-row (c .before .before .before .before .before .pre) (c .before .if1 .left) in search needs
+add-get32 c = let h = found-row (to-entry (c .before) .pre) (c .before .if1 .left) in search needs
 
 get32-requires : tie.Need-get32-requires
-get32-requires c κs = omega (arith, found-row (c .before .before .before .before .before .pre) (c .before .if1 .left))
+get32-requires c κs = omega (arith, found-row (to-entry (c .before) .pre) (c .before .if1 .left))
 
 sub-len : tie.Need-sub-len
 sub-len c = search found-rises
@@ -30,7 +40,9 @@ returns-3 : tie.Need-returns-3
 returns-3 c = search found-short
 
 mul-copy-2 : tie.Need-mul-copy-2
-mul-copy-2 c = let h = found-source (c .before .before .before .before .before .before .before .before .pre) (c .before .before .before .before .if1 .left) (c .before .before .before .end-before .ensures) (c .before .before .get32 .ensures) in search needs
+mul-copy-2 c =
+    let h = found-source (to-entry (to-if1 c) .pre) (to-if1 c .if1 .left) (to-get32 c .before .end-before .ensures) (to-get32 c .get32 .ensures) in
+    search needs
 
 copy-requires : tie.Need-copy-requires
 copy-requires c κs = (search needs, search found-source)

@@ -14,21 +14,36 @@ symbol-at-requires c κs = search direct-readable
 returns : tie.Need-returns
 returns c = search direct-short
 
+-- The moments that the answers cite, from later ones: a far one is found by its type.
+abbrev to-entry : tie.After-parent-start → tie.Start
+to-entry c = search
+
+abbrev to-parent-start : tie.After-run → tie.After-parent-start
+to-parent-start c = c .before .before
+
+abbrev to-run : tie.After-struct-known4 → tie.After-run
+to-run c = search
+
+abbrev to-run-from-end : tie.After-slice-known4 → tie.After-run
+to-run-from-end c = to-run (c .before .before .before .before .before)
+
 mul-compose-own : tie.Need-mul-compose-own
 mul-compose-own c =
-    let at-entry = c .before .before .before .before .before .before .before .before .before .before .before .before .before .before .before .before .before .before .before .before .before in
-    let p = at-entry .pre .0 in omega (arith, p .low, p .fits, p .mostS)
+    let p = to-entry (to-parent-start (to-run c)) .pre .0 in omega (arith, p .low, p .fits, p .mostS)
 
 mul-compose-own-2 : tie.Need-mul-compose-own-2
 mul-compose-own-2 c =
-    let at-entry = c .before .before .before .before .before .before .before .before .before .before .before .before .before .before .before .before .before .before .before .before .before .before in
-    let p = at-entry .pre .0 in omega (arith, p .fits, p .mostS)
+    let p = to-entry (to-parent-start (to-run (c .before))) .pre .0 in omega (arith, p .fits, p .mostS)
 
 compose-own-requires : tie.Need-compose-own-requires
-compose-own-requires c κs = let p = c .before .before .before .before .before .before .before .before .before .before .before .before .before .before .before .before .before .before .before .before .before .before .before .pre in search direct-composes
+compose-own-requires c κs = let p = to-entry (to-parent-start (to-run (c .before .before))) .pre in search direct-composes
 
 returns-2 : tie.Need-returns-2
-returns-2 c = let p = c .before .before .before .before .before .before .before .before .before .before .before .before .before .before .before .before .before .before .before .before .before .before .before .before .before .before .pre in let a = c .before .before .before .before .before .before .before .before .before .before .before .before .before .before .before .before .before .before .before .before .before .parent-start .ensures in let o = c .before .before .before .before .before .before .before .before .before .before .before .before .before .before .before .before .before .before .before .run .ensures in search direct-took
+returns-2 c =
+    let p = to-entry (to-parent-start (to-run-from-end c)) .pre in
+    let a = to-parent-start (to-run-from-end c) .parent-start .ensures in
+    let o = to-run-from-end c .run .ensures in
+    search direct-took
 
 pub take-direct-spec : {M : Type 1} → statement M
 take-direct-spec =
