@@ -1,5 +1,4 @@
 pub mod Numbers
-pub mod Running
 pub mod Told
 pub mod Mapping
 pub mod Calls

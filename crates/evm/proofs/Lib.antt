@@ -5,5 +5,4 @@ pub mod Arguments
 pub mod Table
 pub mod Once
 pub mod Listed
-mod Spells
 mod Held

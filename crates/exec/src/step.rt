@@ -52,7 +52,7 @@ fn past(first: u8, op: u8) -> usize
 }
 
 // PUSH1 to PUSH4: the `count` bytes after pc, as a value.
-fn push_value(top: Top, w: &mut [u8], code: &[u8], pc: usize, count: usize) -> Top
+fn push_value(code: &[u8], w: &mut [u8], top: Top, pc: usize, count: usize) -> Top
     requires { ⌜ Pushes (now w) top (now code) pc count ⌝ }
     ensures { λ r. ⌜ Becomes (now (w .entry)) top (push (from-value (now (code .entry)) (spelt (now (code .entry)) pc count)) (stackOf (now (w .entry)) top)) (now (w .exit)) r ⌝ }
 {
@@ -61,7 +61,7 @@ fn push_value(top: Top, w: &mut [u8], code: &[u8], pc: usize, count: usize) -> T
 }
 
 // PC: the instruction's own place, as a value.
-fn push_pc(top: Top, w: &mut [u8], code: &[u8], pc: usize) -> Top
+fn push_pc(code: &[u8], w: &mut [u8], top: Top, pc: usize) -> Top
     requires { ⌜ Ready (now w) top ⌝ }
     ensures { λ r. ⌜ Becomes (now (w .entry)) top (push (from-value (now (code .entry)) pc) (stackOf (now (w .entry)) top)) (now (w .exit)) r ⌝ }
 {
@@ -79,7 +79,7 @@ fn zero(mode: Mode, code: &[u8], pc: usize) -> StackSym
 }
 
 // PUSH0: the value 0 where it is known, and Other where not.
-fn push_zero(mode: Mode, top: Top, w: &mut [u8], code: &[u8], pc: usize) -> Top
+fn push_zero(mode: Mode, code: &[u8], w: &mut [u8], top: Top, pc: usize) -> Top
     requires { ⌜ Ready (now w) top ⌝ }
     ensures { λ r. ⌜ Becomes (now (w .entry)) top (push (zeroAt (modeOf mode) (now (code .entry)) pc) (stackOf (now (w .entry)) top)) (now (w .exit)) r ⌝ }
 {
@@ -87,7 +87,7 @@ fn push_zero(mode: Mode, top: Top, w: &mut [u8], code: &[u8], pc: usize) -> Top
 }
 
 // JUMP and JUMPI: to the top word; so many words are taken.
-fn jumped(top: Top, w: &[u8], words: usize) -> Stepped
+fn jumped(w: &[u8], top: Top, words: usize) -> Stepped
     ghost { Stack }
     requires { λ stack. ⌜ stackOf (now w) top ≡ stack ⌝ }
     requires { λ stack. ⌜ Near (now w) top words ⌝ }
@@ -111,22 +111,22 @@ pub fn step(
     ensures { λ r. ⌜ Turns (now (w .entry)) top (next (modeOf mode) (now (code .entry)) start (ins pc op (drop (pc + 1) (now (code .entry)))) (stackOf (now (w .entry)) top)) (now (w .exit)) r ⌝ }
 {
     match op {
-        PUSH1..=PUSH4 => Stepped::On(push_value(top, w, code, pc, past(PUSH0, op))),
-        PUSH0 => Stepped::On(push_zero(mode, top, w, code, pc)),
-        PC => Stepped::On(push_pc(top, w, code, pc)),
+        PUSH1..=PUSH4 => Stepped::On(push_value(code, w, top, pc, past(PUSH0, op))),
+        PUSH0 => Stepped::On(push_zero(mode, code, w, top, pc)),
+        PC => Stepped::On(push_pc(code, w, top, pc)),
         DUP1..=DUP16 => Stepped::On(top.dup(w, past(DUP1, op))),
-        SWAP1..=SWAP16 => Stepped::On(swapped(top, w, past(SWAP1, op))),
-        AND => Stepped::On(and(top, w, pc)),
-        ADD => Stepped::On(add(top, w, code, pc)),
-        JUMP => jumped(top, w, 1),
-        JUMPI => jumped(top, w, 2),
+        SWAP1..=SWAP16 => Stepped::On(swapped(w, top, past(SWAP1, op))),
+        AND => Stepped::On(and(w, top, pc)),
+        ADD => Stepped::On(add(code, w, top, pc)),
+        JUMP => jumped(w, top, 1),
+        JUMPI => jumped(w, top, 2),
         JUMPDEST => {
             if pc == start {
                 return Stepped::On(top);
             }
             Stepped::Ends(top)
         }
-        STOP | RETURN | REVERT | INVALID | SELFDESTRUCT => Stepped::Ends(trade(top, w, op, pc)),
-        _ => Stepped::On(trade(top, w, op, pc)),
+        STOP | RETURN | REVERT | INVALID | SELFDESTRUCT => Stepped::Ends(trade(w, top, op, pc)),
+        _ => Stepped::On(trade(w, top, op, pc)),
     }
 }

@@ -23,7 +23,7 @@ fn spell(w: &mut [u8], at: usize, base: usize, count: usize)
 }
 
 // The same stack with so many cells at least.
-fn deepened(top: Top, w: &mut [u8], cells: usize) -> Top
+fn deepened(w: &mut [u8], top: Top, cells: usize) -> Top
     requires { ⌜ Deepens (now w) top cells ⌝ }
     ensures { λ r. ⌜ Becomes (now (w .entry)) top (deepen cells (stackOf (now (w .entry)) top)) (now (w .exit)) r ⌝ }
 {
@@ -42,7 +42,7 @@ fn deepened(top: Top, w: &mut [u8], cells: usize) -> Top
 }
 
 // The top and the cell `depth` + 1 below it change places.
-fn exchange(top: Top, w: &mut [u8], depth: usize)
+fn exchange(w: &mut [u8], top: Top, depth: usize)
     requires { ⌜ (Held (now w) top) × (depth + 1 < top .n) ⌝ }
     ensures { λ _. ⌜ Becomes (now (w .entry)) top (swap depth (stackOf (now (w .entry)) top)) (now (w .exit)) top ⌝ }
 {
@@ -54,11 +54,11 @@ fn exchange(top: Top, w: &mut [u8], depth: usize)
 }
 
 // The top and the word `depth` + 1 below it change places.
-pub fn swapped(top: Top, w: &mut [u8], depth: usize) -> Top
+pub fn swapped(w: &mut [u8], top: Top, depth: usize) -> Top
     requires { ⌜ Deepens (now w) top (depth + 2) ⌝ }
     ensures { λ r. ⌜ Becomes (now (w .entry)) top (swap depth (stackOf (now (w .entry)) top)) (now (w .exit)) r ⌝ }
 {
-    let deep = deepened(top, w, depth + 2);
-    exchange(deep, w, depth);
+    let deep = deepened(w, top, depth + 2);
+    exchange(w, deep, depth);
     deep
 }

@@ -6,7 +6,7 @@ use state::sym::StackSym;
 ghost use Rattle.exec.specs.Working.{stackOf, after-trade, Trades, Becomes};
 
 // The stack after an instruction that gives one word at most.
-pub fn trade(top: Top, w: &mut [u8], op: u8, pc: usize) -> Top
+pub fn trade(w: &mut [u8], top: Top, op: u8, pc: usize) -> Top
     requires { ⌜ Trades (now w) top op ⌝ }
     ensures { λ r. ⌜ Becomes (now (w .entry)) top (after-trade op pc (stackOf (now (w .entry)) top)) (now (w .exit)) r ⌝ }
 {

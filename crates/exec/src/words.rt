@@ -47,7 +47,7 @@ fn sum_of_values(code: &[u8], pc: usize, first: usize, second: usize) -> StackSy
 }
 
 // The stack after AND.
-pub fn and(top: Top, w: &mut [u8], pc: usize) -> Top
+pub fn and(w: &mut [u8], top: Top, pc: usize) -> Top
     requires { ⌜ Ready (now w) top ⌝ }
     ensures { λ r. ⌜ Becomes (now (w .entry)) top (after-and pc (stackOf (now (w .entry)) top)) (now (w .exit)) r ⌝ }
 {
@@ -58,7 +58,7 @@ pub fn and(top: Top, w: &mut [u8], pc: usize) -> Top
 }
 
 // The stack after ADD.
-pub fn add(top: Top, w: &mut [u8], code: &[u8], pc: usize) -> Top
+pub fn add(code: &[u8], w: &mut [u8], top: Top, pc: usize) -> Top
     requires { ⌜ Ready (now w) top ⌝ }
     ensures { λ r. ⌜ Becomes (now (w .entry)) top (after-add (now (code .entry)) pc (stackOf (now (w .entry)) top)) (now (w .exit)) r ⌝ }
 {

@@ -45,7 +45,7 @@ module _ {mode : ℕ} {code s : List ℕ} {room n m : ℕ} {w r q : List ℕ} (f
 -- ---- the calls
 
 pub notes-asked : {n m : ℕ} {w r q : List ℕ} → Graphs n m w r q → Notes n m w r
-notes-asked g = record { lent = g .fits .lent; each = λ i h. record { inR = g .fits .rows i h .inR; start = start-lies (g .fits) i h } }
+notes-asked g = record { lent = g .fits .lent; each = λ i h. record { inR = g .fits .rows i h .inR; start = start-lies (g .fits) i h }; none = g .fits .unnoted }
 
 pub rewrites-asked : {n m : ℕ} {w r q w₁ : List ℕ} → Graphs n m w r q → MergedAll n m w r w₁ → Rewrites m w₁ r q
 unfolding endOf

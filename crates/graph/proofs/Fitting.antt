@@ -11,6 +11,7 @@ use Rattle.spec.specs.Search.{Node, Rec, dest, search}
 use Rattle.spec.specs.Answer.{prepared}
 use Rattle.laws.proofs.Branch.{if-true}
 use Rattle.laws.proofs.Members.{In}
+use Rattle.layout.specs.Fields.{noteAt}
 use Rattle.layout.specs.Marks.{NOWHERE}
 use Rattle.layout.specs.Records.{toAt}
 use Rattle.theorems.proofs.Counts.{lawful}
@@ -34,20 +35,21 @@ goes-within n room r q s i (leads-nowhere e k) t j =
 goes-within n room r q s i (leads h k) t j = omega (arith, dest-is (recAt r q s room i .to) j, rec-destination r q s room i)
 
 pub search-fits : (mode limit : ℕ) (code : List ℕ) {n buckets : ℕ} {k : Rooms} {c : Counts} {w r q s : List ℕ} → Tables n buckets k (mem w r q s) c → length code ≡ n
-    → blocksAt w n ≡ map (λ (x : Node). x .block) (prepared (in-mode mode) code) → Room n w → recs k (mem w r q s) c ≡ search limit (prepared (in-mode mode) code) .recs
+    → blocksAt w n ≡ map (λ (x : Node). x .block) (prepared (in-mode mode) code) → Room n w → recs k (mem w r q s) c ≡ search limit (prepared (in-mode mode) code) .recs → ((a : ℕ) → a ≤ n → noteAt w n a ≡ 0)
     → Fits mode code s (k .s) n (c .records) w r q
-search-fits mode limit code {n} {k} {c} {r} {q} {s} t z b l e = record {
+search-fits mode limit code {n} {k} {c} {r} {q} {s} t z b l e u = record {
   size = z;
   blocks = b;
   lent = l;
   few = omega (arith, t .within .fitsR, t .within .mostR);
   rows = t .rows;
+  unnoted = u;
   lie = λ x i.
       let g = in-rec r q s (k .s) (c .records) i in
       let p = record-passes (in-mode mode) lawful limit code x (subst (In x) e i) in
       record {
         start = omega (arith, p .start, z);
-        to = λ u j. goes-within n (k .s) r q s (g .0) (t .goes (g .0) (g .1)) u (subst (λ (y : Rec). In u (dest (y .to))) (g .2) j);
+        to = λ v j. goes-within n (k .s) r q s (g .0) (t .goes (g .0) (g .1)) v (subst (λ (y : Rec). In v (dest (y .to))) (g .2) j);
         some = p .along .some;
         path = λ a j. omega (arith, p .along .within a j, z);
       };

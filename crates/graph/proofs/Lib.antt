@@ -6,6 +6,5 @@ pub mod Recs
 pub mod Edges
 pub mod Sides
 pub mod Asking
-pub mod Finished
 pub mod Fitting
 pub mod Once

@@ -1,33 +1,35 @@
--- The laws of the merge: one row by its note, all rows, and the notes that the records give. Assumes nothing.
+-- The laws of the merge: one row by its note, the rows of all records, and the notes that the records give. Assumes nothing.
 use mathlib.Core.Path.{_≡_, refl, sym, ap, ap₂, _∙_}
 use mathlib.Core.Bool.{Bool, not, _&&_}
 use mathlib.Core.List.{List, [], _∷_, _++_, map, map-append}
 use Prim.Native.Nat.{ℕ, zero, suc, _+_, _-_, _≤_, _<_}
-use native.Mathlib.Decide.{ℕ-discrete}
+use native.Mathlib.Decide.{ℕ-discrete, decLt}
 use native.Mathlib.Nat.{add-zero}
 use native.Mathlib.Omega.{arith}
 use lib.Dec.{eqb, leb}
 use lib.ListN.{length, take, drop}
-use lib.Seq.{take-add, drop-drop}
+use lib.Seq.{take-add, take-take, drop-drop}
 use borrow.Author.Tests.{eqb-true, eq-eqb, ne-eqb, le-leb, lt-leb}
-use Rattle.spec.specs.Blocks.{Kind, jump, dynamic-jump, Block, block}
-use Rattle.laws.proofs.Branch.{both, if-true, if-false}
+use Rattle.spec.specs.Blocks.{Kind, terminate, jump, jumpi, dynamic-jump, dynamic-jumpi, Block, block, with-kind}
+use Rattle.laws.proofs.Branch.{both, if-true, if-false, and-false}
 use Rattle.laws.proofs.Members.{In, here, there}
+use Rattle.spec.specs.Lists.{number}
 use Rattle.lent.specs.Bytes.{numAt, Holds}
 use Rattle.lent.proofs.Parts.{drop-more, part-prefix, part-suffix, part-within}
 use Rattle.lent.proofs.Numbers.{num-suffix, num-within}
 use Rattle.lent.proofs.Stored.{kept-take, kept-drop, kept-part, read-all}
 use Rattle.layout.specs.Fields.{NOTE, noteAt}
-use Rattle.layout.specs.Parts.{rowPlace, fieldsPlace, ROW, rowsEnd, listPlace}
-use Rattle.layout.specs.Rows.{END, typed, typeAt, Put, POSITION, tagAt}
+use Rattle.layout.specs.Parts.{rowPlace, fieldsPlace, ROW, rowsEnd, listPlace, PastRows}
+use Rattle.layout.specs.Records.{RECORD, recordPlace, startAt}
+use Rattle.layout.specs.Rows.{END, typed, typeAt, Put, POSITION, tagAt, headOf}
 use Rattle.layout.specs.declared.row.BlockType.{BlockType}
 use Rattle.initial.specs.Rows.{kindOf, kindAt, rowBlocks, blocksFrom, blocksAt}
 use Rattle.initial.proofs.Types.{kind-dynamic-jump, good-jump, kind-type}
-use Rattle.initial.proofs.Rows.{here-prefix, here-suffix, here-block, by-row, blocks-prefix, found}
+use Rattle.initial.proofs.Rows.{here-row, here-block, by-row, blocks-prefix, found}
 use Rattle.initial.proofs.Writing.{put-here}
 use Rattle.reachable.specs.Contracts.{Room}
-use Rattle.graph.specs.Notes.{noteOf, byNote, mergedKind, mergedBy, mergedBlock, mergedRow}
-use Rattle.graph.specs.Contracts.{Noted, MergedRow, Merged, MergedAll}
+use Rattle.graph.specs.Notes.{stepped, noteOf, byNote, mergedKind, mergedBy, mergedBlock, mergedRow}
+use Rattle.graph.specs.Contracts.{Notes, Noted, Merges, MergedRow, Merged, MergedAll}
 
 -- ---- by a note
 
@@ -124,18 +126,70 @@ module _ {n a kind : ℕ} {w : List ℕ} (k : Holds 1 w (rowPlace a) kind) where
       long = p .stored .kept;
     }
 
--- ---- all rows
+-- ---- once more, and by no note
 
--- those before a are merged, and all from a on is as it was
-pub record Merging (n : ℕ) (w₀ w : List ℕ) (a : ℕ) : Type 0 where
-  pub front : (x : ℕ) → x < a → rowBlocks w x ≡ map (mergedBlock n (noteAt w₀ n)) (rowBlocks w₀ x)
-  pub bytes : (x : ℕ) → x < a → take ROW (drop (rowPlace x) w) ≡ mergedRow n (noteAt w₀ n x) w₀ x
-  pub back : drop (rowPlace a) w ≡ drop (rowPlace a) w₀
+module _ (n note : ℕ) where
+  note-again : Same n note (byNote n note)
+  unfolding byNote Same
+  note-again = both (Same n note) (eqb note 0) (λ e. if-true _ _ _ e) (λ e. both (Same n note) (leb note (n + 1)) (λ _. refl) (λ f. if-false _ _ _ e ∙ if-false _ _ _ f))
+
+  kind-again : (k : Kind) → mergedKind n note (mergedKind n note k) ≡ mergedKind n note k
+  unfolding Same
+  kind-again (terminate success) = refl
+  kind-again (jump t) = refl
+  kind-again (jumpi t f) = refl
+  kind-again dynamic-jump = note-again
+  kind-again (dynamic-jumpi f) = refl
+
+  again : (bs : List Block) → map (mergedBy n note) (map (mergedBy n note) bs) ≡ map (mergedBy n note) bs
+  again [] = refl
+  again (b ∷ bs) =
+      ap₂ {C = List Block} (λ (x : Block) (xs : List Block). x ∷ xs) (ap (λ (k : Kind). with-kind k b) (kind-again (b .kind))) (again bs)
+
+  kind-none : note ≡ 0 → (k : Kind) → mergedKind n note k ≡ k
+  kind-none e (terminate success) = refl
+  kind-none e (jump t) = refl
+  kind-none e (jumpi t f) = refl
+  kind-none e dynamic-jump = by-none n note e
+  kind-none e (dynamic-jumpi f) = refl
+
+  none-merged : note ≡ 0 → (bs : List Block) → map (mergedBy n note) bs ≡ bs
+  none-merged e [] = refl
+  none-merged e (b ∷ bs) = ap₂ {C = List Block} (λ (x : Block) (xs : List Block). x ∷ xs) (ap (λ (k : Kind). with-kind k b) (kind-none e (b .kind))) (none-merged e bs)
+
+  bytes-unnoted : note ≡ 0 → (w : List ℕ) (a : ℕ) → take ROW (drop (rowPlace a) w) ≡ mergedRow n note w a
+  unfolding mergedRow
+  bytes-unnoted e w a =
+      sym (if-false _ _ _
+      (ap (λ (b : Bool). eqb (tagAt w a) 5 && not b && leb note (n + 1)) (eq-eqb note 0 e) ∙ ap (λ (b : Bool). b && leb note (n + 1)) (and-false (eqb (tagAt w a) 5) refl)))
+
+  -- a row that was merged stays
+  bytes-again : (w₀ w : List ℕ) (a : ℕ) → take ROW (drop (rowPlace a) w) ≡ mergedRow n note w₀ a → mergedRow n note w a ≡ mergedRow n note w₀ a
+  unfolding mergedRow numAt number
+  bytes-again w₀ w a = both (λ (bs : List ℕ). take ROW (drop (rowPlace a) w) ≡ bs → mergedRow n note w a ≡ bs) (eqb (tagAt w₀ a) 5 && not (eqb note 0) && leb note (n + 1))
+      (λ _ e. sym (bytes-other n note w a (λ d. other e d)) ∙ e)
+      (λ c e. bytes-same n note w w₀ a e ∙ if-false _ _ _ c)
+    where
+      other : take ROW (drop (rowPlace a) w) ≡ headOf (numAt 2 w₀ (rowPlace a + END)) (typed 3 (note - 1) 0) ++ take 12 (drop (rowPlace a + POSITION) w₀) → tagAt w a ≡ 5 → ⊥
+      other e d =
+          let tag : tagAt w a ≡ 3 = ap number (sym (take-take 1 20 (drop (rowPlace a) w) (omega arith)) ∙ ap (take 1) e) in
+          omega (arith, tag, d)
+
+-- ---- all records
+
+-- the row of a, once the blocks of the first i records are merged: merged, or as it was where none of them is of a
+pub data RowSo (n : ℕ) (r w₀ w : List ℕ) (i a : ℕ) : Type 0 where
+  merged : rowBlocks w a ≡ map (mergedBy n (noteAt w₀ n a)) (rowBlocks w₀ a) → take ROW (drop (rowPlace a) w) ≡ mergedRow n (noteAt w₀ n a) w₀ a → RowSo n r w₀ w i a
+  as-it-was : take ROW (drop (rowPlace a) w) ≡ take ROW (drop (rowPlace a) w₀) → ((j : ℕ) → j < i → a ≡ startAt r j → ⊥) → RowSo n r w₀ w i a
+
+pub record Merging (n m : ℕ) (r w₀ w : List ℕ) (i : ℕ) : Type 0 where
+  pub row : (a : ℕ) → a ≤ n → RowSo n r w₀ w i a
+  pub beyond : PastRows n w₀ w
   pub long : length w ≡ length w₀
-  pub inside : a ≤ n + 1
+  pub inside : i ≤ m
 
-pub merge-start : {n : ℕ} {w : List ℕ} → Merging n w w 0
-merge-start = record { front = λ x h. absurd (omega arith); bytes = λ x h. absurd (omega arith); back = refl; long = refl; inside = omega arith }
+pub merge-start : {n m : ℕ} {r w : List ℕ} → Merging n m r w w 0
+merge-start = record { row = λ a h. as-it-was refl (λ j l. absurd (omega arith)); beyond = refl; long = refl; inside = omega arith }
 
 -- the block of a row has its own address's note
 own-note : (n : ℕ) (notes : ℕ → ℕ) (w : List ℕ) (a : ℕ) → map (mergedBy n (notes a)) (rowBlocks w a) ≡ map (mergedBlock n notes) (rowBlocks w a)
@@ -148,47 +202,86 @@ all-rows f w v a (suc m) h =
     ap₂ (λ (x y : List Block). x ++ y) (h a (omega arith) (omega arith)) (all-rows f w v (suc a) m (λ x l g. h x (omega arith) (omega arith)))
     ∙ sym (map-append f (rowBlocks v a) (blocksFrom v (suc a) m))
 
-module _ {n a : ℕ} {w₀ w : List ℕ} (g : Merging n w₀ w a) where
-  pub merge-room : Room n w₀ → Room n w
-  merge-room l = record { short = l .short; room = omega (arith, l .room, g .long) }
+-- where no record is of a, it has no note
+no-note : (r : List ℕ) (a m : ℕ) → ((j : ℕ) → j < m → a ≡ startAt r j → ⊥) → noteOf r a m ≡ 0
+unfolding noteOf stepped
+no-note r a zero h = refl
+no-note r a (suc m) h = if-false _ _ _ (ne-eqb a (startAt r m) (h m (omega arith))) ∙ no-note r a m (λ j l. h j (omega arith))
 
-  pub merge-turn : {w′ : List ℕ} → a ≤ n → MergedRow n w a w′ → Merging n w₀ w′ (a + 1)
-  merge-turn {w′} h t = record {
-    front = λ x l. split x l (ℕ-discrete x a);
-    bytes = λ x l. split-bytes x l (ℕ-discrete x a);
-    back = t .past ∙ drop-more w w₀ (rowPlace a) (g .back) (rowPlace (a + 1)) (omega arith);
+-- a record of them stands in R
+pub merge-in : {n m i : ℕ} {w r : List ℕ} → Merges n m w r → i < m → recordPlace i + RECORD ≤ length r
+merge-in a l = a .each _ l .inR
+
+module _ {n m i : ℕ} {r w₀ w : List ℕ} (g : Merging n m r w₀ w i) where
+  pub merge-room : Merges n m w₀ r → Room n w
+  merge-room a = record { short = a .lent .short; room = omega (arith, a .lent .room, g .long) }
+
+  pub merge-start-of : {b : ℕ} → Merges n m w₀ r → i < m → Holds 2 r (recordPlace i) b → b ≤ n
+  merge-start-of a l h = omega (arith, h .is, a .each i l .start)
+
+  pub merge-turn : {b : ℕ} {w′ : List ℕ} → Merges n m w₀ r → i < m → Holds 2 r (recordPlace i) b → MergedRow n w b w′ → Merging n m r w₀ w′ (i + 1)
+  merge-turn {b} {w′} asks l h t = record {
+    row = λ a k. go a (ℕ-discrete a b) (g .row a k);
+    beyond = drop-more w′ w (rowPlace (b + 1)) (t .past) (rowsEnd n) (omega (arith, merge-start-of asks l h)) ∙ g .beyond;
     long = t .long ∙ g .long;
     inside = omega arith;
   }
     where
-      note : noteAt w n a ≡ noteAt w₀ n a
-      note = num-suffix w w₀ (rowPlace a) (g .back) 4 (fieldsPlace n a + NOTE) (omega arith)
+      note : noteAt w n b ≡ noteAt w₀ n b
+      note = num-suffix w w₀ (rowsEnd n) (g .beyond) 4 (fieldsPlace n b + NOTE) (omega arith)
 
-      split-bytes : (x : ℕ) → x < a + 1 → Dec (x ≡ a) → take ROW (drop (rowPlace x) w′) ≡ mergedRow n (noteAt w₀ n x) w₀ x
-      split-bytes x l (yes q) =
-          rw q (t .bytes ∙ bytes-same n (noteAt w n a) w w₀ a (part-suffix w w₀ (rowPlace a) (g .back) 20 (rowPlace a) (omega arith)) ∙ ap (λ (y : ℕ). mergedRow n y w₀ a) note)
-      split-bytes x l (no q) = part-prefix w′ w (rowPlace a) (t .before) 20 (rowPlace x) (omega arith) ∙ g .bytes x (omega arith)
+      same-row : (a : ℕ) → (a ≡ b → ⊥) → take ROW (drop (rowPlace a) w′) ≡ take ROW (drop (rowPlace a) w)
+      same-row a q = side (decLt a b)
+        where
+          side : Dec (a < b) → take ROW (drop (rowPlace a) w′) ≡ take ROW (drop (rowPlace a) w)
+          side (yes k) = part-prefix w′ w (rowPlace b) (t .before) 20 (rowPlace a) (omega arith)
+          side (no k) = part-suffix w′ w (rowPlace (b + 1)) (t .past) 20 (rowPlace a) (omega arith)
 
-      split : (x : ℕ) → x < a + 1 → Dec (x ≡ a) → rowBlocks w′ x ≡ map (mergedBlock n (noteAt w₀ n)) (rowBlocks w₀ x)
-      split x l (yes q) =
-          rw q (rw (note, here-suffix w w₀ a (rowPlace a) (g .back) (omega arith)) at (t .same) ∙ own-note n (noteAt w₀ n) w₀ a)
-      split x l (no q) = here-prefix w′ w x (rowPlace a) (t .before) (omega arith) ∙ g .front x (omega arith)
+      go : (a : ℕ) → Dec (a ≡ b) → RowSo n r w₀ w i a → RowSo n r w₀ w′ (i + 1) a
+      go a (yes q) (merged s y) =
+          merged (rw q (rw (note, rw q at s) at (t .same) ∙ again n (noteAt w₀ n b) (rowBlocks w₀ b))) (rw q (t .bytes ∙ rw note (bytes-again n (noteAt w₀ n b) w₀ w b (rw q at y))))
+      go a (yes q) (as-it-was y f) =
+          let row : rowBlocks w b ≡ rowBlocks w₀ b = here-row w w₀ b (rw q at y) in
+          merged (rw q (rw (note, row) at (t .same))) (rw q (t .bytes ∙ rw note (bytes-same n (noteAt w₀ n b) w w₀ b (rw q at y))))
+      go a (no q) (merged s y) = merged (here-row w′ w a (same-row a q) ∙ s) (same-row a q ∙ y)
+      go a (no q) (as-it-was y f) = as-it-was (same-row a q ∙ y) (λ j k e. later j k e (ℕ-discrete j i))
+        where
+          later : (j : ℕ) → j < i + 1 → a ≡ startAt r j → Dec (j ≡ i) → ⊥
+          later j k e (yes z) = q (e ∙ ap (startAt r) z ∙ sym (h .is))
+          later j k e (no z) = f j (omega arith) e
 
-  pub merge-done : n < a → Merged n w₀ w
-  merge-done h =
-      let all : a ≡ n + 1 = omega (arith, g .inside) in
-      record {
-        blocks = all-rows (mergedBlock n (noteAt w₀ n)) w w₀ 0 (suc n) (λ x _ l. g .front x (omega arith));
-        bytes = λ x l. g .bytes x (omega arith);
-        beyond = rw all at (g .back);
-        long = g .long;
-      }
+  pub merge-done : Merges n m w₀ r → m ≤ i → Merged n w₀ w
+  merge-done asks k = record {
+    blocks = all-rows (mergedBlock n (noteAt w₀ n)) w w₀ 0 (suc n) (λ a _ l. blocks a (g .row a (omega arith)) (omega arith));
+    bytes = λ a l. bytes a (g .row a l) l;
+    beyond = g .beyond;
+    long = g .long;
+  }
+    where
+      none : (a : ℕ) → a ≤ n → ((j : ℕ) → j < i → a ≡ startAt r j → ⊥) → noteAt w₀ n a ≡ 0
+      none a l f = asks .notes a l ∙ no-note r a m (λ j h. f j (omega arith))
+
+      blocks : (a : ℕ) → RowSo n r w₀ w i a → a ≤ n → rowBlocks w a ≡ map (mergedBlock n (noteAt w₀ n)) (rowBlocks w₀ a)
+      blocks a (merged s y) l = s ∙ own-note n (noteAt w₀ n) w₀ a
+      blocks a (as-it-was y f) l = here-row w w₀ a y ∙ sym (none-merged n (noteAt w₀ n a) (none a l f) (rowBlocks w₀ a)) ∙ own-note n (noteAt w₀ n) w₀ a
+
+      bytes : (a : ℕ) → RowSo n r w₀ w i a → a ≤ n → take ROW (drop (rowPlace a) w) ≡ mergedRow n (noteAt w₀ n a) w₀ a
+      bytes a (merged s y) l = y
+      bytes a (as-it-was y f) l = y ∙ bytes-unnoted n (noteAt w₀ n a) (none a l f) w₀ a
 
 -- ---- by the notes of the records
 
 map-agrees : (f g : Block → Block) (bs : List Block) → ((b : Block) → In b bs → f b ≡ g b) → map f bs ≡ map g bs
 map-agrees f g [] h = refl
 map-agrees f g (b ∷ bs) h = ap₂ {C = List Block} (λ (x : Block) (xs : List Block). x ∷ xs) (h b here) (map-agrees f g bs (λ c i. h c (there i)))
+
+-- once the records are noted
+pub noted-merges : {n m : ℕ} {w r w₁ : List ℕ} → Notes n m w r → Noted n m w r w₁ → Merges n m w₁ r
+noted-merges a t = record {
+  lent = record { short = a .lent .short; room = omega (arith, a .lent .room, t .kept .long) };
+  each = a .each;
+  notes = t .notes;
+}
 
 pub merged-all : {n m : ℕ} {w r w₁ w₂ : List ℕ} → Noted n m w r w₁ → Merged n w₁ w₂ → MergedAll n m w r w₂
 merged-all {n} {m} {w} {r} {w₁} {w₂} t g = record {

@@ -15,8 +15,7 @@ use Rattle.layout.specs.Fields.{NOTE, noteAt}
 use Rattle.layout.specs.Marks.{NOWHERE}
 use Rattle.layout.specs.Parts.{rowsEnd, fieldsPlace, listPlace}
 use Rattle.layout.specs.Records.{recordPlace, R-TO, startAt, toAt}
-use Rattle.reachable.specs.Contracts.{Room, Begun}
-use Rattle.reachable.proofs.Marks.{begun-num, begun-rows}
+use Rattle.reachable.specs.Contracts.{Room}
 use Rattle.graph.specs.Notes.{several, joined, stepped, noteOf}
 use Rattle.graph.specs.Contracts.{Starts, RowsKept, NotedRow, Notes, Noted}
 
@@ -81,36 +80,24 @@ note-next : (r : List ℕ) (a i : ℕ) → noteOf r a (i + 1) ≡ stepped r i a 
 unfolding noteOf
 note-next r a i = rw add-one
 
--- the first i are noted, over what was wiped
+-- the first i are noted
 pub record Noting (n m : ℕ) (w₀ r w : List ℕ) (i : ℕ) : Type 0 where
   pub notes : (a : ℕ) → a ≤ n → noteAt w n a ≡ noteOf r a i
   pub kept : RowsKept n w₀ w
   pub inside : i ≤ m
 
-module _ {n m : ℕ} {v r w₀ : List ℕ} (b : Begun n v w₀) where
+module _ {n m : ℕ} {r w₀ : List ℕ} (a : Notes n m w₀ r) where
   pub note-start : Noting n m w₀ r w₀ 0
   unfolding noteOf
-  note-start = record {
-    notes = λ a h. begun-num b 4 (fieldsPlace n a + NOTE) (omega arith) (omega arith);
-    kept = record { rows = refl; beyond = refl; long = refl };
-    inside = omega arith;
-  }
+  note-start = record { notes = a .none; kept = record { rows = refl; beyond = refl; long = refl }; inside = omega arith }
 
-  module _ {w : List ℕ} {i : ℕ} (g : Noting n m w₀ r w i) where
-    pub note-room : Notes n m v r → Room n w
-    note-room a = record { short = a .lent .short; room = omega (arith, a .lent .room, g .kept .long, b .wipes .kept) }
+  pub note-room : {w : List ℕ} {i : ℕ} → Noting n m w₀ r w i → Room n w
+  note-room g = record { short = a .lent .short; room = omega (arith, a .lent .room, g .kept .long) }
 
-    pub note-done : m ≤ i → Noted n m v r w
-    note-done h =
-        let e : i ≡ m = omega (arith, g .inside) in
-        record {
-          notes = rw e at (g .notes);
-          kept = record {
-            rows = g .kept .rows ∙ begun-rows b;
-            beyond = g .kept .beyond ∙ kept-drop (b .wipes) (listPlace n) (omega arith);
-            long = g .kept .long ∙ b .wipes .kept;
-          };
-        }
+pub note-done : {n m i : ℕ} {w₀ r w : List ℕ} → Noting n m w₀ r w i → m ≤ i → Noted n m w₀ r w
+note-done {m} {i} g h =
+    let e : i ≡ m = omega (arith, g .inside) in
+    record { notes = rw e at (g .notes); kept = g .kept }
 
 pub note-row : {n m i : ℕ} {w r : List ℕ} → Notes n m w r → i < m → Starts n r i
 note-row {i} a h = a .each i h

@@ -10,7 +10,7 @@ use Rattle.spec.specs.Lists.{if, mem}
 use Rattle.lent.proofs.Numbers.{num-prefix}
 use Rattle.lent.proofs.Once.{Bytes, Same, Outside, same-num, same-both, same-as, same-then, same-rows, same-whole}
 use Rattle.layout.specs.Edges.{E-TO, E-WITNESS, E-OWN, E-LINKS, E-ENDS, keyAt}
-use Rattle.layout.specs.Fields.{COUNT, LAST, NOTE}
+use Rattle.layout.specs.Fields.{COUNT, LAST, HEADS}
 use Rattle.layout.specs.Parts.{rowPlace, rowsEnd, fieldsPlace, listPlace}
 use Rattle.layout.specs.Records.{recordPlace, startAt, toAt}
 use Rattle.layout.specs.Rows.{tagAt}
@@ -51,10 +51,10 @@ module _ {n m : ℕ} {w r q v s u t : List ℕ} (a : Graphs n m w r q) (p : Grap
   -- ---- W
 
   module _ (b : Bytes v) (d : Bytes u) where
-    heads : (x : ℕ) → x ≤ n → Same v u (fieldsPlace n x + NOTE) 14
+    heads : (x : ℕ) → x ≤ n → Same v u (fieldsPlace n x + HEADS) 14
     heads x h =
         let long : length v ≡ length u = p .longW ∙ sym (f .longW) in
-        let first : Same v u (fieldsPlace n x + NOTE) 4 = same-num b d long 4 (fieldsPlace n x + NOTE) (p .places .heads x h ∙ sym (places .heads x h)) in
+        let first : Same v u (fieldsPlace n x + HEADS) 4 = same-num b d long 4 (fieldsPlace n x + HEADS) (p .places .heads x h ∙ sym (places .heads x h)) in
         let second : Same v u (fieldsPlace n x + 8) 4 = same-num b d long 4 (fieldsPlace n x + 8) (p .witnesses .heads x h ∙ sym (witnesses .heads x h)) in
         same-then (same-then first second (omega arith)) (same-both (fieldsPlace n x + COUNT) 6 (p .fields x h) (f .fields x h)) (omega arith)
 

@@ -40,6 +40,7 @@ pub record NotedRow (n : ℕ) (w r : List ℕ) (i : ℕ) (w′ : List ℕ) : Typ
 pub record Notes (n m : ℕ) (w r : List ℕ) : Type 0 where
   pub lent : Room n w
   pub each : (i : ℕ) → i < m → Starts n r i
+  pub none : (a : ℕ) → a ≤ n → noteAt w n a ≡ 0
 
 pub record Noted (n m : ℕ) (w r w′ : List ℕ) : Type 0 where
   pub notes : (a : ℕ) → a ≤ n → noteAt w′ n a ≡ noteOf r a m
@@ -53,6 +54,12 @@ pub record MergedRow (n : ℕ) (w : List ℕ) (a : ℕ) (w′ : List ℕ) : Type
   pub before : take (rowPlace a) w′ ≡ take (rowPlace a) w
   pub past : drop (rowPlace (a + 1)) w′ ≡ drop (rowPlace (a + 1)) w
   pub long : length w′ ≡ length w
+
+-- the notes of m records stand in W
+pub record Merges (n m : ℕ) (w r : List ℕ) : Type 0 where
+  pub lent : Room n w
+  pub each : (i : ℕ) → i < m → Starts n r i
+  pub notes : (a : ℕ) → a ≤ n → noteAt w n a ≡ noteOf r a m
 
 -- every block is merged by the note that stands in W, and by that of the records
 pub record Merged (n : ℕ) (w w′ : List ℕ) : Type 0 where
@@ -124,7 +131,7 @@ pub record Lies (n : ℕ) (x : Rec) : Type 0 where
   pub some : 0 < length (x .path)
   pub path : (a : ℕ) → In a (x .path) → a ≤ n
 
--- the blocks of the code, prepared in a mode, stand in W, and the m records in R and Q
+-- the blocks of the code, prepared in a mode, stand in W, with no note, and the m records in R and Q
 pub record Fits (mode : ℕ) (code s : List ℕ) (room n m : ℕ) (w r q : List ℕ) : Type 0 where
   pub size : length code ≡ n
   pub blocks : blocksAt w n ≡ map (λ (x : Node). x .block) (prepared (in-mode mode) code)
@@ -132,6 +139,7 @@ pub record Fits (mode : ℕ) (code s : List ℕ) (room n m : ℕ) (w r q : List 
   pub few : m ≤ 2 ^ 30
   pub rows : (i : ℕ) → i < m → Row r q i
   pub lie : (x : Rec) → In x (recsOf r q s room m) → Lies n x
+  pub unnoted : (a : ℕ) → a ≤ n → noteAt w n a ≡ 0
 
 -- so for some code and mode, and states in some S that are not asked for
 pub record Graphs (n m : ℕ) (w r q : List ℕ) : Type 0 where

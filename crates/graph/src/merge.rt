@@ -2,6 +2,7 @@
 // "A DynamicJump whose entries share one target becomes a Jump."
 use crate::note::note_all;
 use layout::field::NOTE;
+use layout::record::RECORD;
 use layout::row::BlockType;
 use layout::row::DYNAMIC_JUMP;
 use layout::row::END;
@@ -13,7 +14,7 @@ use lent::get16;
 use lent::get32;
 ghost use Prim.Native.Nat.{_≤_};
 ghost use Rattle.reachable.specs.Contracts.{Room};
-ghost use Rattle.graph.specs.Contracts.{Notes, MergedRow, Merged, MergedAll};
+ghost use Rattle.graph.specs.Contracts.{Merges, Notes, MergedRow, Merged, MergedAll};
 
 // Merges the blocks by the records.
 pub fn merge_all(w: &mut [u8], size: usize, r: &[u8], records: usize)
@@ -21,18 +22,19 @@ pub fn merge_all(w: &mut [u8], size: usize, r: &[u8], records: usize)
     ensures { λ _. ⌜ MergedAll size records (now (w .entry)) (now (r .entry)) (now (w .exit)) ⌝ }
 {
     note_all(w, size, r, records);
-    merge(w, size);
+    merge(w, size, r, records);
 }
 
-// Merges every block by its note.
-fn merge(w: &mut [u8], size: usize)
-    requires { ⌜ Room size (now w) ⌝ }
+// Merges by its note the block of every record: the others have no note.
+fn merge(w: &mut [u8], size: usize, r: &[u8], records: usize)
+    requires { ⌜ Merges size records (now w) (now r) ⌝ }
     ensures { λ _. ⌜ Merged size (now (w .entry)) (now (w .exit)) ⌝ }
 {
-    let mut start = 0;
-    while start <= size {
+    let mut row = 0;
+    while row < records {
+        let start = get16(r, RECORD * row);
         merge_row(w, size, start);
-        start += 1;
+        row += 1;
     }
 }
 

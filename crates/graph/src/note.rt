@@ -8,7 +8,6 @@ use layout::row::ROW;
 use lent::get16;
 use lent::get32;
 use lent::put32;
-use reachable::begin;
 ghost use mathlib.Core.Path.{_≡_};
 ghost use Prim.Native.Nat.{_<_};
 ghost use Rattle.reachable.specs.Contracts.{Room};
@@ -17,12 +16,11 @@ ghost use Rattle.graph.specs.Contracts.{Starts, NotedRow, Notes, Noted};
 
 const SEVERAL: usize = 0xFFFF_FFFF;
 
-// Notes the destinations of the records.
+// Notes the destinations of the records, where no note stands yet.
 pub fn note_all(w: &mut [u8], size: usize, r: &[u8], records: usize)
     requires { ⌜ Notes size records (now w) (now r) ⌝ }
     ensures { λ _. ⌜ Noted size records (now (w .entry)) (now (r .entry)) (now (w .exit)) ⌝ }
 {
-    begin(w, size);
     let mut row = 0;
     while row < records {
         note(w, size, r, row);

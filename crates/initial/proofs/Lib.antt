@@ -3,10 +3,7 @@ pub mod Rows
 pub mod Types
 pub mod Writing
 pub mod Once
-mod Bytes
 mod Jumping
 mod Turning
-mod Taking
 mod Cutting
 mod Checking
-mod Joining

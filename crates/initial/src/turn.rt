@@ -55,6 +55,8 @@ pub fn cut_of(op: u8) -> Cut
         op::JUMP => Cut::Jump,
         op::STOP | op::RETURN | op::SELFDESTRUCT => Cut::Ends(true),
         op::REVERT | op::INVALID => Cut::Ends(false),
+        // most of any code: all of them are known
+        op::PUSH0..=op::SWAP16 => Cut::Other,
         _ => { if known(op) { Cut::Other } else { Cut::Unknown } }
     }
 }

@@ -4,7 +4,6 @@ pub mod Knowing
 pub mod Looking
 pub mod Passing
 pub mod Showing
-pub mod Filling
 pub mod Rowing
 pub mod Answering
 pub mod Once

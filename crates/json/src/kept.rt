@@ -12,13 +12,13 @@ ghost use Rattle.json.specs.Rows.{lined, next, blockText};
 
 // The block at `start`, if it is kept.
 fn add_kept(
-    out: &mut [u8],
-    begin: usize,
-    at: usize,
     w: &[u8],
-    size: usize,
     r: &[u8],
     q: &[u8],
+    out: &mut [u8],
+    at: usize,
+    begin: usize,
+    size: usize,
     rows: usize,
     start: usize,
 ) -> usize
@@ -27,20 +27,20 @@ fn add_kept(
         (next begin at (blockText (now (w .entry)) (now (r .entry)) (now (q .entry)) rows) (keep (kept (now (w .entry)) size) (start ∷ []))) (now (out .exit)) end ⌝ }
 {
     if is_kept(w, size, start) {
-        let place = add_comma(out, begin, at);
-        return add_block(out, place, w, size, r, q, rows, start);
+        let place = add_comma(out, at, begin);
+        return add_block(w, r, q, out, place, size, rows, start);
     }
     at
 }
 
 // All that are kept.
 pub fn add_blocks(
-    out: &mut [u8],
-    at: usize,
     w: &[u8],
-    size: usize,
     r: &[u8],
     q: &[u8],
+    out: &mut [u8],
+    at: usize,
+    size: usize,
     rows: usize,
 ) -> usize
     requires { ⌜ (PutsBlocks size rows (now w) (now r) (now q) at) × (at ≤ 2 ^ 32) ⌝ }
@@ -50,7 +50,7 @@ pub fn add_blocks(
     let mut end = at;
     let mut start = 0;
     while start <= size {
-        end = add_kept(out, at, end, w, size, r, q, rows, start);
+        end = add_kept(w, r, q, out, end, at, size, rows, start);
         start += 1;
     }
     end

@@ -15,11 +15,11 @@ ghost use Rattle.json.specs.Contracts.{PutsWay};
 
 // A row, if a block of the kind lists it.
 fn add_row(
-    out: &mut [u8],
-    begin: usize,
-    at: usize,
     r: &[u8],
     q: &[u8],
+    out: &mut [u8],
+    at: usize,
+    begin: usize,
     row: usize,
     kind: usize,
 ) -> usize
@@ -28,20 +28,20 @@ fn add_row(
         (next begin at (wayText (now (r .entry)) (now (q .entry))) (keep (listed (now (r .entry)) kind) (row ∷ []))) (now (out .exit)) end ⌝ }
 {
     if is_listed(r, row, kind) {
-        let place = add_comma(out, begin, at);
-        return add_way(out, place, r, q, row);
+        let place = add_comma(out, at, begin);
+        return add_way(r, q, out, place, row);
     }
     at
 }
 
 // All that the block at `start` lists.
 pub fn add_ways(
-    out: &mut [u8],
-    at: usize,
     w: &[u8],
-    size: usize,
     r: &[u8],
     q: &[u8],
+    out: &mut [u8],
+    at: usize,
+    size: usize,
     rows: usize,
     start: usize,
     kind: usize,
@@ -53,7 +53,7 @@ pub fn add_ways(
     let mut end = at;
     let mut link = first_row(w, size, start);
     while link != 0 {
-        end = add_row(out, at, end, r, q, link - 1, kind);
+        end = add_row(r, q, out, end, at, link - 1, kind);
         link = next_row(r, link - 1);
     }
     end

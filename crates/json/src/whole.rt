@@ -10,12 +10,12 @@ ghost use Rattle.json.specs.Rows.{mapText};
 ghost use Rattle.json.specs.Contracts.{Sized, Written};
 
 // The whole: put where it ends within the buffer, counted in any case.
-fn add_map(out: &mut [u8], w: &[u8], size: usize, r: &[u8], q: &[u8], rows: usize) -> usize
+fn add_map(w: &[u8], r: &[u8], q: &[u8], out: &mut [u8], size: usize, rows: usize) -> usize
     requires { ⌜ PutsBlocks size rows (now w) (now r) (now q) 0 ⌝ }
     ensures { λ end. ⌜ PutsFew (2 ^ 54) (now (out .entry)) 0 (mapText (now (w .entry)) (now (r .entry)) (now (q .entry)) size rows) (now (out .exit)) end ⌝ }
 {
     let blocks = add_text(out, 0, b"[");
-    let end = add_blocks(out, blocks, w, size, r, q, rows);
+    let end = add_blocks(w, r, q, out, blocks, size, rows);
     add_text(out, end, b"]")
 }
 
@@ -27,7 +27,7 @@ pub fn text_size(w: &[u8], r: &[u8], q: &[u8], size: usize, rows: usize) -> usiz
     // Read for its bound: the paths end below 2^32, so that no count passes 64 bits.
     let _ends = begin_of(r, rows);
     let mut none = [0u8; 1];
-    add_map(&mut none, w, size, r, q, rows)
+    add_map(w, r, q, &mut none, size, rows)
 }
 
 // Writes the text of that size, where `out` has room for it: the number of bytes, or 0, and then `out` stays as it was.
@@ -47,5 +47,5 @@ pub fn write_text(
         return 0;
     }
     let _ends = begin_of(r, rows);
-    add_map(out, w, size, r, q, rows)
+    add_map(w, r, q, out, size, rows)
 }

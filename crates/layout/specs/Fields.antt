@@ -27,9 +27,9 @@ FLAG = 18
 abbrev pub LAST : ℕ
 LAST = 19
 
--- in the place of found parents after the search: the note, and then the first rows of edges
+-- after the search: the note in the place of the count, and then in that of found parents the first rows of edges
 abbrev pub NOTE : ℕ
-NOTE = 4
+NOTE = 12
 
 abbrev pub HEADS : ℕ
 HEADS = 4

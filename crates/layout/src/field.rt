@@ -12,8 +12,8 @@ pub const HIGHEST: usize = 16;
 // Whether its sides have been followed, or wait to be.
 pub const FLAG: usize = 18;
 
-// After the search, in the place of found parents: the one destination of the address's records; then the first row of edges of which it is the place and,
-// `edge::WITNESS` bytes on, of which it is the witness.
-pub const NOTE: usize = 4;
+// After the search, in the place of the count, which is 0 then: the one destination of the address's records.
+pub const NOTE: usize = 12;
 
+// Then, in the place of found parents: the first row of edges of which the address is the place and, `edge::WITNESS` bytes on, of which it is the witness.
 pub const HEADS: usize = 4;

@@ -1,10 +1,4 @@
-pub mod Worths
 pub mod Refusing
-pub mod Decoding
 pub mod Hexes
-pub mod Items
-pub mod Cutting
-pub mod Telling
-pub mod Answering
 pub mod Rendering
 pub mod Once

@@ -32,7 +32,7 @@ fn worth(character: usize) -> usize
 }
 
 // The code that is typed, put at the start of `code`, and its length; or 513 where it is refused.
-pub fn decode(text: &[u8], code: &mut [u8]) -> usize
+pub fn decode(code: &mut [u8], text: &[u8]) -> usize
     requires { ⌜ 512 ≤ length (now code) ⌝ }
     ensures { λ n. ⌜ Decodes (now (text .entry)) (now (code .entry)) (now (code .exit)) n ⌝ }
 {

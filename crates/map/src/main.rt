@@ -13,12 +13,12 @@ ghost use Rattle.spec.specs.Program.{program};
 ghost use Rattle.lent.specs.Bytes.{Stored};
 
 // What the program prints, from what is typed: it is put at the start of `out`, and its end is given.
-fn render(text: &[u8], out: &mut [u8]) -> usize
+fn render(out: &mut [u8], text: &[u8]) -> usize
     requires { ⌜ 98304 ≤ length (now out) ⌝ }
     ensures { λ end. ⌜ Stored end (now (out .entry)) 0 (program (now (text .entry))) (now (out .exit)) ⌝ }
 {
     let mut code = [0u8; 512];
-    let n = decode(text, &mut code);
+    let n = decode(&mut code, text);
     if 512 < n {
         return put_refused(10, out);
     }
@@ -30,6 +30,6 @@ fn main() {
     let mut text = [0u8; 1026];
     let n = io::read_full(0, &mut text);
     let mut out = [0u8; 98304];
-    let end = render(&text[..n], &mut out);
+    let end = render(&mut out, &text[..n]);
     io::write_all(1, &out[..end]);
 }

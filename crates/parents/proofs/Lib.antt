@@ -2,10 +2,7 @@ pub mod Parts
 pub mod Leaves
 pub mod Goals
 pub mod Slots
-pub mod Settling
-pub mod Pass
 pub mod Chains
-pub mod Ends
 pub mod Knows
 pub mod Rises
 pub mod Once

@@ -9,7 +9,6 @@ pub mod Entering
 pub mod Following
 pub mod Raising
 pub mod Spreading
-pub mod Taking
 pub mod Expanding
 pub mod EdgeRows
 pub mod Chaining

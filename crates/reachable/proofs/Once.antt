@@ -6,19 +6,16 @@ use Prim.Native.Nat.{ℕ, _+_, _*_, _≤_, _<_}
 use native.Mathlib.Omega.{arith}
 use lib.ListN.{length}
 use Rattle.spec.specs.Lists.{if, mem}
-use Rattle.lent.proofs.Once.{Bytes, Same, Outside, one-stored, same-num, same-both, same-as, same-then, same-rows, same-whole, same-outside}
+use Rattle.lent.proofs.Once.{Bytes, Same, Outside, same-num, same-both, same-as, same-then, same-rows, same-whole, same-outside}
 use Rattle.layout.specs.Edges.{E-ENDS}
 use Rattle.layout.specs.Fields.{COUNT, HIGHEST, FLAG, LAST, HEADS, markAt, flagAt}
 use Rattle.layout.specs.Parts.{ROW, fieldsPlace, listPlace, bucketsPlace, SameRows, PastList}
 use Rattle.layout.specs.Records.{recordPlace}
 use Rattle.layout.proofs.Once.{same-to-list}
 use Rattle.reachable.specs.Marks.{flagged, remark}
-use Rattle.reachable.specs.Contracts.{Begun, Marked, KeptBut, Highest, Raised, Expanded, Reaches}
+use Rattle.reachable.specs.Contracts.{Marked, KeptBut, Highest, Raised, Expanded, Reaches}
 use Rattle.reachable.specs.Pruning.{Pruned}
 use Rattle.reachable.proofs.Raising.{highest-once}
-
-pub one-begun : {n : ℕ} {w v u : List ℕ} → Begun n w v → Begun n w u → v ≡ u
-one-begun p q = one-stored (p .wipes) (q .wipes) .1
 
 pub one-marked : {n a when : ℕ} {w v u : List ℕ} → Marked n w a when v → Marked n w a when u → v ≡ u
 one-marked p q = p .is ∙ sym (q .is)

@@ -9,7 +9,6 @@ mod pruning;
 
 pub use closure::expand;
 pub use closure::reach;
-pub use fields::begin;
 pub use fields::is_flagged;
 pub use fields::is_marked;
 pub use fields::mark;

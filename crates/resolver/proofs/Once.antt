@@ -1,19 +1,16 @@
 -- The contract of `search` leaves no choice but in what docs/PROOFS.md lists: two results of one call have the same number, and where it is 0 the same
 -- energy and counts, and the same bytes where the records, their links and W's rows stand. Assumes nothing.
 use mathlib.Core.Path.{_≡_, refl, sym, ap, _∙_}
-use mathlib.Core.Bool.{true, _||_}
+use mathlib.Core.Bool.{_||_}
 use mathlib.Core.List.{List}
 use Prim.Native.Nat.{ℕ, _+_, _≤_}
 use native.Mathlib.Omega.{arith}
-use lib.Dec.{ltb}
 use lib.ListN.{length, take, drop}
-use borrow.Author.Tests.{ltb-true, lt-ltb, le-leb}
 use Rattle.spec.specs.Opcodes.{in-mode}
 use Rattle.spec.specs.Lists.{mem, total}
 use Rattle.spec.specs.Search.{Rec, kept, begin, dests, reached-by}
 use Rattle.spec.specs.Answer.{prepared}
 use Rattle.spec.specs.Rooms.{Lent, work-need}
-use Rattle.laws.proofs.Members.{and-both, and-true}
 use Rattle.lent.proofs.Once.{Same, same-num}
 use Rattle.layout.specs.Buffers.{Mem}
 use Rattle.layout.specs.Fields.{COUNT, HIGHEST, markAt, highAt, countAt}
@@ -27,6 +24,7 @@ use Rattle.reachable.specs.Marks.{flagged, markedBy}
 use Rattle.reachable.proofs.Raising.{highest-once}
 use Rattle.steps.specs.Runs.{tabled, recsIn}
 use Rattle.steps.specs.declared.Run.{Run}
+use Rattle.enter.proofs.Once.{marked-too}
 use Rattle.resolver.specs.Turns.{last-since, plan, Searched}
 
 -- what two results share where the number is 0
@@ -40,12 +38,6 @@ pub record OneSearch (mode : Mode) (code : List ℕ) (limit head : ℕ) (m m′ 
   pub beyond : drop (work-need (length code)) (m′ .w) ≡ drop (work-need (length code)) (m″ .w)
   pub flags : (x : ℕ) → mem x (flagged (m′ .w) (length code)) ≡ mem x (flagged (m″ .w) (length code))
   pub reached : (a : ℕ) → a ≤ length code → markedBy (m′ .w) (length code) a (d .counts .records + 1) ≡ markedBy (m″ .w) (length code) a (d .counts .records + 1)
-
--- an address has a mark that is no later, or none
-marked-too : (w v : List ℕ) (n a records : ℕ) → markAt w n a ≤ records + 1 → markedBy w n a (records + 1) ≡ markedBy v n a (records + 1) → (markAt w n a ≡ 0 → ⊥) → markAt v n a ≡ 0 → ⊥
-marked-too w v n a records l e ne z =
-    let on : markedBy w n a (records + 1) ≡ true = and-true (ltb 0 (markAt w n a)) _ (lt-ltb 0 (markAt w n a) (omega arith)) (le-leb (markAt w n a) (records + 1) l) in
-    omega (arith, ltb-true 0 (markAt v n a) (and-both (ltb 0 (markAt v n a)) _ (sym e ∙ on) .0))
 
 module _ {mode : Mode} {code : List ℕ} {limit head : ℕ} {m m′ m″ : Mem} {d e : Run} (f : Searched mode code limit head m m′ d) (g : Searched mode code limit head m m″ e) where
   pub one-code : d .code ≡ e .code

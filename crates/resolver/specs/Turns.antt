@@ -38,7 +38,7 @@ use Rattle.steps.specs.Runs.{tabled, recsIn, stOf, Did}
 use Rattle.steps.specs.declared.Plan.{Plan}
 use Rattle.steps.specs.declared.Level.{Level}
 use Rattle.steps.specs.declared.Run.{Run}
-use Rattle.resolver.specs.Fits.{Planned, preparedIn}
+use Rattle.enter.specs.Fits.{Planned, preparedIn}
 
 -- ---- between turns
 

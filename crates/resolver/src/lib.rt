@@ -1,6 +1,4 @@
 // The search: rounds of turns, each a tree of levels and parents, over the lent buffers.
-mod enter;
-mod levels;
 mod round;
 mod rounds;
 mod settle;

@@ -1,12 +1,12 @@
 // A turn of a block that takes turns: the first level, with the block's own state.
 // "A turn needs one address in P, then its state in S."
-use crate::enter::SHORT_P;
-use crate::enter::refused;
-use crate::levels::level;
+use enter::enter::SHORT_P;
+use enter::enter::refused;
 use exec::run::Own;
 use exec::run::run;
 use lent::copy;
 use lent::put16;
+use levels::level;
 use parents::taker::position_at;
 use steps::Level;
 use steps::Plan;

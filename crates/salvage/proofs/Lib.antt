@@ -2,6 +2,5 @@ pub mod Overs
 pub mod Sorted
 pub mod Owned
 pub mod Firsts
-pub mod Maps
 pub mod Printed
 pub mod Once

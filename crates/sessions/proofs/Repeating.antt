@@ -7,7 +7,7 @@ use native.Mathlib.Numerals.{add-one}
 use native.Mathlib.Omega.{arith}
 use native.Mathlib.Decide.{decLt}
 use lib.ListN.{length, getD, take, drop, set, length-append, take-append-drop, List·getD-append}
-use lib.Seq.{length-take-le, take-suc, getD-at}
+use lib.Seq.{length-take-le, take-suc, getD-at, take-append-seam, drop-append-seam}
 use Rattle.lent.specs.Bytes.{patch, numAt, Stored}
 use Rattle.lent.proofs.Patch.{patch-whole}
 use Rattle.lent.proofs.Numbers.{num-byte}
@@ -40,6 +40,14 @@ unfolding each
 each-take f b zero h g = refl
 each-take f b (suc k) h g =
     rw (each-take f b k (omega arith) (λ j l. g j (omega arith)), g k (omega arith)) (sym (take-suc b k 0 (omega arith)))
+
+-- what a run stands before is behind it
+module _ (f : ℕ → ℕ) (k : ℕ) (b : List ℕ) where
+  pub run-front : take k (each f k ++ b) ≡ each f k
+  run-front = rw (length-each f k) at (take-append-seam (each f k) b)
+
+  pub run-behind : drop k (each f k ++ b) ≡ b
+  run-behind = rw (length-each f k) at (drop-append-seam (each f k) b)
 
 -- the first i bytes of b are f's values
 pub record Run (f : ℕ → ℕ) (b b′ : List ℕ) (i : ℕ) : Type 0 where

@@ -1,10 +1,12 @@
 -- Lent buffers before and after a call. Assumes nothing.
 use mathlib.Core.Bool.{Bool, true, false, _&&_}
-use mathlib.Core.List.{List, [], _∷_}
-use Prim.Native.Nat.{ℕ, _+_, _*_, _%_, _^_}
+use mathlib.Core.List.{List, [], _∷_, _++_}
+use mathlib.Core.Path.{_≡_}
+use Prim.Native.Nat.{ℕ, _+_, _*_, _%_, _^_, min}
 use lib.Bits.{bitXor}
 use lib.Dec.{eqb}
-use lib.ListN.{drop}
+use lib.ListN.{length, drop}
+use Rattle.io.specs.Counts.{Counts}
 use Rattle.sessions.specs.Input.{each}
 
 -- the byte that stands at i before a call
@@ -14,6 +16,12 @@ mark i = i % 128 + 1
 -- a room of n bytes before a call
 abbrev pub marks : ℕ → List ℕ
 marks n = each mark n
+
+-- so many bytes of b as are wanted, if they are there, with their marks: k is their count, and all else is as it was
+pub record Filled (wanted : ℕ) (b b′ : List ℕ) (k : ℕ) : Type 0 where
+  pub count : k ≡ min wanted (length b)
+  pub is : b′ ≡ marks k ++ drop k b
+  pub counts : Counts k b′
 
 -- every byte is f of its place, the first one of i
 unfoldable pub like : (ℕ → ℕ) → ℕ → List ℕ → Bool

@@ -35,26 +35,6 @@ caseAt input at =
       next = size .next;
     }
 
--- the seven buffers with their marks
-pub record Marked (m : Mem) (out : List ℕ) (m′ : Mem) (out′ : List ℕ) : Type 0 where
-  pub w : m′ .w ≡ marks (length (m .w))
-  pub p : m′ .p ≡ marks (length (m .p))
-  pub s : m′ .s ≡ marks (length (m .s))
-  pub t : m′ .t ≡ marks (length (m .t))
-  pub r : m′ .r ≡ marks (length (m .r))
-  pub q : m′ .q ≡ marks (length (m .q))
-  pub out-is : out′ ≡ marks (length out)
-
--- what the answer leaves of them
-pub record Told (a : Answer) (m : Mem) (out : List ℕ) (m′ : Mem) (out′ : List ℕ) : Type 0 where
-  pub w : m′ .w ≡ room-after a (marks (length (m .w)))
-  pub p : m′ .p ≡ room-after a (marks (length (m .p)))
-  pub s : m′ .s ≡ room-after a (marks (length (m .s)))
-  pub t : m′ .t ≡ room-after a (marks (length (m .t)))
-  pub r : m′ .r ≡ room-after a (marks (length (m .r)))
-  pub q : m′ .q ≡ room-after a (marks (length (m .q)))
-  pub out-is : out′ ≡ output-after a (marks (length out))
-
 -- b, of which the first k bytes were lent, and are `f` of their marks
 abbrev pub lending : (List ℕ → List ℕ) → ℕ → List ℕ → List ℕ
 lending f k b = f (marks (min k (length b))) ++ drop (min k (length b)) b

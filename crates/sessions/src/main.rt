@@ -7,42 +7,9 @@ mod trial;
 use libc::STDIN_FILENO;
 use trial::trial;
 
-// Tries the cases from the first to the last.
-fn trials(
-    input: &[u8],
-    code: &mut [u8],
-    w: &mut [u8],
-    p: &mut [u8],
-    s: &mut [u8],
-    t: &mut [u8],
-    r: &mut [u8],
-    q: &mut [u8],
-    out: &mut [u8],
-) {
-    let mut at = 0;
-    while at < input.len() {
-        at = trial(input, at, code, w, p, s, t, r, q, out);
-    }
-}
-
-// Reads the cases and tries them.
+// Reads the cases and tries them, from the first to the last. The arrays are lent as slices here: by `main` itself, and the
+// prover would count to the length of each.
 fn run(
-    input: &mut [u8],
-    code: &mut [u8],
-    w: &mut [u8],
-    p: &mut [u8],
-    s: &mut [u8],
-    t: &mut [u8],
-    r: &mut [u8],
-    q: &mut [u8],
-    out: &mut [u8],
-) {
-    let n = io::read_full(STDIN_FILENO, input);
-    trials(&input[..n], code, w, p, s, t, r, q, out);
-}
-
-// The arrays as slices. Lent by `main` itself, the prover would count to the length of each.
-fn run_in(
     input: &mut [u8; 1048576],
     code: &mut [u8; 49153],
     w: &mut [u8; 3145984],
@@ -53,7 +20,12 @@ fn run_in(
     q: &mut [u8; 262144],
     out: &mut [u8; 1048576],
 ) {
-    run(input, code, w, p, s, t, r, q, out);
+    // Zero bytes stand behind the cases: the last one ends with its line, as all do.
+    let n = io::read_full(STDIN_FILENO, input);
+    let mut at = 0;
+    while at < n {
+        at = trial(input, at, code, w, p, s, t, r, q, out);
+    }
 }
 
 // The buffers: the cases, a code one byte too long, W for the longest code, and what the cases need of the others.
@@ -67,7 +39,7 @@ fn main() {
     let mut r = [0u8; 262144];
     let mut q = [0u8; 262144];
     let mut out = [0u8; 1048576];
-    run_in(
+    run(
         &mut input,
         &mut code,
         &mut w,

@@ -2,9 +2,10 @@
 // "On 0 and 4 to 9, W, P, S, T, R, Q are all zero bytes on return. On 0 the output holds the answer and its other bytes stay."
 use std::num::wrapping_add_u64;
 ghost use mathlib.Core.Path.{_≡_};
-ghost use Prim.Native.Nat.{_*_, _%_, _^_};
+ghost use Prim.Native.Nat.{_*_, _%_, _^_, min};
 ghost use lib.ListN.{length, take};
-ghost use Rattle.sessions.specs.Room.{mark, marks, wiped, untouched, letterFrom, fnv};
+ghost use Rattle.io.specs.Counts.{Counts};
+ghost use Rattle.sessions.specs.Room.{mark, marks, Filled, wiped, untouched, letterFrom, fnv};
 
 // The byte that stands at `place` before a call: never 0, and not the same everywhere.
 fn mark(place: usize) -> u8
@@ -13,8 +14,17 @@ fn mark(place: usize) -> u8
     (place % 128 + 1) as u8
 }
 
+// So many of the room's bytes, or all that it has.
+pub fn part(wanted: usize, room: &[u8]) -> usize
+    ensures { λ r. ⌜ Counts r (now (room .entry)) ⌝ }
+    ensures { λ r. ⌜ r ≡ min wanted (length (now (room .entry))) ⌝ }
+{
+    let all = room.len();
+    if wanted < all { wanted } else { all }
+}
+
 // Puts its mark at every byte.
-pub fn fill(room: &mut [u8])
+fn fill(room: &mut [u8])
     ensures { λ _. ⌜ now (room .exit) ≡ marks (length (now (room .entry))) ⌝ }
 {
     let mut i = 0;
@@ -22,6 +32,15 @@ pub fn fill(room: &mut [u8])
         room[i] = mark(i);
         i += 1;
     }
+}
+
+// Puts its mark at so many of the room's bytes, or all that it has, and gives their count.
+pub fn fill_part(wanted: usize, room: &mut [u8]) -> usize
+    ensures { λ k. ⌜ Filled wanted (now (room .entry)) (now (room .exit)) k ⌝ }
+{
+    let end = part(wanted, room);
+    fill(&mut room[..end]);
+    end
 }
 
 // Are the bytes from `from` on all 0?
@@ -53,7 +72,7 @@ fn all_marked(room: &[u8], from: usize) -> bool
 }
 
 // What the bytes from `from` on are: `0` all zero, `x` all their marks, `-` none there, `?` anything else.
-pub fn letter(room: &[u8], from: usize) -> u8
+fn letter(room: &[u8], from: usize) -> u8
     ensures { λ r. ⌜ r ≡ letterFrom (now (room .entry)) from ⌝ }
 {
     let wiped = all_zero(room, from);
@@ -68,6 +87,14 @@ pub fn letter(room: &[u8], from: usize) -> u8
         return b'x';
     }
     b'?'
+}
+
+// The same of so many of the room's bytes, or all that it has.
+pub fn letter_part(wanted: usize, room: &[u8], from: usize) -> u8
+    ensures { λ r. ⌜ r ≡ letterFrom (take (min wanted (length (now (room .entry)))) (now (room .entry))) from ⌝ }
+{
+    let end = part(wanted, room);
+    letter(&room[..end], from)
 }
 
 // FNV-1a of 64 bits, over the first `count` bytes.

@@ -3,19 +3,16 @@
 use crate::input::number;
 use crate::input::repeated;
 use crate::room::checksum;
-use crate::room::fill;
-use crate::room::letter;
+use crate::room::fill_part;
+use crate::room::letter_part;
+use crate::room::part;
 use aznifrem::aznifrem_map;
 use libc::STDOUT_FILENO;
 ghost use mathlib.Core.Path.{_≡_};
-ghost use Prim.Native.Nat.{_≤_, _<_, min};
+ghost use Prim.Native.Nat.{_≤_, _<_};
 ghost use lib.ListN.{length};
-ghost use Rattle.spec.specs.Opcodes.{in-mode};
-ghost use Rattle.spec.specs.Answer.{answer};
 ghost use Rattle.layout.specs.Buffers.{buffers};
-ghost use Rattle.io.specs.Counts.{Counts};
-ghost use Rattle.answer.specs.Contracts.{lentOf};
-ghost use Rattle.sessions.specs.Trial.{caseAt, Marked, Told, reply, Lending, Tried};
+ghost use Rattle.sessions.specs.Trial.{caseAt, reply, Lending, Tried};
 
 // What the numbers of a case say, and the place after them.
 struct Case {
@@ -84,7 +81,8 @@ fn numbers(input: &[u8], at: usize) -> Case
     }
 }
 
-// Lends as much of each buffer as the case says.
+// Lends as much of each buffer as the case says, with every lent byte of the rooms and the output marked, to the entry, for
+// records of kind 8 and in mode 0, and tells what came of it.
 fn lend(
     case: Case,
     code: &[u8],
@@ -103,15 +101,17 @@ fn lend(
         (buffers (now (w .exit)) (now (p .exit)) (now (s .exit)) (now (t .exit)) (now (r .exit)) (now (q .exit))) (now (out .exit)) ⌝ }
 {
     let n = part(case.length, code);
-    let w_end = part(case.w, w);
-    let p_end = part(case.p, p);
-    let s_end = part(case.s, s);
-    let t_end = part(case.t, t);
-    let r_end = part(case.r, r);
-    let q_end = part(case.q, q);
-    let out_end = part(case.out, out);
-    tell(
-        case.limit,
+    let w_end = fill_part(case.w, w);
+    let p_end = fill_part(case.p, p);
+    let s_end = fill_part(case.s, s);
+    let t_end = fill_part(case.t, t);
+    let r_end = fill_part(case.r, r);
+    let q_end = fill_part(case.q, q);
+    let out_end = fill_part(case.out, out);
+    let answer = aznifrem_map(
+        case.limit as u64,
+        1,
+        0,
         &code[..n],
         &mut w[..w_end],
         &mut p[..p_end],
@@ -121,61 +121,7 @@ fn lend(
         &mut q[..q_end],
         &mut out[..out_end],
     );
-}
-
-// So many of the room's bytes, or all that it has.
-fn part(wanted: usize, room: &[u8]) -> usize
-    ensures { λ r. ⌜ Counts r (now (room .entry)) ⌝ }
-    ensures { λ r. ⌜ r ≡ min wanted (length (now (room .entry))) ⌝ }
-{
-    let all = room.len();
-    if wanted < all { wanted } else { all }
-}
-
-// Calls the entry, for records of kind 8 and in mode 0, with every lent byte marked, and tells what came of it.
-fn tell(
-    limit: usize,
-    code: &[u8],
-    w: &mut [u8],
-    p: &mut [u8],
-    s: &mut [u8],
-    t: &mut [u8],
-    r: &mut [u8],
-    q: &mut [u8],
-    out: &mut [u8],
-)
-    ensures { λ _. ⌜ Told
-        (answer (in-mode 0)
-        (lentOf (buffers (now (w .entry)) (now (p .entry)) (now (s .entry)) (now (t .entry)) (now (r .entry)) (now (q .entry))) (now (out .entry)))
-        limit 1 (now (code .entry)))
-        (buffers (now (w .entry)) (now (p .entry)) (now (s .entry)) (now (t .entry)) (now (r .entry)) (now (q .entry))) (now (out .entry))
-        (buffers (now (w .exit)) (now (p .exit)) (now (s .exit)) (now (t .exit)) (now (r .exit)) (now (q .exit))) (now (out .exit)) ⌝ }
-{
-    fill_all(w, p, s, t, r, q, out);
-    let answer = aznifrem_map(limit as u64, 1, 0, code, w, p, s, t, r, q, out);
-    report(answer, w, p, s, t, r, q, out);
-}
-
-// Puts its mark at every byte of each.
-fn fill_all(
-    w: &mut [u8],
-    p: &mut [u8],
-    s: &mut [u8],
-    t: &mut [u8],
-    r: &mut [u8],
-    q: &mut [u8],
-    out: &mut [u8],
-)
-    ensures { λ _. ⌜ Marked (buffers (now (w .entry)) (now (p .entry)) (now (s .entry)) (now (t .entry)) (now (r .entry)) (now (q .entry))) (now (out .entry))
-        (buffers (now (w .exit)) (now (p .exit)) (now (s .exit)) (now (t .exit)) (now (r .exit)) (now (q .exit))) (now (out .exit)) ⌝ }
-{
-    fill(w);
-    fill(p);
-    fill(s);
-    fill(t);
-    fill(r);
-    fill(q);
-    fill(out);
+    report(answer, case, w, p, s, t, r, q, out);
 }
 
 // The number of a refusal, or 0: a map has 18 bytes at least.
@@ -187,7 +133,17 @@ fn refusal(answer: u64) -> u64
 
 // Writes the number, the count of bytes written, their checksum, and a letter for each lent buffer;
 // the output's is for what lies behind the bytes written.
-fn report(answer: u64, w: &[u8], p: &[u8], s: &[u8], t: &[u8], r: &[u8], q: &[u8], out: &[u8]) {
+fn report(
+    answer: u64,
+    case: Case,
+    w: &[u8],
+    p: &[u8],
+    s: &[u8],
+    t: &[u8],
+    r: &[u8],
+    q: &[u8],
+    out: &[u8],
+) {
     let number = refusal(answer);
     let written = (answer - number) as usize;
     io::print_decimal(STDOUT_FILENO, number);
@@ -197,13 +153,13 @@ fn report(answer: u64, w: &[u8], p: &[u8], s: &[u8], t: &[u8], r: &[u8], q: &[u8
     io::print_hex(STDOUT_FILENO, checksum(out, written), 16);
     let letters = [
         b' ',
-        letter(w, 0),
-        letter(p, 0),
-        letter(s, 0),
-        letter(t, 0),
-        letter(r, 0),
-        letter(q, 0),
-        letter(out, written),
+        letter_part(case.w, w, 0),
+        letter_part(case.p, p, 0),
+        letter_part(case.s, s, 0),
+        letter_part(case.t, t, 0),
+        letter_part(case.r, r, 0),
+        letter_part(case.q, q, 0),
+        letter_part(case.out, out, written),
         b'\n',
     ];
     io::write_all(STDOUT_FILENO, &letters);

@@ -41,11 +41,11 @@ fn resolved(bytes: &[u8], parent: usize, lower: usize, symbol: StackSym) -> Stac
 
 // Writes the child's cells over the parent, which lies in w.
 fn map_own(
+    w: &[u8],
     s: &mut [u8],
     child: usize,
     upper: usize,
     to: usize,
-    w: &[u8],
     parent: usize,
     lower: usize,
 )
@@ -77,11 +77,11 @@ fn map_kept(s: &mut [u8], child: usize, upper: usize, to: usize, parent: usize, 
 
 // Composes the child's state with a parent's own, which was run into w, and gives the number of cells from `to` on.
 pub fn compose_own(
+    w: &[u8],
     s: &mut [u8],
     child: usize,
     upper: usize,
     to: usize,
-    w: &[u8],
     parent: usize,
     lower: usize,
 ) -> usize
@@ -89,7 +89,7 @@ pub fn compose_own(
     ensures { λ r. ⌜ Composed (now (s .entry)) to (compose (stackAt (now (s .entry)) child upper) (stackAt (now (w .entry)) parent lower)) (now (s .exit)) r ⌝ }
 {
     let base = base_at(s, child, upper);
-    map_own(s, child, upper, to, w, parent, lower);
+    map_own(w, s, child, upper, to, parent, lower);
     if lower - 1 <= base {
         return upper;
     }

@@ -12,5 +12,4 @@ pub mod Found
 pub mod Sound
 pub mod Takes
 pub mod Lands
-pub mod Meets
 pub mod Once

@@ -13,12 +13,12 @@ ghost use Rattle.steps.specs.Lands.{Lands, Noted};
 
 // Records the path of np addresses with the entry's destination and its state, or with none, unless it is so recorded, and marks a new destination.
 pub fn land(
-    p: &[u8],
-    np: usize,
     w: &mut [u8],
+    p: &[u8],
+    s: &mut [u8],
     r: &mut [u8],
     q: &mut [u8],
-    s: &mut [u8],
+    np: usize,
     plan: Plan,
     counts: Counts,
     entry: Entry,
@@ -28,12 +28,12 @@ pub fn land(
         (mem (now (w .exit)) (now (r .exit)) (now (q .exit)) (now (s .exit))) a ⌝ }
 {
     let answer = record_entry(
-        p,
-        np,
         w,
+        p,
+        s,
         r,
         q,
-        s,
+        np,
         plan.rooms,
         counts,
         plan.n,

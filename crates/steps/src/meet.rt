@@ -16,7 +16,7 @@ pub struct Meeting {
 }
 
 // Looks up what is seen, right after the cells in use, and remembers it if it is new.
-pub fn meet(t: &mut [u8], s: &[u8], plan: Plan, counts: Counts, seen: Seen) -> Meeting
+pub fn meet(s: &[u8], t: &mut [u8], plan: Plan, counts: Counts, seen: Seen) -> Meeting
     requires { ⌜ Meets (now t) (now s) plan counts seen ⌝ }
     ensures { λ r. ⌜ Met (now (t .entry)) (now (s .entry)) plan counts seen (now (t .exit)) r ⌝ }
 {
@@ -29,14 +29,14 @@ pub fn meet(t: &mut [u8], s: &[u8], plan: Plan, counts: Counts, seen: Seen) -> M
         };
     }
     let sum = stamp_of(s, seen);
-    if find_row(t, s, plan.shelves, counts.rows, seen, sum) {
+    if find_row(s, t, plan.shelves, counts.rows, seen, sum) {
         return Meeting {
             code: 0,
             met: true,
             counts,
         };
     }
-    let answer = remember(t, s, rooms, counts, plan.shelves, seen, sum);
+    let answer = remember(s, t, rooms, counts, plan.shelves, seen, sum);
     let after = answer.counts;
     Meeting {
         code: answer.code,

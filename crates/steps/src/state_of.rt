@@ -59,11 +59,11 @@ fn take_direct(
         };
     }
     let made = compose_own(
+        w,
         s,
         9 * level.from,
         level.cells,
         9 * counts.used,
-        w,
         own.at,
         own.n,
     );

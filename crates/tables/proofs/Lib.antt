@@ -5,7 +5,6 @@ pub mod Orders
 pub mod Lookup
 pub mod Links
 pub mod Frames
-pub mod Adds
 pub mod Shorts
 pub mod Counted
 pub mod Noted

@@ -10,10 +10,6 @@ use Rattle.tables.specs.declared.row.Sums.{Sums}
 unfoldable pub mixed : ℕ → ℕ → ℕ → ℕ
 mixed k sum x = (sum * k + x) % 2 ^ 32
 
-unfoldable pub sums : ℕ → List ℕ → ℕ
-sums sum [] = sum
-sums sum (x ∷ xs) = sums (mixed 37 sum x) xs
-
 -- a symbol as a number
 unfoldable pub weight : Sym → ℕ
 weight x = (value x + tag x * 1000000) % 2 ^ 32

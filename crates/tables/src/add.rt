@@ -61,12 +61,12 @@ fn keep_state(s: &mut [u8], room: usize, kept: usize, from: usize, cells: usize)
 
 // Appends a record of the path in hand, whose sum is given, where there is room for it.
 pub fn add_record(
-    p: &[u8],
-    np: usize,
     w: &mut [u8],
+    p: &[u8],
+    s: &mut [u8],
     r: &mut [u8],
     q: &mut [u8],
-    s: &mut [u8],
+    np: usize,
     rooms: Rooms,
     counts: Counts,
     size: usize,

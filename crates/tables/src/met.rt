@@ -31,8 +31,8 @@ fn counted_row(counts: Counts, seen: Seen) -> Counts
 
 // Remembers what was seen, whose sum is given, where T has room.
 pub fn remember(
-    t: &mut [u8],
     s: &[u8],
+    t: &mut [u8],
     rooms: Rooms,
     counts: Counts,
     buckets: usize,

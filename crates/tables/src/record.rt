@@ -72,11 +72,11 @@ pub fn bucket_of(sum: usize, buckets: usize) -> usize
 
 // Whether one of the records leads to `to` by the path in hand, whose sum is given.
 pub fn recorded(
-    p: &[u8],
-    np: usize,
     w: &[u8],
+    p: &[u8],
     r: &[u8],
     q: &[u8],
+    np: usize,
     size: usize,
     buckets: usize,
     records: usize,

@@ -30,12 +30,12 @@ fn shortage(rooms: Rooms, counts: Counts, np: usize, cells: usize) -> usize
 
 // Records the path in hand with the entry's destination and its state, which is kept, or with no destination, unless it is so recorded.
 pub fn record_entry(
-    p: &[u8],
-    np: usize,
     w: &mut [u8],
+    p: &[u8],
+    s: &mut [u8],
     r: &mut [u8],
     q: &mut [u8],
-    s: &mut [u8],
+    np: usize,
     rooms: Rooms,
     counts: Counts,
     size: usize,
@@ -47,13 +47,13 @@ pub fn record_entry(
         (mem (now (w .exit)) (now (r .exit)) (now (q .exit)) (now (s .exit))) a ⌝ }
 {
     let sum = path_sum(p, np);
-    if recorded(p, np, w, r, q, size, buckets, counts.records, entry.to, sum) {
+    if recorded(w, p, r, q, np, size, buckets, counts.records, entry.to, sum) {
         return Reply { code: 0, counts };
     }
     let code = shortage(rooms, counts, np, entry.cells);
     if code != 0 {
         return Reply { code, counts };
     }
-    let counts = add_record(p, np, w, r, q, s, rooms, counts, size, buckets, entry, sum);
+    let counts = add_record(w, p, s, r, q, np, rooms, counts, size, buckets, entry, sum);
     Reply { code: 0, counts }
 }

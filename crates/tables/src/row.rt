@@ -119,7 +119,7 @@ pub fn stamp_of(s: &[u8], seen: Seen) -> usize
 }
 
 // Whether a row remembers `seen`, whose sum is given.
-fn is_row(t: &[u8], s: &[u8], row: usize, seen: Seen, sum: usize) -> bool
+fn is_row(s: &[u8], t: &[u8], row: usize, seen: Seen, sum: usize) -> bool
     requires { ⌜ Compares (now t) (now s) row seen sum ⌝ }
     ensures { λ r. ⌜ r ≡ isMet (now (t .entry)) (now (s .entry)) (seenMet (now (s .entry)) seen) row ⌝ }
 {
@@ -145,7 +145,7 @@ fn is_row(t: &[u8], s: &[u8], row: usize, seen: Seen, sum: usize) -> bool
 }
 
 // Whether one of the rows remembers `seen`, whose sum is given.
-pub fn find_row(t: &[u8], s: &[u8], buckets: usize, rows: usize, seen: Seen, sum: usize) -> bool
+pub fn find_row(s: &[u8], t: &[u8], buckets: usize, rows: usize, seen: Seen, sum: usize) -> bool
     requires { ⌜ Finds (now t) (now s) buckets rows seen sum ⌝ }
     ensures { λ r. ⌜ r ≡ any (isMet (now (t .entry)) (now (s .entry)) (seenMet (now (s .entry)) seen)) rows ⌝ }
 {
@@ -154,7 +154,7 @@ pub fn find_row(t: &[u8], s: &[u8], buckets: usize, rows: usize, seen: Seen, sum
     while cur != 0 {
         let row = cur - 1;
         cur = get32(t, SEEN * row + LINK);
-        if is_row(t, s, row, seen, sum) {
+        if is_row(s, t, row, seen, sum) {
             return true;
         }
     }

@@ -1,3 +1,2 @@
 pub mod Figures
-pub mod Texts
 pub mod Once

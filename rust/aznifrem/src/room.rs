@@ -69,12 +69,13 @@ impl Room {
     }
 
     /// What a room has before anything asks for more; W is lent by the code's length, and the text's
-    /// to calls that write one.
-    pub(crate) fn start(self) -> usize {
+    /// to calls that write one. A call wipes what the search works in, so a mapper of short codes has little of it.
+    pub(crate) fn start(self, code_length: usize) -> usize {
         match self {
             Room::W => 0,
             Room::P => 4 * KIB,
-            _ => 64 * KIB,
+            Room::Output | Room::Text => 64 * KIB,
+            _ => code_length.clamp(16 * KIB, 64 * KIB).next_power_of_two(),
         }
     }
 }

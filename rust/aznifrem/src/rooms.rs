@@ -63,7 +63,7 @@ impl Rooms {
         self.needed = Default::default();
         self.needed[Room::W as usize] = work(code_length);
         for room in ROOMS {
-            let start = room.start().min(self.ceiling / 8);
+            let start = room.start(code_length).min(self.ceiling / 8);
             let lent = self.lent_to(room);
             if self.lends(room) && (lent < start || lent > KEPT) {
                 self.allocate(room, start)?;

@@ -21,15 +21,16 @@ fn a_room_grows_until_the_answer_fits() {
     let mut mapper = Mapper::new();
     answered(&mut mapper, &RETURN);
     assert_eq!((mapper.calls(), mapper.allocations()), (1, 7));
-    // More than 64 KiB of answer: it grows once, and W with no call.
+    // W, and S, T, R and Q by the code's length, with no call; then more than 32 KiB of T and of R, and
+    // more than 64 KiB of answer.
     assert_eq!(answered(&mut mapper, &fan(1_600)).records.len(), 1_600);
-    assert_eq!((mapper.calls(), mapper.allocations()), (3, 9));
-    // 571,401 bytes of S and 163,712 of T: four and two doublings.
+    assert_eq!((mapper.calls(), mapper.allocations()), (5, 15));
+    // 571,401 bytes of S, 163,712 of T and more than 32 KiB of Q: five, two and one doublings.
     assert_eq!(answered(&mut mapper, &diamonds(10)).records.len(), 1_024);
-    assert_eq!((mapper.calls(), mapper.allocations()), (10, 15));
+    assert_eq!((mapper.calls(), mapper.allocations()), (14, 23));
     // The rooms are kept: nothing grows again.
     assert_eq!(answered(&mut mapper, &diamonds(10)).records.len(), 1_024);
-    assert_eq!((mapper.calls(), mapper.allocations()), (11, 15));
+    assert_eq!((mapper.calls(), mapper.allocations()), (15, 23));
 }
 
 #[test]

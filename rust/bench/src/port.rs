@@ -3,9 +3,11 @@
 use aznifrem::{HIGHEST_LIMIT, LONGEST_CODE, Lent, call, call_json};
 
 const ROOMS: usize = 8;
+const OUTPUT: usize = 6;
 const TEXT: usize = 7;
 
-/// Rooms as the binding lends them: 4 KiB of P, 64 KiB of the others, doubled when refused.
+/// Rooms as the binding lends them: 4 KiB of P, 16 KiB to 64 KiB of S, T, R and Q by the code's
+/// length, 64 KiB of the others, doubled when refused.
 pub struct Rooms {
     held: [Vec<u8>; ROOMS],
 }
@@ -17,7 +19,8 @@ impl Rooms {
             0 => 64 * LONGEST_CODE + 256,
             1 => 4 << 10,
             TEXT if !texted => 0,
-            _ => 64 << 10,
+            OUTPUT | TEXT => 64 << 10,
+            _ => 0,
         };
         let held = std::array::from_fn(|room| vec![0; start(room)]);
         Rooms { held }
@@ -46,6 +49,12 @@ impl Rooms {
 
     /// Grows what is named until the call is answered; a refusal's number if the ceiling is met.
     pub fn grow_for(&mut self, code: &[u8], ceiling: usize) -> Result<(), u64> {
+        let start = code.len().clamp(16 << 10, 64 << 10).next_power_of_two();
+        for room in &mut self.held[2..OUTPUT] {
+            if room.len() < start {
+                *room = vec![0; start];
+            }
+        }
         loop {
             let number = self.call(code);
             let room = match number {

@@ -6,7 +6,7 @@ use Rattle.aznifrem.proofs.aznifrem_json.Tie as tie
 
 -- where the call has answered
 abbrev called : tie.After-slice-known16 → tie.After-map-json
-called c = c .before .before .before .before .before .before .before .before .before .before .before .before .before .before .before .before
+called c = search
 
 given-both-requires : tie.Need-given-both-requires
 given-both-requires c κs = json-few (called c .map-json .ensures)

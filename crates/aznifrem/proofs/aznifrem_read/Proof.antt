@@ -1,5 +1,6 @@
 -- `aznifrem_read` meets its contract: the number and the value as one. Assumes nothing.
-use Rattle.aznifrem.proofs.ReadExports.{read-low, read-given}
+mod ReadExports
+use ReadExports.{read-low, read-given}
 use borrow.Author.Needs.{needs}
 use Rattle.aznifrem.proofs.aznifrem_read.Statement.{statement}
 use Rattle.aznifrem.proofs.aznifrem_read.Tie as tie

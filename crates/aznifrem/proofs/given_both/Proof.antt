@@ -8,7 +8,9 @@ returns : tie.Need-returns
 returns c = record { number = λ _. refl; counts = λ z. absurd (c .if1 .taken z) }
 
 returns-2 : tie.Need-returns-2
-returns-2 c = record { number = λ h. absurd (h (c .before .before .if1 .left)); counts = λ _. refl }
+returns-2 c =
+    let at-else : tie.Else1 = search in
+    record { number = λ h. absurd (h (at-else .if1 .left)); counts = λ _. refl }
 
 pub given-both-spec : {M : Type 1} → statement M
 given-both-spec = tie.close (tie.spec returns (λ c. search needs) (λ c. search needs) returns-2)

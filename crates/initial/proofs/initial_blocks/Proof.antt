@@ -1,6 +1,7 @@
 -- `initial_blocks` meets its contract: the cutting and the checks, joined. Assumes nothing.
+mod Joining
+use Joining.{joined}
 use borrow.Author.Needs.{needs}
-use Rattle.initial.proofs.Joining.{joined}
 use Rattle.initial.proofs.initial_blocks.Statement.{statement}
 use Rattle.initial.proofs.initial_blocks.Tie as tie
 

@@ -1,7 +1,10 @@
+mod Settling
+mod PrepareLoop
+mod Ends
+use PrepareLoop.{Pass, pass-none, pass-row, pass-more}
+use Ends.{prepared-all}
 use borrow.Author.Needs.{needs}
 use Rattle.exec.specs.Modes.{modeOf}
-use Rattle.parents.proofs.Ends.{prepared-all}
-use Rattle.parents.proofs.Pass.{Pass, pass-none, pass-row, pass-more}
 use Rattle.parents.proofs.prepare.Statement.{statement}
 use Rattle.parents.proofs.prepare.Tie as tie
 

@@ -8,16 +8,16 @@ use Rattle.answer.proofs.both.map_json.Tie as tie
 
 -- where the rooms are wiped, where all is written, where the map is found, where the mode is read
 abbrev wiped : tie.After-slice-known22 → tie.After-wipe-rooms
-wiped c = c .before .before .before .before .before .before .before .before .before .before .before .before
+wiped c = search
 
 abbrev wrote : tie.After-wipe-rooms-arg6 → tie.After-put-both
-wrote c = c .before .before .before .before .before .before .before .before .before .before
+wrote c = search
 
 abbrev found : tie.After-put-both-arg5 → tie.After-find
-found c = c .before .before .before .before .before .before .before .before .before .before .before .before .before .before .before .before .before
+found c = search
 
 abbrev moded : tie.After-find-arg6 → tie.After-mode-of
-moded c = c .before .before .before .before .before .before
+moded c = search
 
 abbrev written : tie.After-slice-known22 → tie.After-put-both
 written c = wrote (wiped c .before)
@@ -69,8 +69,9 @@ returns-2 : tie.Need-returns-2
 returns-2 c =
     let d = begun c in
     let mode = moded (d .before) in
-    let tests = mode .before .before .early .ensures in
-    let taken = mode .before .if1 .left in
+    let at-if = mode .before in
+    let tests = at-if .before .early .ensures in
+    let taken = at-if .if1 .left in
     let kept = d .find .kept .1 .1 .1 in
     both-run _ _ _ _ _ _ _ (early-lends tests taken) (early-mode tests taken) (mode .mode-of .ensures) (both-told (d .find .ensures) (written c .put-both .ensures)) (wiped c .wipe-rooms .ensures)
     (kept .0) (kept .1 .0) (kept .1 .1 .0) (kept .1 .1 .1 .0) (kept .1 .1 .1 .1 .0) (kept .1 .1 .1 .1 .1 .0)

@@ -6,13 +6,19 @@ use Rattle.answer.proofs.both.put_both.Tie as tie
 
 -- where both sizes are told, where no room was short, where all begins
 abbrev sized : tie.After-write-text-arg → tie.After-units
-sized c = c .before .before .before .before .before .before .before
+sized c = search
 
 abbrev fits : tie.After-units → tie.Else1
-fits c = c .before .before .before
+fits c = search
+
+abbrev fits-from-size : tie.After-units2 → tie.Else1
+fits-from-size c = search
+
+abbrev fits-from-write : tie.After-write-entries-arg → tie.Else1
+fits-from-write c = search
 
 abbrev entered : tie.Else1 → tie.Start
-entered c = c .before .before .before .before .before .before .before
+entered c = search
 
 returns : tie.Need-returns
 returns c = search both-short
@@ -22,7 +28,7 @@ text-size-requires c κs = writes-any (entered (c .before) .pre (c .before .if1 
 
 entries-size-requires : tie.Need-entries-size-requires
 entries-size-requires c κs =
-    let d = fits (c .before .before) in
+    let d = fits-from-size c in
     writes-any (entered d .pre (d .if1 .left))
 
 returns-2 : tie.Need-returns-2
@@ -33,7 +39,7 @@ returns-3 c = search both-eleven
 
 write-entries-requires : tie.Need-write-entries-requires
 write-entries-requires c κs =
-    let d = fits (c .before .before) in
+    let d = fits-from-write c in
     entered d .pre (d .if1 .left)
 
 returns-4 : tie.Need-returns-4

@@ -3,11 +3,14 @@ use borrow.Author.Needs.{needs}
 use Rattle.answer.proofs.find.merge.Statement.{statement}
 use Rattle.answer.proofs.find.merge.Tie as tie
 
+abbrev graphed : tie.After-slice-known4 → tie.After-graph
+graphed c = search
+
 abbrev left : tie.After-graph-arg2 → tie.Else1
-left c = c .before .before .before
+left c = search
 
 abbrev entered : tie.Else1 → tie.Start
-entered c = c .before .before .before .before .before
+entered c = search
 
 returns : tie.Need-returns
 returns c = λ z. absurd (c .if1 .taken z)
@@ -16,7 +19,7 @@ graph-requires : tie.Need-graph-requires
 graph-requires c κs = entered (left c) .pre (left c .if1 .left)
 
 returns-2 : tie.Need-returns-2
-returns-2 c = λ _. c .before .before .before .before .graph .ensures
+returns-2 c = λ _. graphed c .graph .ensures
 
 pub merge-spec : {M : Type 1} → statement M
 merge-spec =

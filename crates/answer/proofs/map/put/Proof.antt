@@ -5,13 +5,13 @@ use Rattle.answer.proofs.map.put.Statement.{statement}
 use Rattle.answer.proofs.map.put.Tie as tie
 
 abbrev wrote : tie.After-counted → tie.After-write-entries
-wrote c = c .before .before .before
+wrote c = search
 
 abbrev left : tie.After-write-entries-arg → tie.Else1
-left c = c .before .before
+left c = search
 
 abbrev entered : tie.Else1 → tie.Start
-entered c = c .before .before .before .before .before .before
+entered c = search
 
 returns : tie.Need-returns
 returns c = put-short _ _ _ _ _ _ (c .before .if1 .taken) (c .refused .ensures)

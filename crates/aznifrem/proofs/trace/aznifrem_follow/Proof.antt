@@ -1,5 +1,6 @@
 -- `aznifrem_follow` meets its contract: the number and the value as one. Assumes nothing.
-use Rattle.aznifrem.proofs.FollowExports.{follow-low, follow-given}
+mod FollowExports
+use FollowExports.{follow-low, follow-given}
 use borrow.Author.Needs.{needs}
 use Rattle.aznifrem.proofs.trace.aznifrem_follow.Statement.{statement}
 use Rattle.aznifrem.proofs.trace.aznifrem_follow.Tie as tie

@@ -8,7 +8,7 @@ add-records-requires : tie.Need-add-records-requires
 add-records-requires c κs = (search needs, search body-far)
 
 returns : tie.Need-returns
-returns c = search body-put
+returns c = (search body-put, search needs)
 
 pub add-body-spec : {M : Type 1} → statement M
 add-body-spec = tie.close (tie.spec (λ c κs. search needs) (λ c κs. search needs) add-records-requires (λ c. search needs) returns)

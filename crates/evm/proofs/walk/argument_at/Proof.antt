@@ -1,7 +1,8 @@
 -- `evm::walk::argument_at` meets its contract: the bytes passed so far are spelt. The measure is what is left of n. Assumes nothing.
+mod ArgumentLoop
+use ArgumentLoop.{Spells, spells-none, spells-more, spelled}
 use Prim.Native.Nat.{_-_}
 use borrow.Author.Needs.{needs}
-use Rattle.evm.proofs.Spells.{Spells, spells-none, spells-more, spelled}
 use Rattle.evm.proofs.walk.argument_at.Statement.{statement}
 use Rattle.evm.proofs.walk.argument_at.Tie as tie
 

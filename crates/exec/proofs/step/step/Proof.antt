@@ -10,6 +10,19 @@ use Rattle.exec.proofs.Turns.{steps-ready, steps-dups, steps-deepens, s
 use Rattle.exec.proofs.step.step.Statement.{statement}
 use Rattle.exec.proofs.step.step.Tie as tie
 
+-- The moments that the answers cite, from later ones: a far one is found by its type.
+abbrev to-entry : tie.Joined2 → tie.Start
+to-entry c = search
+
+abbrev to-entry-from-match : tie.At-match-came → tie.Start
+to-entry-from-match c = search
+
+abbrev to-if2 : tie.After-slice-known9 → tie.Joined2
+to-if2 c = search
+
+abbrev to-match : tie.After-slice-known10 → tie.At-match-came
+to-match c = search
+
 push-zero-requires : tie.Need-push-zero-requires
 push-zero-requires c κs = search steps-ready
 
@@ -42,12 +55,12 @@ swapped-requires c κs = search steps-deepens
 
 trade-requires : tie.Need-trade-requires
 trade-requires c κs =
-    let d = ⊎-elim {C = does (modeOf (c .before .before .before .before .before .args .mode)) (c .before .before .before .before .before .args .op) ≡ plain} (λ x. search plain-low) (λ x. ⊎-elim (λ y. search plain-mid) (λ y. search plain-high) x) (c .before .if2 .came) in
+    let d = ⊎-elim {C = does (modeOf (to-entry (c .before) .args .mode)) (to-entry (c .before) .args .op) ≡ plain} (λ x. search plain-low) (λ x. ⊎-elim (λ y. search plain-mid) (λ y. search plain-high) x) (c .before .if2 .came) in
     record { ready = search steps-ready; one = trades-plain _ _ (omega arith) d .0 }
 
 trade-requires-2 : tie.Need-trade-requires-2
 trade-requires-2 c κs =
-    let d = ⊎-elim {C = does (modeOf (c .before .before .before .before .args .mode)) (c .before .before .before .before .args .op) ≡ halts} (λ x. search halts-key) (λ x. search (does-halts, arith)) (c .before .match .came) in
+    let d = ⊎-elim {C = does (modeOf (to-entry-from-match (c .before) .args .mode)) (to-entry-from-match (c .before) .args .op) ≡ halts} (λ x. search halts-key) (λ x. search (does-halts, arith)) (c .before .match .came) in
     record { ready = search steps-ready; one = trades-halts _ _ (omega arith) d .0 }
 
 returns-2 : tie.Need-returns-2
@@ -82,12 +95,12 @@ returns-11 c = search on-swap
 
 returns-12 : tie.Need-returns-12
 returns-12 c =
-    let d = ⊎-elim {C = does (modeOf (c .before .before .before .before .before .before .before .before .args .mode)) (c .before .before .before .before .before .before .before .before .args .op) ≡ plain} (λ x. search plain-low) (λ x. ⊎-elim (λ y. search plain-mid) (λ y. search plain-high) x) (c .before .before .before .before .if2 .came) in
+    let d = ⊎-elim {C = does (modeOf (to-entry (to-if2 c) .args .mode)) (to-entry (to-if2 c) .args .op) ≡ plain} (λ x. search plain-low) (λ x. ⊎-elim (λ y. search plain-mid) (λ y. search plain-high) x) (to-if2 c .if2 .came) in
     search on-plain
 
 returns-13 : tie.Need-returns-13
 returns-13 c =
-    let d = ⊎-elim {C = does (modeOf (c .before .before .before .before .before .before .before .args .mode)) (c .before .before .before .before .before .before .before .args .op) ≡ halts} (λ x. search halts-key) (λ x. search (does-halts, arith)) (c .before .before .before .before .match .came) in
+    let d = ⊎-elim {C = does (modeOf (to-entry-from-match (to-match c) .args .mode)) (to-entry-from-match (to-match c) .args .op) ≡ halts} (λ x. search halts-key) (λ x. search (does-halts, arith)) (to-match c .match .came) in
     search ends-halts
 
 pub step-spec : {M : Type 1} → statement M

@@ -11,9 +11,6 @@ Inv-loop w₀ n r m i₀ w i = Noting n m w₀ r w i
 abbrev μ-loop : tie.MeasureT-loop
 μ-loop w₀ n r m i₀ w i = m - i
 
-begin-requires : tie.Need-begin-requires Inv-loop μ-loop
-begin-requires c κs = search needs
-
 loop-holds : tie.Need-loop-holds Inv-loop μ-loop
 loop-holds c = search note-start
 
@@ -41,7 +38,6 @@ note-all-spec =
     (tie.spec
     Inv-loop
     μ-loop
-    begin-requires
     loop-holds
     note-requires
     add-row

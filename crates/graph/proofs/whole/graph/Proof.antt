@@ -1,7 +1,8 @@
 -- `graph`: the blocks are merged, the records rewritten, and what is reached flagged. Assumes nothing.
+mod Finished
+use Finished.{graphed}
 use borrow.Author.Needs.{needs}
 use Rattle.graph.proofs.Asking.{notes-asked, rewrites-asked, prunes-asked}
-use Rattle.graph.proofs.Finished.{graphed}
 use Rattle.graph.proofs.whole.graph.Statement.{statement}
 use Rattle.graph.proofs.whole.graph.Tie as tie
 

@@ -1,6 +1,7 @@
 -- `turn` meets its contract: each way out keeps what is written and what is still to be cut together. Assumes nothing.
+mod Taking
+use Taking.{turn-asks, turn-room, turn-goes, turn-closes, turn-found, turn-waits, turn-ended}
 use borrow.Author.Needs.{needs}
-use Rattle.initial.proofs.Taking.{turn-asks, turn-room, turn-goes, turn-closes, turn-found, turn-waits, turn-ended}
 use Rattle.initial.proofs.cut.turn.Statement.{statement}
 use Rattle.initial.proofs.cut.turn.Tie as tie
 

@@ -14,6 +14,13 @@ Inv-loop mode code map w₀ from start block at₀ owner₀ w at owner = Looking
 abbrev μ-loop : tie.MeasureT-loop
 μ-loop mode code map w₀ from start block at₀ owner₀ w at owner = length map - at
 
+-- The moments that the answers cite, from later ones: a far one is found by its type.
+abbrev to-known : tie.After-judge-arg Inv-loop μ-loop → tie.After-shared-slice-known2 Inv-loop μ-loop
+to-known c = search
+
+abbrev to-entry : tie.After-judge-arg Inv-loop μ-loop → tie.Start Inv-loop μ-loop
+to-entry c = search
+
 loop-holds : tie.Need-loop-holds Inv-loop μ-loop
 loop-holds c = search looking-start
 
@@ -31,9 +38,7 @@ enum-known-own c = search needs
 
 judge-requires : tie.Need-judge-requires Inv-loop μ-loop
 judge-requires c κs =
-    let turn = c .before .before .before .before .before .before .before .before .before in
-    let lent = turn .before .before in
-    let bytes : Bytes (lent .before .before .args .map .now) = λ i. lent .shared-slice-known2 .given i .fits in
+    let bytes : Bytes (to-entry c .args .map .now) = λ i. to-known c .shared-slice-known2 .given i .fits in
     (search needs, (search looking-tables, search looking-path))
 
 enum-told : tie.Need-enum-told Inv-loop μ-loop

@@ -1,5 +1,6 @@
 -- `fill` meets its contract: each way out is a law of its own. Assumes nothing.
-use Rattle.inspector.proofs.Filling.{Filling, fill-start, fill-over, fill-in, fill-lent, fill-less, fill-on}
+mod FillLoop
+use FillLoop.{Filling, fill-start, fill-over, fill-in, fill-lent, fill-less, fill-on}
 use lib.ListN.{length}
 use Prim.Native.Nat.{_-_}
 use borrow.Author.Needs.{needs}

@@ -13,6 +13,28 @@ Inv-loop mode code map w₀ p first count i₀ last₀ x₀ w i last x = Passed 
 abbrev μ-loop : tie.MeasureT-loop
 μ-loop mode code map w₀ p first count i₀ last₀ x₀ w i last x = p .count - i
 
+-- The moments that the answers cite, from later ones: a far one is found by its type.
+abbrev to-joined-from-arg : tie.After-looked-arg Inv-loop μ-loop → tie.After-joined Inv-loop μ-loop
+to-joined-from-arg c = search
+
+abbrev to-looked : tie.After-slice-known3 Inv-loop μ-loop → tie.After-looked Inv-loop μ-loop
+to-looked c = search
+
+abbrev to-joined : tie.After-looked Inv-loop μ-loop → tie.After-joined Inv-loop μ-loop
+to-joined c = search
+
+abbrev to-else2 : tie.After-looked Inv-loop μ-loop → tie.Else2 Inv-loop μ-loop
+to-else2 c = search
+
+abbrev to-else1 : tie.After-joined Inv-loop μ-loop → tie.Else1 Inv-loop μ-loop
+to-else1 c = search
+
+abbrev to-sound : tie.After-joined Inv-loop μ-loop → tie.After-is-sound Inv-loop μ-loop
+to-sound c = search
+
+abbrev to-turn : tie.After-joined Inv-loop μ-loop → tie.In-loop Inv-loop μ-loop
+to-turn c = search
+
 loop-holds : tie.Need-loop-holds Inv-loop μ-loop
 loop-holds c = search passed-start
 
@@ -39,8 +61,8 @@ returns-2 c = search passed-unjoined
 
 looked-requires : tie.Need-looked-requires Inv-loop μ-loop
 looked-requires c κs =
-    let edge = c .before .before .before .before in
-    let turn = edge .before .before .before .before .before in
+    let edge = to-joined-from-arg c in
+    let turn = to-turn edge in
     (joined-lent (edge .joined .ensures), passed-looks (turn .before .loop .inv) (turn .loop-test .taken))
 
 add-place : tie.Need-add-place Inv-loop μ-loop
@@ -51,13 +73,13 @@ loop-less c = search passed-less
 
 loop-again : tie.Need-loop-again Inv-loop μ-loop
 loop-again c =
-    let ran = c .before .before in
-    let edge = ran .before .before .before .before .before in
-    let known = edge .before .before .before in
+    let ran = to-looked c in
+    let edge = to-joined ran in
+    let known = to-sound edge in
     let named = known .before in
     let turn = named .before in
-    passed-on (turn .before .loop .inv) (turn .loop-test .taken) (named .address .ensures) (known .is-sound .ensures) (edge .before .before .if1 .left)
-    (edge .joined .ensures) (ran .before .before .if2 .left) (ran .looked .ensures)
+    passed-on (turn .before .loop .inv) (turn .loop-test .taken) (named .address .ensures) (known .is-sound .ensures) (to-else1 edge .if1 .left)
+    (edge .joined .ensures) (to-else2 ran .if2 .left) (ran .looked .ensures)
 
 is-jumpdest-requires : tie.Need-is-jumpdest-requires Inv-loop μ-loop
 is-jumpdest-requires c κs = search needs

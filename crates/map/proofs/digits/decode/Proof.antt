@@ -1,17 +1,22 @@
 -- `decode`: after i turns i bytes are decoded. Assumes nothing.
+mod DecodeLoop
+use DecodeLoop.{Decoding, decoding-none, decoding-more, first-bad, second-bad, decoding-done, line-feed, odd, decodes-long}
 use Prim.Native.Nat.{_-_}
 use native.Mathlib.Omega.{arith}
 use lib.ListN.{length}
 use borrow.Author.Needs.{needs}
-use Rattle.map.proofs.Decoding.{Decoding, decoding-none, decoding-more, first-bad, second-bad, decoding-done, line-feed, odd, decodes-long}
 use Rattle.map.proofs.digits.decode.Statement.{statement}
 use Rattle.map.proofs.digits.decode.Tie as tie
 
 abbrev Inv-loop : tie.InvT-loop
-Inv-loop text code₀ size i₀ code i = Decoding text code₀ code i
+Inv-loop code₀ text size i₀ code i = Decoding text code₀ code i
 
 abbrev μ-loop : tie.MeasureT-loop
-μ-loop text code₀ size i₀ code i = length text - i
+μ-loop code₀ text size i₀ code i = length text - i
+
+-- The moment that an answer cites, from a later one: a far one is found by its type.
+abbrev to-loop : tie.After-get83 Inv-loop μ-loop → tie.At-loop Inv-loop μ-loop
+to-loop c = search
 
 returns : tie.Need-returns Inv-loop μ-loop
 returns c = search decodes-long
@@ -33,7 +38,8 @@ returns-4 c = search decoding-done
 
 returns-5 : tie.Need-returns-5 Inv-loop μ-loop
 returns-5 c =
-    line-feed (c .before .before .before .before .loop .inv) (omega arith) (search needs) (c .before .get83 .ensures) (search needs) (omega arith)
+    let at-get8 = c .before in
+    line-feed (to-loop at-get8 .loop .inv) (omega arith) (search needs) (at-get8 .get83 .ensures) (search needs) (omega arith)
 
 returns-6 : tie.Need-returns-6 Inv-loop μ-loop
 returns-6 c = search odd

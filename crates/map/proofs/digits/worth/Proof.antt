@@ -1,6 +1,7 @@
 -- `worth`: range by range. Assumes nothing.
+mod Worths
+use Worths.{worth-under, worth-figure, worth-between, worth-upper, worth-past, worth-lower, worth-over}
 use borrow.Author.Needs.{needs}
-use Rattle.map.proofs.Worths.{worth-under, worth-figure, worth-between, worth-upper, worth-past, worth-lower, worth-over}
 use Rattle.map.proofs.digits.worth.Statement.{statement}
 use Rattle.map.proofs.digits.worth.Tie as tie
 

@@ -1,6 +1,8 @@
 -- `put_answer`: a refusal, or a map. Assumes nothing.
+mod Items
+mod Telling
+use Telling.{refusal-fits, refusal-printed, map-lists, map-printed}
 use borrow.Author.Needs.{needs}
-use Rattle.map.proofs.Telling.{refusal-fits, refusal-printed, map-lists, map-printed}
 use Rattle.map.proofs.lines.put_answer.Statement.{statement}
 use Rattle.map.proofs.lines.put_answer.Tie as tie
 

@@ -17,14 +17,17 @@ Inv-loop raw from n out₀ at i₀ out i = (i ≤ n) × Stored (2 * i) out₀ at
 abbrev μ-loop : tie.MeasureT-loop
 μ-loop raw from n out₀ at i₀ out i = n - i
 
+abbrev to-loop : tie.After-get8 Inv-loop μ-loop → tie.At-loop Inv-loop μ-loop
+to-loop c = search
+
 loop-holds : tie.Need-loop-holds Inv-loop μ-loop
 loop-holds c = (search needs, stored-none _ _ (omega arith))
 
 loop-again : tie.Need-loop-again Inv-loop μ-loop
 loop-again c =
-    let put = c .before .before in
+    let put : tie.After-put-digits Inv-loop μ-loop = search in
     let got = put .before in
-    (search needs, hex-more _ _ _ (got .before .before .before .loop .inv .1) (omega arith) (got .get8 .ensures) (put .put-digits .ensures))
+    (search needs, hex-more _ _ _ (to-loop got .loop .inv .1) (omega arith) (got .get8 .ensures) (put .put-digits .ensures))
 
 returns : tie.Need-returns Inv-loop μ-loop
 returns c = search hex-done

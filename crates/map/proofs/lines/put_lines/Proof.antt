@@ -1,9 +1,10 @@
 -- `put_lines`: after some turns the entries passed are printed. Assumes nothing.
+mod Cutting
+use Cutting.{Walks, walks-none, starts, puts-line, walks-more, walks-done}
 use mathlib.Core.Path.{_≡_, refl}
 use Prim.Native.Nat.{_-_}
 use lib.ListN.{length}
 use borrow.Author.Needs.{needs}
-use Rattle.map.proofs.Cutting.{Walks, walks-none, starts, puts-line, walks-more, walks-done}
 use Rattle.map.proofs.lines.put_lines.Statement.{statement}
 use Rattle.map.proofs.lines.put_lines.Tie as tie
 

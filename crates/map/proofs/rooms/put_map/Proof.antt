@@ -1,18 +1,19 @@
 -- `put_map`: what the call leaves is printed. Assumes nothing.
+mod Answering
+use Answering.{shows, printed}
 use borrow.Author.Needs.{needs}
-use Rattle.map.proofs.Answering.{shows, printed}
 use Rattle.map.proofs.rooms.put_map.Statement.{statement}
 use Rattle.map.proofs.rooms.put_map.Tie as tie
 
 -- where it is printed, where the call has answered, where all begins
 abbrev put : tie.After-slice-known16 → tie.After-put-answer
-put c = c .before .before
+put c = search
 
 abbrev called : tie.After-put-answer-arg2 → tie.After-map-code
-called c = c .before .before .before .before .before .before .before .before .before .before .before .before .before .before .before .before
+called c = search
 
 abbrev entered : tie.After-map-code → tie.Start
-entered c = c .before .before .before .before .before .before .before .before .before .before .before .before .before .before .before .before .before
+entered c = search
 
 abbrev answered : tie.After-slice-known16 → tie.After-map-code
 answered c = called (put c .before)

@@ -1,9 +1,10 @@
 -- `enter_all`: the seeds are taken, one after another. Assumes nothing.
+mod SeedsLoop
+use SeedsLoop.{Taking, take-start, take-going, take-turn, take-done}
 use Prim.Native.Nat.{_-_}
 use native.Mathlib.Omega.{arith}
 use lib.ListN.{length}
 use borrow.Author.Needs.{needs}
-use Rattle.reachable.proofs.Taking.{Taking, take-start, take-going, take-turn, take-done}
 use Rattle.reachable.proofs.closure.enter_all.Statement.{statement}
 use Rattle.reachable.proofs.closure.enter_all.Tie as tie
 

@@ -14,6 +14,19 @@ Inv-loop w₀ n a when count₀ w count = Extending n when w₀ w count
 abbrev μ-loop : tie.MeasureT-loop
 μ-loop w₀ n a when count₀ w count = 2 * (n + 1 - length (flagged w n)) + count
 
+-- The moments that the answers cite, from later ones: a far one is found by its type.
+abbrev to-raise-sides : tie.After-follow-arg Inv-loop μ-loop → tie.After-raise-sides Inv-loop μ-loop
+to-raise-sides c = search
+
+abbrev to-last : tie.After-raise-sides Inv-loop μ-loop → tie.After-last Inv-loop μ-loop
+to-last c = search
+
+abbrev to-loop-test : tie.After-last Inv-loop μ-loop → tie.In-loop Inv-loop μ-loop
+to-loop-test c = search
+
+abbrev to-entry : tie.At-loop Inv-loop μ-loop → tie.Start Inv-loop μ-loop
+to-entry c = search
+
 loop-holds : tie.Need-loop-holds Inv-loop μ-loop
 loop-holds c = search expand-start
 
@@ -25,11 +38,11 @@ raise-sides-requires c κs = (search expand-address, search needs)
 
 follow-requires : tie.Need-follow-requires Inv-loop μ-loop
 follow-requires c κs =
-    let at-raise-sides = c .before .before .before in
-    let at-last = at-raise-sides .before .before in
-    let at-loop-test = at-last .before .before in
+    let at-raise-sides = to-raise-sides c in
+    let at-last = to-last at-raise-sides in
+    let at-loop-test = to-loop-test at-last in
     let at-loop = at-loop-test .before in
-    let at-entry = at-loop .before .before .before .before .before .before .before in
+    let at-entry = to-entry at-loop in
     let s = at-loop .loop .inv in
     let more = at-loop-test .loop-test .taken in
     let e = at-last .last .ensures in

@@ -4,8 +4,11 @@ use borrow.Author.Needs.{needs}
 use Rattle.reader.proofs.kind.wide_in.Statement.{statement}
 use Rattle.reader.proofs.kind.wide_in.Tie as tie
 
+abbrev to-entry : tie.Then1 → tie.Start
+to-entry c = search
+
 returns : tie.Need-returns
-returns c = wide-short (c .before .before .args .map .now) (c .if1 .taken) (λ i. c .before .shared-slice-known .given i .fits)
+returns c = wide-short (to-entry c .args .map .now) (c .if1 .taken) (λ i. c .before .shared-slice-known .given i .fits)
 
 returns-2 : tie.Need-returns-2
 returns-2 c = search wide-there

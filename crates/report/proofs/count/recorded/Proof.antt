@@ -6,13 +6,20 @@ use borrow.Author.Needs.{needs}
 use Rattle.report.proofs.count.recorded.Statement.{statement}
 use Rattle.report.proofs.count.recorded.Tie as tie
 
+-- where the entry is a record's
+abbrev to-nowhere : tie.After-longer → tie.After-enum-told
+to-nowhere c = search
+
+abbrev to-found : tie.After-longer2 → tie.After-enum-told2
+to-found c = search
+
 returns : tie.Need-returns
 unfolding join
-returns c = with-record 10 (nowhere-adds _ (c .before .before .enum-told .given .1)) (omega arith) (c .longer .ensures)
+returns c = with-record 10 (nowhere-adds _ (to-nowhere c .enum-told .given .1)) (omega arith) (c .longer .ensures)
 
 returns-2 : tie.Need-returns-2
 unfolding join
-returns-2 c = with-record 9 (found-adds _ (c .before .before .enum-told2 .given .1)) (omega arith) (c .longer2 .ensures)
+returns-2 c = with-record 9 (found-adds _ (to-found c .enum-told2 .given .1)) (omega arith) (c .longer2 .ensures)
 
 pub recorded-spec : {M : Type 1} → statement M
 recorded-spec =

@@ -20,13 +20,13 @@ abbrev to-entry : tie.After-struct-known Inv-loop μ-loop → tie.Start Inv-loop
 to-entry c = search
 
 abbrev to-loop-test : tie.After-next-taker Inv-loop μ-loop → tie.In-loop Inv-loop μ-loop
-to-loop-test c = c .before .before
+to-loop-test c = search
 
 abbrev to-loop-test-from-then2 : tie.Then2 Inv-loop μ-loop → tie.In-loop Inv-loop μ-loop
 to-loop-test-from-then2 c = search
 
 abbrev to-next-taker : tie.After-is-marked Inv-loop μ-loop → tie.After-next-taker Inv-loop μ-loop
-to-next-taker c = c .before .before
+to-next-taker c = search
 
 abbrev to-next-taker-from-else2 : tie.Else2 Inv-loop μ-loop → tie.After-next-taker Inv-loop μ-loop
 to-next-taker-from-else2 c = search
@@ -38,7 +38,7 @@ abbrev to-loop : tie.After-turn Inv-loop μ-loop → tie.At-loop Inv-loop μ-loo
 to-loop c = to-loop-test (to-next-taker-from-turn c) .before
 
 abbrev to-if1 : tie.Then2 Inv-loop μ-loop → tie.Then1 Inv-loop μ-loop
-to-if1 c = c .before .before .before
+to-if1 c = search
 
 abbrev to-if2 : tie.After-turn-arg6 Inv-loop μ-loop → tie.Then2 Inv-loop μ-loop
 to-if2 c = search

@@ -7,10 +7,14 @@ use borrow.Author.Needs.{needs}
 use Rattle.resolver.proofs.rounds.plan_of.Statement.{statement}
 use Rattle.resolver.proofs.rounds.plan_of.Tie as tie
 
+-- The moment that the answer cites, from a later one: it is found by its type.
+abbrev to-entry : tie.Joined1 → tie.Start
+to-entry c = search
+
 returns : tie.Need-returns
 returns c =
-    let at-args = c .before .before in
-    let few : c .if1 .shelves ≡ min (at-args .args .rooms .t) 0x10000 = ⊎-elim (λ y. omega (arith, y)) (λ y. omega (arith, y)) (c .if1 .came) in
+    let at-entry = to-entry c in
+    let few : c .if1 .shelves ≡ min (at-entry .args .rooms .t) 0x10000 = ⊎-elim (λ y. omega (arith, y)) (λ y. omega (arith, y)) (c .if1 .came) in
     rw few
 
 pub plan-of-spec : {M : Type 1} → statement M

@@ -1,40 +1,42 @@
 -- `rounds`: each round starts with what the last one's records lead to. Assumes nothing.
+mod AfterSettle
+mod RoundsLoop
+use RoundsLoop.{RoundsSoFar, so-far-start, so-far-limit, so-far-settles, so-far-asks, so-far-short, so-far-last, so-far-next, so-far-done}
 use mathlib.Core.Path.{_∙_}
 use native.Mathlib.Omega.{arith}
 use borrow.Author.Needs.{needs}
 use Rattle.layout.specs.Buffers.{buffers}
-use Rattle.resolver.proofs.RoundsLoop.{Rolling, roll-start, roll-limit, roll-settles, roll-asks, roll-short, roll-last, roll-next, roll-done}
 use Rattle.resolver.proofs.rounds.rounds.Statement.{statement}
 use Rattle.resolver.proofs.rounds.rounds.Tie as tie
 
 abbrev Inv-loop : tie.InvT-loop
 Inv-loop code w₀ p₀ s₀ t₀ r₀ q₀ k cur₀ since₀ left₀ w p s t r q cur since left =
-    Rolling code k (buffers w₀ p₀ s₀ t₀ r₀ q₀) cur₀ (buffers w p s t r q) cur since left
+    RoundsSoFar code k (buffers w₀ p₀ s₀ t₀ r₀ q₀) cur₀ (buffers w p s t r q) cur since left
 
 abbrev μ-loop : tie.MeasureT-loop
 μ-loop code w₀ p₀ s₀ t₀ r₀ q₀ k cur₀ since₀ left₀ w p s t r q cur since left = left
 
 loop-holds : tie.Need-loop-holds Inv-loop μ-loop
-loop-holds c = search roll-start
+loop-holds c = search so-far-start
 
 returns : tie.Need-returns Inv-loop μ-loop
-returns c = search roll-limit
+returns c = search so-far-limit
 
 hand-all-requires : tie.Need-hand-all-requires Inv-loop μ-loop
-hand-all-requires c κs = search roll-settles
+hand-all-requires c κs = search so-far-settles
 
 round-requires : tie.Need-round-requires Inv-loop μ-loop
-round-requires c κs = search roll-asks
+round-requires c κs = search so-far-asks
 
 -- The moments that the answers cite, from later ones: a far one is found by its type.
 abbrev to-loop : tie.After-hand-all Inv-loop μ-loop → tie.At-loop Inv-loop μ-loop
 to-loop c = search
 
 abbrev to-loop-test : tie.Else1 Inv-loop μ-loop → tie.In-loop Inv-loop μ-loop
-to-loop-test c = c .before .before .before
+to-loop-test c = search
 
 abbrev to-if1 : tie.After-hand-all Inv-loop μ-loop → tie.Else1 Inv-loop μ-loop
-to-if1 c = c .before .before .before .before
+to-if1 c = search
 
 abbrev to-hand-all : tie.After-round Inv-loop μ-loop → tie.After-hand-all Inv-loop μ-loop
 to-hand-all c = search
@@ -43,7 +45,7 @@ abbrev to-round : tie.After-struct-known3 Inv-loop μ-loop → tie.After-round I
 to-round c = search
 
 abbrev to-if2 : tie.After-struct-known4 Inv-loop μ-loop → tie.Else2 Inv-loop μ-loop
-to-if2 c = c .before .before
+to-if2 c = search
 
 same-length-7 : tie.Need-same-length-7 Inv-loop μ-loop
 same-length-7 c =
@@ -82,7 +84,7 @@ returns-2 c =
     let at-hand-all = to-hand-all at-round in
     let at-if1 = to-if1 at-hand-all in
     let at-loop-test = to-loop-test at-if1 in
-    roll-short (at-loop-test .before .loop .inv) (at-hand-all .hand-all .ensures) (at-loop-test .loop-test .taken) (at-if1 .if1 .left) (at-round .round .ensures) (c .if2 .taken)
+    so-far-short (at-loop-test .before .loop .inv) (at-hand-all .hand-all .ensures) (at-loop-test .loop-test .taken) (at-if1 .if1 .left) (at-round .round .ensures) (c .if2 .taken)
 
 same-length-13 : tie.Need-same-length-13 Inv-loop μ-loop
 same-length-13 c =
@@ -122,7 +124,7 @@ returns-3 c =
     let at-hand-all = to-hand-all at-round in
     let at-if1 = to-if1 at-hand-all in
     let at-loop-test = to-loop-test at-if1 in
-    roll-last (at-loop-test .before .loop .inv) (at-hand-all .hand-all .ensures) (at-loop-test .loop-test .taken) (at-if1 .if1 .left) (at-round .round .ensures) (at-if2 .if2 .left) (c .if3 .taken)
+    so-far-last (at-loop-test .before .loop .inv) (at-hand-all .hand-all .ensures) (at-loop-test .loop-test .taken) (at-if1 .if1 .left) (at-round .round .ensures) (at-if2 .if2 .left) (c .if3 .taken)
 
 loop-less : tie.Need-loop-less Inv-loop μ-loop
 loop-less c = omega (arith, to-loop-test (to-if1 (to-hand-all (to-round (to-if2 (c .before) .before)))) .loop-test .taken)
@@ -135,11 +137,11 @@ loop-again c =
     let at-if1 = to-if1 at-hand-all in
     let at-loop-test = to-loop-test at-if1 in
     let d = at-round .round in
-    roll-next (at-loop-test .before .loop .inv) (at-hand-all .hand-all .ensures) (at-loop-test .loop-test .taken) (at-if1 .if1 .left) (at-round .round .ensures) (at-if2 .if2 .left) (c .if3 .left)
+    so-far-next (at-loop-test .before .loop .inv) (at-hand-all .hand-all .ensures) (at-loop-test .loop-test .taken) (at-if1 .if1 .left) (at-round .round .ensures) (at-if2 .if2 .left) (c .if3 .left)
     (record { w = d .kept .1 .0; p = d .kept .1 .1 .0; s = d .kept .1 .1 .1 .0; t = d .kept .1 .1 .1 .1 .0; r = d .kept .1 .1 .1 .1 .1 .0; q = d .kept .1 .1 .1 .1 .1 .1 .0 })
 
 returns-4 : tie.Need-returns-4 Inv-loop μ-loop
-returns-4 c = search roll-done
+returns-4 c = search so-far-done
 
 pub rounds-spec : {M : Type 1} → statement M
 rounds-spec =

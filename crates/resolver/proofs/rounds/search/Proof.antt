@@ -19,22 +19,22 @@ abbrev to-rooms-of : tie.After-wipe-part-arg → tie.After-rooms-of
 to-rooms-of c = search
 
 abbrev to-plan-of : tie.After-reach → tie.After-plan-of
-to-plan-of c = c .before .before
+to-plan-of c = search
 
 abbrev to-plan-of-from-begin-rows-arg : tie.After-begin-rows-arg → tie.After-plan-of
 to-plan-of-from-begin-rows-arg c = search
 
 abbrev to-reach : tie.After-struct-known → tie.After-reach
-to-reach c = c .before .before .before .before
+to-reach c = search
 
 abbrev to-wipe-part : tie.After-begin-rows → tie.After-wipe-part
-to-wipe-part c = c .before .before .before .before
+to-wipe-part c = search
 
 abbrev to-wipe-part-from-rounds : tie.After-rounds → tie.After-wipe-part
 to-wipe-part-from-rounds c = search
 
 abbrev to-begin-rows : tie.After-begin → tie.After-begin-rows
-to-begin-rows c = c .before .before .before
+to-begin-rows c = search
 
 abbrev to-begin : tie.After-rounds-arg6 → tie.After-begin
 to-begin c = search

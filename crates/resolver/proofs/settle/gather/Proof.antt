@@ -1,9 +1,10 @@
 -- `gather`: the records are gone through until the batch is full or none is left. Assumes nothing.
+mod GatherLoop
+use GatherLoop.{Gathering, gather-start, gather-skip, gather-turn, gather-out, gather-full}
 use Prim.Native.Nat.{_-_}
 use native.Mathlib.Omega.{arith}
 use borrow.Author.Needs.{needs}
 use borrow.Author.Tests.{ltb-true}
-use Rattle.resolver.proofs.Batching.{Gathering, gather-start, gather-skip, gather-turn, gather-out, gather-full}
 use Rattle.resolver.proofs.settle.gather.Statement.{statement}
 use Rattle.resolver.proofs.settle.gather.Tie as tie
 

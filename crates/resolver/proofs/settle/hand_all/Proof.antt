@@ -1,7 +1,8 @@
 -- `hand_all`: the destinations from `since` on are expanded, batch after batch. Assumes nothing.
+mod SettleLoop
+use SettleLoop.{Settling, settle-start, settle-hands, settle-turn, settle-done}
 use Prim.Native.Nat.{_-_}
 use borrow.Author.Needs.{needs}
-use Rattle.resolver.proofs.SettleLoop.{Settling, settle-start, settle-hands, settle-turn, settle-done}
 use Rattle.resolver.proofs.settle.hand_all.Statement.{statement}
 use Rattle.resolver.proofs.settle.hand_all.Tie as tie
 

@@ -1,6 +1,7 @@
 -- `hand_over`: an empty batch changes nothing, and any other is expanded. Assumes nothing.
+mod BatchExpands
+use BatchExpands.{hand-gathers, hand-none, hand-expands, hand-done}
 use borrow.Author.Needs.{needs}
-use Rattle.resolver.proofs.Batching.{hand-gathers, hand-none, hand-expands, hand-done}
 use Rattle.resolver.proofs.settle.hand_over.Statement.{statement}
 use Rattle.resolver.proofs.settle.hand_over.Tie as tie
 

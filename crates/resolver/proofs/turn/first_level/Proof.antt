@@ -1,6 +1,7 @@
 -- `first_level`: what is stored, counted and read is what `Placed` says. Assumes nothing.
+mod Placing
+use Placing.{place-copies, place-puts, place-counts, place-reads, place-done}
 use borrow.Author.Needs.{needs}
-use Rattle.resolver.proofs.TurnBegins.{place-copies, place-puts, place-counts, place-reads, place-done}
 use Rattle.resolver.proofs.turn.first_level.Statement.{statement}
 use Rattle.resolver.proofs.turn.first_level.Tie as tie
 
@@ -18,7 +19,7 @@ abbrev to-entry : tie.After-count → tie.Start
 to-entry c = search
 
 abbrev to-count : tie.After-position-at-arg → tie.After-count
-to-count c = c .before .before .before
+to-count c = search
 
 position-at-requires : tie.Need-position-at-requires
 position-at-requires c κs =

@@ -1,8 +1,11 @@
 -- `turn`: the laws of a turn, which ask for the way that it went: the run, the first level in place, and what it did. Assumes nothing.
+mod TakerRow
+mod TurnBegins
+mod TurnDone
+use TurnDone.{turn-runs, turn-places, turn-opens, turn-short-p, turn-short-s, leveling, turn-refused, turn-uncounts, turn-forgets, turn-done}
 use mathlib.Core.Path.{_∙_}
 use native.Mathlib.Omega.{arith}
 use borrow.Author.Needs.{needs}
-use Rattle.resolver.proofs.TurnDone.{turn-runs, turn-places, turn-opens, turn-short-p, turn-short-s, leveling, turn-refused, turn-uncounts, turn-forgets, turn-done}
 use Rattle.resolver.proofs.turn.turn.Statement.{statement}
 use Rattle.resolver.proofs.turn.turn.Tie as tie
 
@@ -17,7 +20,7 @@ abbrev to-entry : tie.Else1 → tie.Start
 to-entry c = search
 
 abbrev to-if1 : tie.After-run → tie.Else1
-to-if1 c = c .before .before
+to-if1 c = search
 
 abbrev to-run-from-struct-known3 : tie.After-struct-known3 → tie.After-run
 to-run-from-struct-known3 c = search
@@ -26,7 +29,7 @@ abbrev to-run : tie.Else2 → tie.After-run
 to-run c = search
 
 abbrev to-if2 : tie.After-first-level-arg3 → tie.Else2
-to-if2 c = c .before .before .before
+to-if2 c = search
 
 abbrev to-first-level : tie.After-begun → tie.After-first-level
 to-first-level c = search
@@ -35,16 +38,16 @@ abbrev to-level : tie.After-struct-known5 → tie.After-level
 to-level c = search
 
 abbrev to-if3 : tie.After-uncount-arg2 → tie.Else3
-to-if3 c = c .before .before
+to-if3 c = search
 
 abbrev to-if3-from-ended : tie.After-ended → tie.Else3
 to-if3-from-ended c = search
 
 abbrev to-uncount : tie.After-forget-arg → tie.After-uncount
-to-uncount c = c .before .before .before .before
+to-uncount c = search
 
 abbrev to-forget : tie.After-ended → tie.After-forget
-to-forget c = c .before .before .before
+to-forget c = search
 
 add-if2 : tie.Need-add-if2
 add-if2 c =

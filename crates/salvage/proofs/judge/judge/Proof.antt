@@ -1,5 +1,6 @@
 -- `judge` meets its contract: what is copied so far and what is salvaged of the rest is the whole. The measure is what is left of the bytes. Assumes nothing.
-use Rattle.salvage.proofs.Maps.{Judges, judges-start, judged-end, judged-bad, bad-fits, maps-fit, at-fits, judges-less, judges-on}
+mod Maps
+use Maps.{Judges, judges-start, judged-end, judged-bad, bad-fits, maps-fit, at-fits, judges-less, judges-on}
 use lib.ListN.{length}
 use Prim.Native.Nat.{_-_}
 use borrow.Author.Needs.{needs}

@@ -1,7 +1,8 @@
 -- `bytes`: a pair of digits a turn. Assumes nothing.
+mod BytesLoop
+use BytesLoop.{Spelling, spelling-none, spelling-ends, spelling-full, spelling-short, spelling-more, spelling-done}
 use Prim.Native.Nat.{_-_}
 use lib.ListN.{length}
-use Rattle.sessions.proofs.Spelling.{Spelling, spelling-none, spelling-ends, spelling-full, spelling-short, spelling-more, spelling-done}
 use borrow.Author.Needs.{needs}
 use Rattle.sessions.proofs.input.bytes.Statement.{statement}
 use Rattle.sessions.proofs.input.bytes.Tie as tie

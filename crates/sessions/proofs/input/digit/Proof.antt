@@ -1,5 +1,6 @@
 -- `digit`: range by range. Assumes nothing.
-use Rattle.sessions.proofs.Worths.{worth-under, worth-figure, worth-between, worth-letter, worth-over}
+mod Worths
+use Worths.{worth-under, worth-figure, worth-between, worth-letter, worth-over}
 use borrow.Author.Needs.{needs}
 use Rattle.sessions.proofs.input.digit.Statement.{statement}
 use Rattle.sessions.proofs.input.digit.Tie as tie

@@ -13,6 +13,9 @@ Inv-loop code₀ piece n i₀ code i = Repeating piece n code₀ code i
 abbrev μ-loop : tie.MeasureT-loop
 μ-loop code₀ piece n i₀ code i = n - i
 
+abbrev to-loop : tie.Else1 Inv-loop μ-loop → tie.At-loop Inv-loop μ-loop
+to-loop c = search
+
 loop-holds : tie.Need-loop-holds Inv-loop μ-loop
 loop-holds c = repeating-none _ _ _
 
@@ -26,7 +29,7 @@ loop-again c =
     repeating-more (turned .before .loop .inv) (turned .loop-test .taken) (ltb-true _ _ (tested .if1 .taken))
 
 returns : tie.Need-returns Inv-loop μ-loop
-returns c = repeating-full (c .before .before .loop .inv) (ltb-false _ _ (c .if1 .left))
+returns c = repeating-full (to-loop c .loop .inv) (ltb-false _ _ (c .if1 .left))
 
 returns-2 : tie.Need-returns-2 Inv-loop μ-loop
 returns-2 c = search repeating-done

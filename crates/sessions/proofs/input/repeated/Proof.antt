@@ -4,10 +4,16 @@ use borrow.Author.Needs.{needs}
 use Rattle.sessions.proofs.input.repeated.Statement.{statement}
 use Rattle.sessions.proofs.input.repeated.Tie as tie
 
+abbrev to-repeated : tie.After-slice-known3 → tie.After-repeat
+to-repeated c = search
+
+abbrev to-spelled : tie.After-repeat → tie.After-bytes
+to-spelled c = search
+
 returns : tie.Need-returns
 returns c =
-    let d = c .before .before in
-    repeated (d .before .before .before .before .bytes .ensures) (d .repeat .ensures)
+    let filled = to-repeated c in
+    repeated (to-spelled filled .bytes .ensures) (filled .repeat .ensures)
 
 pub repeated-spec : {M : Type 1} → statement M
 repeated-spec =

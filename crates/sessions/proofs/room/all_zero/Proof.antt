@@ -13,17 +13,23 @@ Inv-loop room from i₀ i = Looking (λ (j : ℕ). 0) room from i
 abbrev μ-loop : tie.MeasureT-loop
 μ-loop room from i₀ i = length room - i
 
+abbrev to-turn-from-then : tie.Then1 Inv-loop μ-loop → tie.In-loop Inv-loop μ-loop
+to-turn-from-then c = search
+
+abbrev to-turn-from-else : tie.Else1 Inv-loop μ-loop → tie.In-loop Inv-loop μ-loop
+to-turn-from-else c = search
+
 loop-holds : tie.Need-loop-holds Inv-loop μ-loop
 loop-holds c = record { is = refl }
 
 returns : tie.Need-returns Inv-loop μ-loop
 returns c =
-    let turned = c .before .before in
+    let turned = to-turn-from-then c in
     looking-not (turned .before .loop .inv) (turned .loop-test .taken) refl (c .if1 .taken)
 
 loop-again : tie.Need-loop-again Inv-loop μ-loop
 loop-again c =
-    let turned = c .before .before in
+    let turned = to-turn-from-else c in
     looking-more (turned .before .loop .inv) (turned .loop-test .taken) refl (c .if1 .left)
 
 returns-2 : tie.Need-returns-2 Inv-loop μ-loop

@@ -5,7 +5,7 @@ use Rattle.sessions.proofs.trial.trial.Statement.{statement}
 use Rattle.sessions.proofs.trial.trial.Tie as tie
 
 abbrev entered : tie.After-numbers → tie.Start
-entered c = c .before .before .before .before .before .before .before .before .before .before
+entered c = search
 
 repeated-requires : tie.Need-repeated-requires
 repeated-requires c κs =
@@ -14,13 +14,13 @@ repeated-requires c κs =
 
 -- where the call is told, and before it
 abbrev lent : tie.After-slice-known16 → tie.After-lend
-lent c = c .before .before .before .before .before .before .before .before .before .before .before .before .before .before
+lent c = search
 
 abbrev coded : tie.After-slice-known16 → tie.After-repeated
-coded c = lent c .before .before .before .before .before .before .before .before .before .before .before
+coded c = search
 
 abbrev numbered : tie.After-slice-known16 → tie.After-numbers
-numbered c = coded c .before .before
+numbered c = search
 
 same-length : tie.Need-same-length
 same-length c = coded c .repeated .kept .1 .1 .1 .0

@@ -5,11 +5,21 @@ use Rattle.state.proofs.Composing.{deep-room, compose-flat, compose-dee
 use Rattle.state.proofs.compose.compose_kept.Statement.{statement}
 use Rattle.state.proofs.compose.compose_kept.Tie as tie
 
+-- The moments that the answers cite, from later ones: a far one is found by its type.
+abbrev to-base-at : tie.Else1 → tie.After-base-at
+to-base-at c = search
+
+abbrev to-entry : tie.After-base-at → tie.Start
+to-entry c = search
+
 returns : tie.Need-returns
 returns c = search compose-flat
 
 copy-within-requires : tie.Need-copy-within-requires
-copy-within-requires c κs = (search needs, omega (arith, deep-room (c .before .before .before .before .before .before .before .before .before .pre .both) (c .before .before .before .before .before .before .base-at .ensures) (c .before .if1 .left)))
+copy-within-requires c κs =
+    let at-if1 = c .before in
+    let at-base-at = to-base-at at-if1 in
+    (search needs, omega (arith, deep-room (to-entry at-base-at .pre .both) (at-base-at .base-at .ensures) (at-if1 .if1 .left)))
 
 returns-2 : tie.Need-returns-2
 returns-2 c = search (compose-deep, kept-after)

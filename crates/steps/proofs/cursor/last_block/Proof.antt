@@ -9,7 +9,7 @@ returns c = search last-direct
 
 -- The moments that the answers cite, from later ones: a far one is found by its type.
 abbrev to-entry : tie.Else1 → tie.Start
-to-entry c = c .before .before .before
+to-entry c = search
 
 mul-get32 : tie.Need-mul-get32
 mul-get32 c = let h = row-asked (to-entry c .pre) (c .if1 .left) in search needs

@@ -6,7 +6,7 @@ use Rattle.steps.proofs.cursor.next_cursor.Tie as tie
 
 -- The moments that the answers cite, from later ones: a far one is found by its type.
 abbrev to-entry : tie.Then1 → tie.Start
-to-entry c = c .before .before .before
+to-entry c = search
 
 mul-get32 : tie.Need-mul-get32
 mul-get32 c = let h = row-found (to-entry c .pre .1) (c .if1 .taken) in search needs

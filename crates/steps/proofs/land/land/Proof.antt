@@ -12,10 +12,16 @@ abbrev to-record-entry : tie.Else1 → tie.After-record-entry
 to-record-entry c = search
 
 abbrev to-if1 : tie.Then2 → tie.Else1
-to-if1 c = c .before .before .before .before
+to-if1 c = search
 
 abbrev to-if2 : tie.After-struct-known4 → tie.Then2
-to-if2 c = c .before .before
+to-if2 c = search
+
+abbrev to-mark : tie.After-raise-sides-arg → tie.After-mark
+to-mark c = search
+
+abbrev to-raise-sides : tie.After-slice-known10 → tie.After-raise-sides
+to-raise-sides c = search
 
 add-mark : tie.Need-add-mark
 add-mark c =
@@ -34,7 +40,7 @@ returns c = search landed-nowhere
 
 raise-sides-requires : tie.Need-raise-sides-requires
 raise-sides-requires c κs =
-    let at-mark = c .before .before .before in
+    let at-mark = to-mark c in
     let at-if1 = to-if1 (to-if2 (at-mark .before)) in
     let at-record-entry = to-record-entry at-if1 in
     let asks = to-entry at-record-entry .pre in
@@ -43,8 +49,8 @@ raise-sides-requires c κs =
 
 returns-2 : tie.Need-returns-2
 returns-2 c =
-    let at-raise-sides = c .before .before in
-    let at-mark = at-raise-sides .before .before .before .before in
+    let at-raise-sides = to-raise-sides c in
+    let at-mark = to-mark (at-raise-sides .before) in
     let at-if2 = to-if2 (at-mark .before) in
     let at-if1 = to-if1 at-if2 in
     let at-record-entry = to-record-entry at-if1 in

@@ -1,6 +1,7 @@
 -- `meet`: T has no room, it was met, or it is new. Assumes nothing.
+mod Meets
+use Meets.{met-roomless, meets-finds, meets-memorizes, met-again, met-new}
 use borrow.Author.Needs.{needs}
-use Rattle.steps.proofs.Meets.{met-roomless, meets-finds, meets-memorizes, met-again, met-new}
 use Rattle.steps.proofs.meet.meet.Statement.{statement}
 use Rattle.steps.proofs.meet.meet.Tie as tie
 

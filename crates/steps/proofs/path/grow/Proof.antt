@@ -13,13 +13,13 @@ returns-2 c = search direct-grown
 
 -- The moments that the answers cite, from later ones: a far one is found by its type.
 abbrev to-entry : tie.Else1 → tie.Start
-to-entry c = c .before .before .before .before
+to-entry c = search
 
 abbrev to-if1 : tie.After-copy-arg → tie.Else1
-to-if1 c = c .before .before .before .before
+to-if1 c = search
 
 abbrev to-get32 : tie.After-copy-arg → tie.After-get32
-to-get32 c = c .before .before
+to-get32 c = search
 
 end-before-requires : tie.Need-end-before-requires
 end-before-requires c κs = omega (arith, found-row (to-entry c .pre) (c .if1 .left))

@@ -19,13 +19,19 @@ abbrev to-entry : tie.After-parent-start → tie.Start
 to-entry c = search
 
 abbrev to-parent-start : tie.After-run → tie.After-parent-start
-to-parent-start c = c .before .before
+to-parent-start c = search
 
 abbrev to-run : tie.After-struct-known4 → tie.After-run
 to-run c = search
 
+abbrev to-composed-len : tie.Else1 → tie.After-composed-len
+to-composed-len c = search
+
+abbrev to-if1 : tie.After-struct-known4 → tie.Else1
+to-if1 c = search
+
 abbrev to-run-from-end : tie.After-slice-known4 → tie.After-run
-to-run-from-end c = to-run (c .before .before .before .before .before)
+to-run-from-end c = search
 
 mul-compose-own : tie.Need-mul-compose-own
 mul-compose-own c =
@@ -36,7 +42,13 @@ mul-compose-own-2 c =
     let p = to-entry (to-parent-start (to-run (c .before))) .pre .0 in omega (arith, p .fits, p .mostS)
 
 compose-own-requires : tie.Need-compose-own-requires
-compose-own-requires c κs = let p = to-entry (to-parent-start (to-run (c .before .before))) .pre in search direct-composes
+compose-own-requires c κs =
+    let at-if1 = to-if1 (c .before) in
+    let at-composed-len = to-composed-len at-if1 in
+    let at-run = to-run (c .before) in
+    let at-parent-start = to-parent-start at-run in
+    let p = to-entry at-parent-start .pre in
+    direct-composes (p .0) (p .1) (at-parent-start .parent-start .ensures) (at-run .run .ensures) (at-composed-len .before .base-at .ensures) (at-composed-len .composed-len .ensures) (at-if1 .if1 .left)
 
 returns-2 : tie.Need-returns-2
 returns-2 c =

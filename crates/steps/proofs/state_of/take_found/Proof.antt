@@ -9,6 +9,9 @@ use Rattle.steps.proofs.state_of.take_found.Tie as tie
 abbrev to-entry : tie.After-rooms → tie.Start
 to-entry c = search
 
+abbrev to-rooms : tie.After-kept-before → tie.After-rooms
+to-rooms c = search
+
 abbrev to-get32 : tie.After-struct-known5 → tie.After-get32
 to-get32 c = search
 
@@ -19,10 +22,10 @@ abbrev to-base-at : tie.After-slice-known3 → tie.After-base-at
 to-base-at c = search
 
 abbrev to-composed-len : tie.Else1 → tie.After-composed-len
-to-composed-len c = c .before .before .before
+to-composed-len c = search
 
 abbrev to-if1 : tie.After-struct-known6 → tie.Else1
-to-if1 c = c .before .before .before
+to-if1 c = search
 
 mul-get32 : tie.Need-mul-get32
 mul-get32 c =
@@ -71,7 +74,7 @@ compose-kept-requires c κs =
 
 returns-2 : tie.Need-returns-2
 returns-2 c =
-    let p = to-entry (to-kept-before (to-base-at c) .before .before) .pre in
+    let p = to-entry (to-rooms (to-kept-before (to-base-at c))) .pre in
     let a = to-kept-before (to-base-at c) .before .get32 .ensures in
     let b = to-kept-before (to-base-at c) .kept-before .ensures in
     search found-took

@@ -1,18 +1,17 @@
--- `path_sum`: the sum so far, with the addresses left, is the whole. Assumes nothing.
+-- `path_sum`: the sums so far, with the addresses left, are the whole. Assumes nothing.
 use Prim.Native.Nat.{_+_, _-_, _^_, _≤_, _<_}
 use mathlib.Core.Path.{_≡_}
 use borrow.Author.Needs.{needs}
-use Rattle.tables.specs.Addrs.{addrs, pathSum}
-use Rattle.tables.specs.Sums.{sums}
+use Rattle.tables.specs.Addrs.{addrs, turns, pathSum}
 use Rattle.tables.proofs.Addrs.{sum-first, sum-again, sum-done}
 use Rattle.tables.proofs.path.path_sum.Statement.{statement}
 use Rattle.tables.proofs.path.path_sum.Tie as tie
 
 abbrev Inv-loop : tie.InvT-loop
-Inv-loop p np sum₀ i₀ sum i = (i ≤ np) × (sums sum (addrs p (0 + i) (np - i)) ≡ pathSum (addrs p 0 np))
+Inv-loop p np a₀ b₀ c₀ d₀ i₀ a b c d i = (i ≤ np) × (turns a b c d (addrs p (0 + i) (np - i)) ≡ pathSum (addrs p 0 np))
 
 abbrev μ-loop : tie.MeasureT-loop
-μ-loop p np sum₀ i₀ sum i = np - i
+μ-loop p np a₀ b₀ c₀ d₀ i₀ a b c d i = np - i
 
 loop-holds : tie.Need-loop-holds Inv-loop μ-loop
 loop-holds c = (search needs, sum-first _ _)
@@ -37,5 +36,8 @@ path-sum-spec =
     (λ c. search needs)
     (λ c. search needs)
     loop-again
+    (λ c κs. search needs)
+    (λ c κs. search needs)
+    (λ c κs. search needs)
     (λ c κs. search needs)
     returns)

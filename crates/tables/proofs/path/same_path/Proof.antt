@@ -1,27 +1,29 @@
 -- `same_path`: what is left to compare decides the whole. Assumes nothing.
-use Prim.Native.Nat.{_+_, _-_, _≤_}
-use mathlib.Core.Path.{_≡_}
+use Prim.Native.Nat.{_-_}
 use borrow.Author.Needs.{needs}
-use Rattle.spec.specs.Lists.{same}
-use Rattle.tables.specs.Addrs.{addrs}
-use Rattle.tables.proofs.Addrs.{path-first, path-differs, path-again, path-same}
+use Rattle.tables.specs.Addrs.{Left}
+use Rattle.tables.proofs.Addrs.{path-differs, path-again, path-same}
 use Rattle.tables.proofs.path.same_path.Statement.{statement}
 use Rattle.tables.proofs.path.same_path.Tie as tie
 
 abbrev Inv-loop : tie.InvT-loop
-Inv-loop p np q at i₀ i = (i ≤ np) × (same (addrs p (0 + i) (np - i)) (addrs q (at + i) (np - i)) ≡ same (addrs p 0 np) (addrs q at np))
+Inv-loop p np q at i₀ i = Left p np q at i
 
 abbrev μ-loop : tie.MeasureT-loop
 μ-loop p np q at i₀ i = np - i
 
 loop-holds : tie.Need-loop-holds Inv-loop μ-loop
-loop-holds c = (search needs, path-first _ _ _ _)
+loop-holds c = search needs
 
 returns : tie.Need-returns Inv-loop μ-loop
 returns c = search path-differs
 
 loop-again : tie.Need-loop-again Inv-loop μ-loop
-loop-again c = (search needs, search path-again)
+loop-again c =
+    let at-second = c .before in
+    let at-first = at-second .before in
+    let test = at-first .before in
+    path-again _ _ _ _ (test .before .loop .inv) (test .loop-test .taken) (at-first .get16 .ensures) (at-second .get162 .ensures) (c .if1 .left)
 
 returns-2 : tie.Need-returns-2 Inv-loop μ-loop
 returns-2 c = search path-same
@@ -32,6 +34,7 @@ same-path-spec =
     (tie.spec
     Inv-loop
     μ-loop
+    (λ c κs. search needs)
     loop-holds
     (λ c. search needs)
     (λ c κs. search needs)

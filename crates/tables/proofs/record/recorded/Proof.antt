@@ -8,10 +8,10 @@ use Rattle.tables.proofs.record.recorded.Statement.{statement}
 use Rattle.tables.proofs.record.recorded.Tie as tie
 
 abbrev Inv-loop : tie.InvT-loop
-Inv-loop p np w r q n buckets m to sum h cur₀ cur = Left (bucketAt buckets r) (isRec r q to (addrs p 0 np)) m h cur
+Inv-loop w p r q np n buckets m to sum h cur₀ cur = Left (bucketAt buckets r) (isRec r q to (addrs p 0 np)) m h cur
 
 abbrev μ-loop : tie.MeasureT-loop
-μ-loop p np w r q n buckets m to sum h cur₀ cur = cur
+μ-loop w p r q np n buckets m to sum h cur₀ cur = cur
 
 loop-holds : tie.Need-loop-holds Inv-loop μ-loop
 loop-holds c = search first-left

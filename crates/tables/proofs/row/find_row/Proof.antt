@@ -7,10 +7,10 @@ use Rattle.tables.proofs.row.find_row.Statement.{statement}
 use Rattle.tables.proofs.row.find_row.Tie as tie
 
 abbrev Inv-loop : tie.InvT-loop
-Inv-loop t s buckets m x sum h cur₀ cur = Left (shelfAt buckets t) (isMet t s (seenMet s x)) m h cur
+Inv-loop s t buckets m x sum h cur₀ cur = Left (shelfAt buckets t) (isMet t s (seenMet s x)) m h cur
 
 abbrev μ-loop : tie.MeasureT-loop
-μ-loop t s buckets m x sum h cur₀ cur = cur
+μ-loop s t buckets m x sum h cur₀ cur = cur
 
 loop-holds : tie.Need-loop-holds Inv-loop μ-loop
 loop-holds c = search first-row

@@ -34,11 +34,11 @@ use Rattle.reachable.specs.Contracts.{Address}
 use Rattle.steps.specs.Runs.{recsIn, stOf, Did}
 use Rattle.steps.specs.declared.Plan.{Plan}
 use Rattle.steps.specs.declared.Run.{Run}
-use Rattle.resolver.specs.Fits.{preparedIn}
+use Rattle.enter.specs.Fits.{preparedIn}
 use Rattle.resolver.specs.Turns.{Idle, Passed, TurnAsks, Turned, RoundAsks, Rounded}
-use Rattle.resolver.proofs.Sequence.{did-then, did-stops, did-same}
-use Rattle.resolver.proofs.SixLengths.{Long, long-same, long-then}
-use Rattle.resolver.proofs.TurnDone.{passed-refused}
+use Rattle.levels.proofs.Sequence.{did-then, did-stops, did-same}
+use Rattle.levels.proofs.SixLengths.{Long, long-same, long-then}
+use Rattle.resolver.proofs.PassedRefused.{passed-refused}
 
 -- ---- document 01's round, one block at a time
 

@@ -6,6 +6,7 @@ use Prim.Native.Nat.{ℕ, _+_, _*_, _≤_}
 use native.Mathlib.Omega.{arith}
 use lib.Dec.{ltb, leb}
 use lib.ListN.{length, take, drop, replicate, length-replicate}
+use lib.Seq.{take-all}
 use Rattle.spec.specs.Opcodes.{in-mode}
 use Rattle.spec.specs.Lists.{if, mem}
 use Rattle.spec.specs.Search as search
@@ -30,6 +31,7 @@ use Rattle.tables.specs.Tables.{NoLinks}
 use Rattle.tables.specs.Mets.{Begins, Emptied}
 use Rattle.tables.specs.Recording.{Lends, roomOf}
 use Rattle.tables.specs.declared.Rooms.{Rooms}
+use Rattle.tables.proofs.Counted.{recs-length}
 use Rattle.tables.proofs.Uses.{tables-none}
 use Rattle.parents.proofs.Knows.{known-prefix}
 use Rattle.reachable.specs.Marks.{flagged, markedBy, wiped}
@@ -42,12 +44,12 @@ use Rattle.reachable.proofs.Marks.{begun-num, begun-rows}
 use Rattle.reachable.proofs.Raising.{highest-kept}
 use Rattle.reachable.proofs.Rows.{within-sides, closed-sides, sides-kept, node-edges}
 use Rattle.steps.specs.Paths.{occurs}
-use Rattle.steps.specs.Runs.{stOf}
-use Rattle.resolver.specs.Turns.{Idle, Between, last-since, Rounds, SearchAsks, Searched, roomsOf, planOf, plan, begunRun}
+use Rattle.steps.specs.Runs.{recsIn, stOf}
+use Rattle.enter.specs.Fits.{preparedIn}
+use Rattle.resolver.specs.Turns.{Idle, Between, last-since, Reached, Rounds, SearchAsks, Searched, roomsOf, planOf, plan, begunRun}
 use Rattle.steps.specs.declared.Plan.{Plan}
 use Rattle.steps.specs.declared.Run.{Run}
-pub use Rattle.resolver.proofs.TurnKept.{known-within}
-use Rattle.resolver.proofs.RoundsLoop.{between-marked}
+pub use Rattle.enter.proofs.TurnKept.{known-within}
 
 -- ---- what `reach` asks
 
@@ -60,6 +62,16 @@ fresh-mark : (b : Bool) → ltb 0 (if b 1 0) && leb (if b 1 0) 1 ≡ b
 unfolding if
 fresh-mark true = refl
 fresh-mark false = refl
+
+-- ---- after the last round
+
+-- the marks say what is reached, once all records are counted
+pub between-marked : {code : List ℕ} {k : Plan} {m : Mem} {cur : Run} {since : ℕ} → Between code k since m cur
+    → Reached (preparedIn k code) (k .n) (m .w) since (cur .counts .records) (recsIn k m (cur .counts))
+between-marked {k = k} {m = m} {cur = cur} b a h =
+    let i = b .idle in
+    let long = recs-length (m .r) (m .q) (m .s) (k .rooms .s) (cur .counts .records) in
+    rw (take-all (cur .counts .records) (recsIn k m (cur .counts)) (omega (arith, long))) at (i .marks .by (cur .counts .records) (i .began) (omega (arith, long)) a h)
 
 -- ---- W once the heads of the buckets are wiped
 

@@ -1,0 +1,85 @@
+-- From the code to its map: what each stage asks, and what they leave together. Assumes nothing.
+use mathlib.Core.Path.{_≡_, refl, sym, _∙_, subst}
+use Prim.Native.Nat.{ℕ}
+use native.Mathlib.Omega.{arith}
+use mathlib.Core.List.{List}
+use lib.ListN.{length}
+use Rattle.spec.specs.Opcodes.{in-mode}
+use Rattle.spec.specs.Search.{Rec}
+use Rattle.spec.specs.Rooms.{Lent, shortage, work-need}
+use Rattle.spec.specs.Answer as spec
+use Rattle.spec.specs.Answer.{searched, mapped}
+use Rattle.layout.specs.Buffers.{Mem, buffers}
+use Rattle.exec.specs.declared.mode.Mode.{Mode}
+use Rattle.exec.specs.Modes.{modeOf}
+use Rattle.initial.specs.Contracts.{Initial}
+use Rattle.parents.specs.Contracts as parents
+use Rattle.parents.specs.Contracts.{Prepared}
+use Rattle.parents.proofs.Knows.{known-prefix}
+use Rattle.tables.proofs.Counted.{recs-length}
+use Rattle.steps.specs.Runs.{recsIn}
+use Rattle.steps.specs.declared.Run.{Run}
+use Rattle.resolver.specs.Turns.{plan, SearchAsks, Searched}
+use Rattle.steps.specs.Paths.{occurs}
+use Rattle.graph.specs.Contracts as graph
+use Rattle.graph.specs.Contracts.{Graphs, Graphed}
+use Rattle.graph.proofs.Fitting.{search-fits}
+use Rattle.entries.specs.Contracts.{mapOf}
+use Rattle.answer.specs.Contracts.{lentOf, Lends, Leaves, Finds}
+
+module _ {limit : ℕ} {code w w₁ : List ℕ} (l : Lends limit code w) (i : Initial code w w₁) where
+  module _ {room : ℕ} (is : room ≡ work-need (length code)) where
+    pub run-lends : parents.Lent code w₁ room
+    run-lends = record { short = l .short; same = i .same; laid = i .laid; room = omega arith; inside = omega (arith, l .lent, i .beyond .kept) }
+
+  module _ {room : ℕ} (is : room ≡ work-need (length code)) (mode : Mode) {w₂ : List ℕ} {head : ℕ} (made : Prepared (modeOf mode) code w₁ room w₂ head) where
+    p : Prepared (modeOf mode) code w₁ (work-need (length code)) w₂ head
+    p = subst (λ (k : ℕ). Prepared (modeOf mode) code w₁ k w₂ head) is made
+
+    long-w : length w₂ ≡ length w
+    long-w = p .beside .kept ∙ i .beyond .kept
+
+    pub run-asks : SearchAsks mode code w₂ limit head
+    run-asks = record { short = l .short; limited = l .limited; lent = omega (arith, l .lent, long-w); known = p .known }
+
+    module _ {P S T R Q : List ℕ} {m₃ : Mem} {d : Run} (s : Searched mode code limit head (buffers w₂ P S T R Q) m₃ d) where
+      code-is : (out : List ℕ) → d .code ≡ shortage (lentOf (buffers w P S T R Q) out) (searched (in-mode (modeOf mode)) limit code .needs)
+      unfolding searched
+      code-is out = s .short (lentOf (buffers w P S T R Q) out) refl refl refl refl refl
+
+      module _ (long : length (m₃ .w) ≡ length w₂) where
+        -- no room was short
+        module _ (z : d .code ≡ 0) where
+          run-fits : graph.Fits (modeOf mode) code (m₃ .s) (plan mode code limit head (buffers w₂ P S T R Q) .rooms .s) (length code) (d .counts .records) (m₃ .w) (m₃ .r) (m₃ .q)
+          unfolding occurs
+          run-fits =
+              search-fits (modeOf mode) limit code (s .between z .idle .tables) refl (known-prefix (m₃ .w) (sym (s .rows z)) (p .known) .blocks)
+              (record { short = l .short; room = omega (arith, l .lent, long, long-w) }) (s .recs z) (s .between z .idle .counts .counts)
+
+          pub run-graphs : Graphs (length code) (d .counts .records) (m₃ .w) (m₃ .r) (m₃ .q)
+          run-graphs = record { mode = modeOf mode; code = code; states = m₃ .s; room = plan mode code limit head (buffers w₂ P S T R Q) .rooms .s; fits = run-fits }
+
+          abbrev found : List Rec
+          found = recsIn (plan mode code limit head (buffers w₂ P S T R Q)) m₃ (d .counts)
+
+          map-is : (choice : ℕ) → mapOf (modeOf mode) code found (d .energy) choice ≡ mapped (in-mode (modeOf mode)) choice code (searched (in-mode (modeOf mode)) limit code)
+          unfolding mapped searched
+          map-is choice = rw (s .recs z, s .energy z)
+
+          run-leaves : {w₄ r₄ : List ℕ} → Graphed (length code) (d .counts .records) (m₃ .w) (m₃ .r) (m₃ .q) w₄ r₄
+              → Leaves limit (modeOf mode) code w₄ r₄ (m₃ .q) (d .counts .records) (d .energy)
+          run-leaves g = record {
+            recs = found;
+            ends = record {
+              finished = g .finished (modeOf mode) code (m₃ .s) _ run-fits;
+              size = refl;
+              count = recs-length (m₃ .r) (m₃ .q) (m₃ .s) _ (d .counts .records);
+            };
+            is = map-is;
+            short = l .short;
+            small = omega (arith, s .energy-most z, l .limited);
+          }
+
+        pub run-finds : {w₄ r₄ : List ℕ} → (d .code ≡ 0 → Graphed (length code) (d .counts .records) (m₃ .w) (m₃ .r) (m₃ .q) w₄ r₄)
+            → Finds limit (modeOf mode) code (buffers w P S T R Q) w₄ r₄ (m₃ .q) d
+        run-finds g = record { number = code-is; leaves = λ z. run-leaves z (g z) }

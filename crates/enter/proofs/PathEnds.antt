@@ -1,0 +1,28 @@
+-- A path that has ended: what is recorded of it, and no level opens. Assumes nothing.
+use mathlib.Core.Path.{_≡_, refl, subst}
+use Prim.Native.Nat.{ℕ}
+use mathlib.Core.List.{List}
+use Rattle.spec.specs.Search.{Found, nowhere}
+use Rattle.tables.specs.Tables as tables
+use Rattle.tables.specs.Tables.{newFound, noEntry}
+use Rattle.tables.specs.declared.Entry.{Entry}
+use Rattle.tables.proofs.Noted.{new-nowhere}
+use Rattle.tables.specs.declared.Reply.{Reply}
+use Rattle.steps.specs.Lands.{Noted}
+use Rattle.enter.specs.Enters.{endedWith, Ended}
+use Rattle.steps.specs.declared.Plan.{Plan}
+use Rattle.steps.specs.declared.Level.{Level}
+use Rattle.steps.specs.declared.Run.{Run}
+use Rattle.enter.specs.declared.enter.Opening.{Opening}
+
+pub ended-with : {p : List ℕ} {np start energy : ℕ} {k : Plan} {m m′ : tables.Mem} {l : Level} {o : Run} {y : Found} {a : Reply} {e : Opening}
+    → Noted p np k m (o .counts) start energy y m′ a → energy ≡ o .energy → e ≡ endedWith o a l → Ended p np k m start l o y m′ e
+ended-with {p} {np} {start} {k = k} {m} {m′} {o = o} {y} {a} n c f =
+    rw f (record { is = refl; energy = refl; noted = subst (λ (v : ℕ). Noted p np k m (o .counts) start v y m′ a) c n })
+
+-- the entry that leads nowhere
+pub ended-nowhere : {p : List ℕ} {np start : ℕ} {k : Plan} {m m′ : tables.Mem} {l : Level} {o : Run} {y : Entry} {e : Opening}
+    → y ≡ noEntry start (o .energy) → Ended p np k m (y .start) l o (newFound (m .s) y) m′ e → Ended p np k m start l o nowhere m′ e
+ended-nowhere {p} {np} {start} {k} {m} {m′} {l} {o} {y} {e} f n =
+    subst (λ (g : Found). Ended p np k m start l o g m′ e) (new-nowhere (m .s) (noEntry start (o .energy)) refl)
+    (subst (λ (x : Entry). Ended p np k m (x .start) l o (newFound (m .s) x) m′ e) f n)

@@ -1,0 +1,305 @@
+-- The pass over the rows, from the last to the first: those from an address on are prepared, and the others hold their blocks as they did. Assumes nothing.
+use mathlib.Core.Path.{_≡_, refl, ap, _∙_, subst}
+use mathlib.Core.Bool.{true, false}
+use mathlib.Core.Option.{Option}
+use mathlib.Core.List.{List, [], _∷_, _++_, map-append}
+use Prim.Native.Nat.{ℕ, zero, suc, _+_, _-_, _≤_, _<_}
+use native.Mathlib.Omega.{arith}
+use native.Mathlib.Decide.{ℕ-discrete}
+use native.Mathlib.Nat.{add-zero, sub-self}
+use lib.Dec.{eqb}
+use lib.ListN.{length, replicate}
+use Rattle.spec.specs.Opcodes.{row, in-mode}
+use Rattle.spec.specs.Lists.{if, little}
+use Rattle.spec.specs.Walk.{instructions}
+use Rattle.spec.specs.Blocks.{Kind, terminate, jump, jumpi, dynamic-jump, dynamic-jumpi, Block, block, blocks}
+use Rattle.spec.specs.Stacks.{Sym, run}
+use Rattle.spec.specs.Search.{Node, settled, node, nodes, takers}
+use Rattle.spec.specs.Rooms.{longest}
+use Rattle.lent.specs.Bytes.{numAt}
+use Rattle.lent.proofs.Numbers.{num-within}
+use Rattle.laws.proofs.Branch.{both}
+use Rattle.laws.proofs.Members.{In}
+use Rattle.theorems.proofs.Counts.{lawful}
+use Rattle.theorems.proofs.Cutting.{made, block-afresh}
+use Rattle.layout.specs.Parts.{rowPlace}
+use Rattle.layout.specs.Rows.{END, FIRST, typed, tagAt, typeAt}
+use Rattle.layout.specs.declared.row.BlockType.{BlockType}
+use Rattle.initial.specs.Rows.{typeOf, kindAt, blockAt, rowBlocks, blocksFrom}
+use Rattle.theorems.proofs.Sides.{Within, block-within, node-within}
+use Rattle.initial.proofs.Types.{Good, good}
+use Rattle.initial.proofs.Rows.{here-empty, here-block, by-row, from-one, block-in}
+use Rattle.parents.specs.Rows.{ownBytes, linkBytes, turnsOf, firstTaker, takerPast, edgeTo, firstTo, ownOf, linksOf, nodesHere, nodesFrom}
+use Rattle.parents.specs.Writes.{linkSides, place, goesAt}
+use Rattle.parents.specs.Contracts.{Lent, Beside, Sides, Wrote, Settles, Settled, PreparesRow, PreparedRow}
+use Rattle.parents.proofs.Slots.{own, first, links, own-type, Rows, rows-ran, rows-sides, rows-placed}
+use Rattle.parents.proofs.prepare.Proof.Settling.{none-own, none-links, first-zero, block-own, block-links, looks, settles}
+
+-- the block that starts at an address, with its own run
+abbrev pub nodeAt : ℕ → List ℕ → List ℕ → ℕ → Node
+nodeAt mode code w a = node (blockAt w a) (run (in-mode mode) code (instructions code) a)
+
+abbrev pub goesFrom : ℕ → List ℕ → ℕ → Option Sym
+goesFrom mode code a = run (in-mode mode) code (instructions code) a .goes
+
+abbrev pub lastAt : List ℕ → ℕ → ℕ
+lastAt w a = numAt 2 w (rowPlace a + END)
+
+-- ---- the blocks from an address on
+
+pub nodes-split : (mode : ℕ) (code w : List ℕ) (a : ℕ) → a ≤ length code → nodesFrom mode code w a ≡ nodesHere mode code w a ++ nodesFrom mode code w (suc a)
+nodes-split mode code w a h =
+    let e : suc (length code) - a ≡ suc (length code - a) = omega arith in
+    let f : suc (length code) - suc a ≡ length code - a = omega arith in
+    rw (e, f, from-one w a (length code - a)) (map-append _ (rowBlocks w a) (blocksFrom w (suc a) (length code - a)))
+
+pub nodes-end : (mode : ℕ) (code w : List ℕ) → nodesFrom mode code w (suc (length code)) ≡ []
+unfolding blocksFrom
+nodes-end mode code w = rw (sub-self (suc (length code)))
+
+edge-small : (n x a : ℕ) → a ≤ n → (k : Kind) (later : ℕ) → later ≤ n + 1 → edgeTo x a k later ≤ n + 1
+edge-small n x a h (terminate success) later l = l
+edge-small n x a h (jump u) later l = both (λ (v : ℕ). v ≤ n + 1) (eqb x u) (λ _. omega arith) (λ _. l)
+edge-small n x a h (jumpi u f) later l =
+    both (λ (v : ℕ). v ≤ n + 1) (eqb x u) (λ _. omega arith) (λ _. both (λ (v : ℕ). v ≤ n + 1) (eqb x f) (λ _. omega arith) (λ _. l))
+edge-small n x a h dynamic-jump later l = l
+edge-small n x a h (dynamic-jumpi f) later l = both (λ (v : ℕ). v ≤ n + 1) (eqb x f) (λ _. omega arith) (λ _. l)
+
+module _ (mode : ℕ) (code w : List ℕ) where
+  from-small : (x a m : ℕ) → a + m ≤ suc (length code) → firstTo x (nodes (in-mode mode) code (instructions code) (blocksFrom w a m)) ≤ length code + 1
+  unfolding blocksFrom firstTo
+  from-small x a zero h = omega arith
+  from-small x a (suc m) h =
+      let later = from-small x (suc a) m (omega arith) in
+      by-row w a (λ (bs : List Block). firstTo x (nodes (in-mode mode) code (instructions code) (bs ++ blocksFrom w (suc a) m)) ≤ length code + 1) (λ _. later)
+      (λ _. edge-small (length code) x a (omega arith) (settled (run (in-mode mode) code (instructions code) a .goes) (kindAt w a)) (firstTo x (nodes (in-mode mode) code (instructions code) (blocksFrom w (suc a) m))) later)
+
+  pub first-small : length code ≤ longest → (a : ℕ) → a ≤ suc (length code) → (x : ℕ) → firstTo x (nodesFrom mode code w a) < 65536
+  first-small h a l x = omega (arith, from-small x a (suc (length code) - a) (omega arith))
+
+-- ---- kinds whose sides lie in the code
+
+module _ (n : ℕ) where
+  type-to : (k : Kind) → Within n k → typeOf k .to ≤ n
+  type-to (terminate false) h = omega arith
+  type-to (terminate true) h = omega arith
+  type-to (jump t) h = omega arith
+  type-to (jumpi t f) h = omega (arith, h .0)
+  type-to dynamic-jump h = omega arith
+  type-to (dynamic-jumpi f) h = omega arith
+
+  type-other : (k : Kind) → Within n k → typeOf k .other ≤ n
+  type-other (terminate false) h = omega arith
+  type-other (terminate true) h = omega arith
+  type-other (jump t) h = omega arith
+  type-other (jumpi t f) h = h .1
+  type-other dynamic-jump h = omega arith
+  type-other (dynamic-jumpi f) h = h .1
+
+  pub good-within : n ≤ longest → (k : Kind) → Within n k → Good (typeOf k)
+  good-within s k h = good k (omega (arith, type-to k h)) (omega (arith, type-other k h))
+
+-- ---- the pass
+
+pub record Pass (mode : ℕ) (code w₀ : List ℕ) (end : ℕ) (w : List ℕ) (a head : ℕ) : Type 0 where
+  pub own-ahead : (x : ℕ) → x < a → own w x ≡ own w₀ x
+  pub links-ahead : (x : ℕ) → x < a → links w x ≡ links w₀ x
+  pub own-done : (x : ℕ) → a ≤ x → x ≤ length code → own w x ≡ ownOf (nodesHere mode code w₀ x)
+  pub links-done : (x : ℕ) → a ≤ x → x ≤ length code → links w x ≡ linksOf (nodesHere mode code w₀ x) (nodesFrom mode code w₀ (suc x))
+  pub firsts : (x : ℕ) → x ≤ length code → first w x ≡ little 2 (firstTo x (nodesFrom mode code w₀ a))
+  pub heads : head ≡ firstTaker (takers (nodesFrom mode code w₀ a))
+  pub beside : Beside code w₀ end w
+  pub inside : a ≤ suc (length code)
+
+pub pass-none : {mode : ℕ} {code w : List ℕ} {end : ℕ} → Lent code w end → Pass mode code w end w (length code + 1) 0
+unfolding firstTo
+pass-none {mode} {code} {w} l =
+    let e : length code + 1 ≡ suc (length code) = omega arith in
+    let z = nodes-end mode code w in
+    record {
+      own-ahead = λ x h. refl;
+      links-ahead = λ x h. refl;
+      own-done = λ x h g. absurd (omega arith);
+      links-done = λ x h g. absurd (omega arith);
+      firsts = λ x h. rw (e, z) (first-zero (l .laid) x h);
+      heads = rw (e, z);
+      beside = record { between = refl; past = refl; kept = refl };
+      inside = omega arith;
+    }
+
+-- ---- one row
+
+-- the block of a row that has one
+pub block-of : {code w : List ℕ} {end : ℕ} → Lent code w end → (a : ℕ) → a ≤ length code → (tagAt w a ≡ 0 → ⊥) → In (blockAt w a) (blocks row code (instructions code))
+block-of {code} {w} l a g h = rw (← l .same) (block-in w (length code) a g h)
+
+module _ {mode : ℕ} {code w₀ : List ℕ} {end : ℕ} (l : Lent code w₀ end) {w : List ℕ} {a head : ℕ} (p : Pass mode code w₀ end w (suc a) head) where
+  here : a ≤ length code
+  here = omega (arith, p .inside)
+
+  tag-same : tagAt w a ≡ tagAt w₀ a
+  tag-same = rw add-zero at (num-within w w₀ FIRST (rowPlace a) (rowPlace a) (p .own-ahead a (omega arith)) 1 0 (omega arith))
+
+  block-there : (tagAt w₀ a ≡ 0 → ⊥) → In (blockAt w₀ a) (blocks row code (instructions code))
+  block-there h = block-of l a here h
+
+  settles-row : Settles code w end a
+  settles-row =
+      record {
+        stands = λ h. block-afresh lawful code (block-there (λ z. omega (arith, tag-same)));
+        short = l .short;
+        row = here;
+        room = l .room;
+        inside = omega (arith, l .inside, p .beside .kept);
+      }
+
+  module _ {w₁ : List ℕ} {r : ℕ} (s : Settled mode code w end a head w₁ r) where
+    ran : Rows code w₀ end a w (s .after) (own w a) (links w a) (λ x. firstTo x (nodesFrom mode code w₀ (suc a)))
+    ran = rows-ran (l .room) (l .inside) here (p .beside) (p .firsts) (s .ran)
+
+    -- after the first stage: the row's type, whose sides lie in the code
+    record Half (o k : List ℕ) (t : BlockType) : Type 0 where
+      rows : Rows code w₀ end a w w₁ o k (λ x. firstTo x (nodesFrom mode code w₀ (suc a)))
+      type : typeAt w₁ a ≡ t
+      to : t .to ≤ length code
+      other : t .other ≤ length code
+
+    half-sides : {o k : List ℕ} {t : BlockType} → Half o k t → Sides w₁ a
+    half-sides h =
+        record {
+          own = omega (arith, here, l .inside, l .room, h .rows .beside .kept);
+          to = omega (arith, l .inside, l .room, h .rows .beside .kept, h .to, ap (λ (t : BlockType). t .to) (h .type));
+          other = omega (arith, l .inside, l .room, h .rows .beside .kept, h .other, ap (λ (t : BlockType). t .other) (h .type));
+        }
+
+    -- where no block starts
+    module _ (none-there : tagAt w₀ a ≡ 0) where
+      half-none : Half (replicate FIRST 0) (linkBytes 0 0 0) (typed 0 0 0)
+      unfolding place goesAt if
+      half-none =
+          let e : rowBlocks w₀ a ≡ [] = here-empty w₀ a none-there in
+          let o : own w a ≡ replicate FIRST 0 = p .own-ahead a (omega arith) ∙ none-own (l .laid) a here e in
+          let k : links w a ≡ linkBytes 0 0 0 = p .links-ahead a (omega arith) ∙ none-links (l .laid) a here e in
+          let q : w₁ ≡ s .after = s .is ∙ rw (tag-same, none-there) in
+          let d : Rows code w₀ end a w w₁ (replicate FIRST 0) (linkBytes 0 0 0) (λ x. firstTo x (nodesFrom mode code w₀ (suc a))) = rw (q, ← o, ← k) ran in
+          record { rows = d; type = own-type w₁ a (typed 0 0 0) 0 0 (d .own-here) (omega arith) (omega arith) (omega arith); to = omega arith; other = omega arith }
+
+      head-none : r ≡ firstTaker (takers (nodesFrom mode code w₀ (suc a)))
+      unfolding goesAt if
+      head-none = s .first ∙ rw (tag-same, none-there) (p .heads)
+
+    -- where a block starts
+    module _ (there : tagAt w₀ a ≡ 0 → ⊥) where
+      within : Within (length code) (kindAt w₀ a)
+      within = block-within (in-mode mode) lawful code (block-there there)
+
+      small : lastAt w₀ a < 65536
+      small = omega (arith, made lawful code (block-there there) .end-inside, l .short)
+
+      row-own : own w a ≡ ownBytes (lastAt w₀ a) (typeOf (kindAt w₀ a)) 0
+      row-own = p .own-ahead a (omega arith) ∙ block-own (l .laid) a here (here-block w₀ a there)
+
+      row-links : links w a ≡ linkBytes 0 0 0
+      row-links = p .links-ahead a (omega arith) ∙ block-links (l .laid) a here (here-block w₀ a there)
+
+      row-type : typeAt w a ≡ typeOf (kindAt w₀ a)
+      row-type =
+          let g = good-within (length code) (l .short) (kindAt w₀ a) within in
+          own-type w a (typeOf (kindAt w₀ a)) (lastAt w₀ a) 0 row-own (omega (arith, g .range .1)) (g .to) (g .other)
+
+      goes-looks : goesAt mode code w a ≡ looks (kindAt w₀ a) (goesFrom mode code a)
+      unfolding goesAt
+      goes-looks = rw (ap (λ (t : BlockType). t .kind) row-type)
+
+      half-block : Half (ownOf (nodeAt mode code w₀ a ∷ [])) (linkBytes 0 0 (takerPast (turnsOf (nodeAt mode code w₀ a)) (nodesFrom mode code w₀ (suc a)))) (typeOf (nodeAt mode code w₀ a .block .kind))
+      half-block =
+          let x = settles a (lastAt w₀ a) (run (in-mode mode) code (instructions code) a .stack) (nodesFrom mode code w₀ (suc a)) (kindAt w₀ a) (goesFrom mode code a) in
+          let q : w₁ ≡ place (s .after) a (typeOf (kindAt w₀ a)) (looks (kindAt w₀ a) (goesFrom mode code a)) (firstTaker (takers (nodesFrom mode code w₀ (suc a)))) = s .is ∙ rw (row-type, goes-looks, p .heads) in
+          let d = rows-placed (l .room) (l .inside) here (typeOf (kindAt w₀ a)) (lastAt w₀ a) (firstTaker (takers (nodesFrom mode code w₀ (suc a)))) small (rw (row-own, row-links) at ran) (looks (kindAt w₀ a) (goesFrom mode code a)) q in
+          let f : Rows code w₀ end a w w₁ (ownOf (nodeAt mode code w₀ a ∷ [])) (linkBytes 0 0 (takerPast (turnsOf (nodeAt mode code w₀ a)) (nodesFrom mode code w₀ (suc a)))) (λ y. firstTo y (nodesFrom mode code w₀ (suc a))) = rw (x .own-is, x .links-are) at d in
+          let v = node-within (in-mode mode) lawful code (block-there there) in
+          let g = good-within (length code) (l .short) (nodeAt mode code w₀ a .block .kind) v in
+          record {
+            rows = f;
+            type = own-type w₁ a (typeOf (nodeAt mode code w₀ a .block .kind)) (lastAt w₀ a) _ (f .own-here) (omega (arith, g .range .1)) (g .to) (g .other);
+            to = type-to (length code) (nodeAt mode code w₀ a .block .kind) v;
+            other = type-other (length code) (nodeAt mode code w₀ a .block .kind) v;
+          }
+
+      head-block : r ≡ firstTaker (takers (nodeAt mode code w₀ a ∷ nodesFrom mode code w₀ (suc a)))
+      head-block =
+          let x = settles a (lastAt w₀ a) (run (in-mode mode) code (instructions code) a .stack) (nodesFrom mode code w₀ (suc a)) (kindAt w₀ a) (goesFrom mode code a) in
+          s .first ∙ rw (goes-looks, p .heads) (x .head-is)
+
+    settled-sides : Sides w₁ a
+    settled-sides = go (ℕ-discrete (tagAt w₀ a) 0)
+      where
+        go : Dec (tagAt w₀ a ≡ 0) → Sides w₁ a
+        go (yes z) = half-sides (half-none z)
+        go (no n) = half-sides (half-block n)
+
+    -- after both: the row is prepared
+    module _ {w₂ : List ℕ} (d : Wrote w₁ w₂ (linkSides w₁ a (typeAt w₁ a))) where
+      record Turned (hs : List Node) : Type 0 where
+        rows : Rows code w₀ end a w w₂ (ownOf hs) (linksOf hs (nodesFrom mode code w₀ (suc a))) (λ x. firstTo x (hs ++ nodesFrom mode code w₀ (suc a)))
+        head-is : r ≡ firstTaker (takers (hs ++ nodesFrom mode code w₀ (suc a)))
+
+      turned-none : tagAt w₀ a ≡ 0 → Turned []
+      unfolding linkSides if
+      turned-none z =
+          let h = half-none z in
+          record { rows = rw (d .is ∙ ap (linkSides w₁ a) (h .type)) (h .rows); head-is = head-none z }
+
+      turned-block : (tagAt w₀ a ≡ 0 → ⊥) → Turned (nodeAt mode code w₀ a ∷ [])
+      unfolding firstTo
+      turned-block n =
+          let h = half-block n in
+          record {
+            rows =
+                rows-sides (l .room) (l .inside) here (nodesFrom mode code w₀ (suc a)) (takerPast (turnsOf (nodeAt mode code w₀ a)) (nodesFrom mode code w₀ (suc a)))
+                (first-small mode code w₀ (l .short) (suc a) (p .inside)) (nodeAt mode code w₀ a .block .kind) (node-within (in-mode mode) lawful code (block-there n)) (h .rows)
+                (d .is ∙ ap (linkSides w₁ a) (h .type));
+            head-is = head-block n;
+          }
+
+      turned : Turned (nodesHere mode code w₀ a)
+      turned = go (ℕ-discrete (tagAt w₀ a) 0)
+        where
+          go : Dec (tagAt w₀ a ≡ 0) → Turned (nodesHere mode code w₀ a)
+          go (yes z) = rw (here-empty w₀ a z) (turned-none z)
+          go (no n) = rw (here-block w₀ a n) (turned-block n)
+
+      passed : Pass mode code w₀ end w₂ a r
+      passed =
+          let t = turned in
+          let e = nodes-split mode code w₀ a here in
+          record {
+            own-ahead = λ x h. t .rows .own-other x (omega (arith, here)) (λ q. omega arith) ∙ p .own-ahead x (omega arith);
+            links-ahead = λ x h. t .rows .links-other x (omega (arith, here)) (λ q. omega arith) ∙ p .links-ahead x (omega arith);
+            own-done = λ x h g. own-at x h g (ℕ-discrete x a);
+            links-done = λ x h g. links-at x h g (ℕ-discrete x a);
+            firsts = λ x h. rw e (t .rows .firsts x h);
+            heads = rw e (t .head-is);
+            beside = t .rows .beside;
+            inside = omega (arith, here);
+          }
+        where
+          own-at : (x : ℕ) → a ≤ x → x ≤ length code → Dec (x ≡ a) → own w₂ x ≡ ownOf (nodesHere mode code w₀ x)
+          own-at x h g (yes q) = rw q (turned .rows .own-here)
+          own-at x h g (no n) = turned .rows .own-other x g n ∙ p .own-done x (omega arith) g
+
+          links-at : (x : ℕ) → a ≤ x → x ≤ length code → Dec (x ≡ a) → links w₂ x ≡ linksOf (nodesHere mode code w₀ x) (nodesFrom mode code w₀ (suc x))
+          links-at x h g (yes q) = rw q (turned .rows .links-here)
+          links-at x h g (no n) = turned .rows .links-other x g n ∙ p .links-done x (omega arith) g
+
+-- ---- as the loop has it: the address before is next
+
+module _ {mode : ℕ} {code w₀ : List ℕ} {end : ℕ} (l : Lent code w₀ end) {w : List ℕ} {i head : ℕ} (p : Pass mode code w₀ end w i head) (some-left : i ≡ 0 → ⊥) where
+  back : Pass mode code w₀ end w (suc (i - 1)) head
+  back = let e : i ≡ suc (i - 1) = omega arith in subst (λ (j : ℕ). Pass mode code w₀ end w j head) e p
+
+  pub pass-row : PreparesRow mode code w end (i - 1) head
+  pass-row = record { settles = settles-row l back; sides = λ v r s. settled-sides l back s }
+
+  pub pass-more : {w₂ : List ℕ} {r : ℕ} → PreparedRow mode code w end (i - 1) head w₂ r → Pass mode code w₀ end w₂ (i - 1) r
+  pass-more d = passed l back (d .settled) (d .linked)
