@@ -26,21 +26,21 @@ use Rattle.tables.specs.declared.row.Sums.{Sums}
 use Rattle.tables.specs.declared.row.Seen.{Seen}
 use Rattle.tables.proofs.Orders.{left-first, left-none, left-below, left-hit, left-less, left-more}
 use Rattle.tables.proofs.Stamps.{eq-sym-true, eq-stack-true}
-use Rattle.tables.proofs.Sums.{mix-low}
+use Rattle.tables.proofs.Sums.{mix-low, bucket-few}
 
 -- what both sums begin with
 module _ (k : ℕ) (x : Seen) {l a v b : ℕ} (d : l ≡ x .last % 2 ^ 32) (e : a ≡ mixed k 0 l) (f : v ≡ weight (symOf (x .symbol))) (g : b ≡ mixed k a v) where
   begun : b ≡ mixed k (mixed k 0 (x .last)) (weight (symOf (x .symbol)))
   begun = let h : a ≡ mixed k 0 (x .last) = e ∙ ap (mixed k 0) d ∙ mix-low k 0 (x .last) in g ∙ rw (h, f)
 
-pub stamped : (s : List ℕ) (x : Seen) {l v a b : ℕ} {z y : Sums} {p q r : ℕ} → l ≡ x .last % 2 ^ 32 → v ≡ weight (symOf (x .symbol)) → a ≡ mixed 37 0 l → z .sum ≡ mixed 37 a v
-    → b ≡ mixed 3 0 l → z .mark ≡ mixed 3 b v → SumsWith z (symsAt s (9 * x .from) (x .cells)) y → p ≡ y .sum → p < 2 ^ 32 → q ≡ y .mark → r ≡ p * 256 + q % 256 → Stamped s x r
+pub stamped : (s : List ℕ) (x : Seen) {l v a b : ℕ} {z y : Sums} {p q o r : ℕ} → l ≡ x .last % 2 ^ 32 → v ≡ weight (symOf (x .symbol)) → a ≡ mixed 37 0 l → z .sum ≡ mixed 37 a v
+    → b ≡ mixed 3 0 l → z .mark ≡ mixed 3 b v → SumsWith z (symsAt s (9 * x .from) (x .cells)) y → p ≡ y .sum → p < 2 ^ 32 → q ≡ y .mark → o ≡ bucketOf 256 q → o < 256 → r ≡ p * 256 + o → Stamped s x r
 unfolding stamp summed
-stamped s x {z = z} {y} {p} {q} {r} d f e g e′ g′ h i small j is =
+stamped s x {z = z} {y} {p} {q} {o} {r} d f e g e′ g′ h i small j falls below is =
     let xs = symsAt s (9 * x .from) (x .cells) in
     let sum : p ≡ symSums 37 (mixed 37 (mixed 37 0 (x .last)) (weight (symOf (x .symbol)))) xs = i ∙ h .sum ∙ ap (λ (n : ℕ). symSums 37 n xs) (begun 37 x d e f g) in
     let mark : q ≡ symSums 3 (mixed 3 (mixed 3 0 (x .last)) (weight (symOf (x .symbol)))) xs = j ∙ h .mark ∙ ap (λ (n : ℕ). symSums 3 n xs) (begun 3 x d e′ f g′) in
-    record { is = is ∙ ap₂ (λ (m n : ℕ). m * 256 + n % 256) sum mark; small = omega arith }
+    record { is = is ∙ ap₂ (λ (m n : ℕ). m * 256 + n) sum (falls ∙ ap (bucketOf 256) mark); small = omega arith }
 
 pub stamp-read : (t : List ℕ) (i : ℕ) {a b r : ℕ} → Holds 4 t (seenPlace i + T-SUM) a → Holds 1 t (seenPlace i + T-MARK) b → r ≡ a * 256 + b → r ≡ stampAt t i
 unfolding stampAt
@@ -49,14 +49,15 @@ stamp-read t i h g e = e ∙ ap₂ (λ (m n : ℕ). m * 256 + n) (h .is) (g .is)
 -- the sum and the mark that stand in a row are those of its cells
 pub record OwnSums (t s : List ℕ) (i : ℕ) : Type 0 where
   pub sum : rowSumAt t i ≡ summed 37 (blockAt t i) (symAt t (seenPlace i + T-SYMBOL)) (symsAt s (9 * placeAt t i) (cellsAt t i))
-  pub mark : markAt t i ≡ summed 3 (blockAt t i) (symAt t (seenPlace i + T-SYMBOL)) (symsAt s (9 * placeAt t i) (cellsAt t i)) % 256
+  pub mark : markAt t i ≡ bucketOf 256 (summed 3 (blockAt t i) (symAt t (seenPlace i + T-SYMBOL)) (symsAt s (9 * placeAt t i) (cellsAt t i)))
 
 pub own-sums : {t s : List ℕ} {i : ℕ} → ((k : ℕ) → getD t k 0 < 256) → MetRow t s i → OwnSums t s i
 unfolding stampAt stamp
 own-sums {t} {s} {i} b r =
     let e = r .stamped in
     let m : markAt t i < 256 = num-small 1 t (seenPlace i + T-MARK) b in
-    record { sum = omega (arith, e, m); mark = omega (arith, e, m) }
+    let few = bucket-few 256 (summed 3 (blockAt t i) (symAt t (seenPlace i + T-SYMBOL)) (symsAt s (9 * placeAt t i) (cellsAt t i))) (omega arith) in
+    record { sum = omega (arith, e, m, few); mark = omega (arith, e, m, few) }
 
 -- ---- comparing with a row
 

@@ -1,7 +1,8 @@
 -- The laws of sums. Assumes nothing.
-use mathlib.Core.Path.{_≡_, refl, ap, ap₂, _∙_}
+use mathlib.Core.Path.{_≡_, refl, sym, ap, ap₂, _∙_}
 use mathlib.Core.List.{[], _∷_}
-use Prim.Native.Nat.{ℕ, _+_, _*_, _%_, _^_, _<_}
+use Prim.Native.Nat.{ℕ, _+_, _*_, _/_, _%_, _^_, _≤_, _<_, min}
+use native.Mathlib.Nat.{mod-lt, mul-le-mul, mul-lt-mul-of-pos-right, div-lt-iff-lt-mul, min-le-left}
 use native.Mathlib.Omega.{arith}
 use Rattle.spec.specs.Stacks.{Sym, before, constant, jumpdest}
 use Rattle.state.specs.Cells.{tag, value}
@@ -49,8 +50,36 @@ pub weighing : (x : Sym) {v l g t r : ℕ} → v ≡ value x → l ≡ v % 2 ^ 3
 unfolding weight
 weighing x {v} {g = g} p q f q′ h = both v (g * 1000000) q q′ h ∙ ap₂ (λ (k j : ℕ). (k + j * 1000000) % 2 ^ 32) p f
 
+-- ---- the bucket of a sum
+
+abbrev spread : ℕ → ℕ
+spread sum = sum % 2 ^ 32 * 2654435769 % 2 ^ 32
+
+spread-small : (sum : ℕ) → spread sum < 2 ^ 32
+spread-small sum = mod-lt (sum % 2 ^ 32 * 2654435769) (omega arith)
+
+pub product-fits : (sum : ℕ) {k : ℕ} → k ≤ 2 ^ 32 → spread sum * k ≤ 4294967295 * 2 ^ 32
+product-fits sum l = let h : spread sum ≤ 4294967295 = omega (arith, spread-small sum) in mul-le-mul h l
+
+pub scaled : (sum : ℕ) {k : ℕ} → 1 ≤ k → spread sum * k / 2 ^ 32 < k
+scaled sum {k} some =
+    let below : spread sum * k < 2 ^ 32 * k = mul-lt-mul-of-pos-right (spread-small sum) some in
+    let above : 0 < 2 ^ 32 = omega arith in
+    div-lt-iff-lt-mul above .1 (omega (arith, below))
+
+pub is-bucket : (buckets sum : ℕ) {k : ℕ} → k ≡ min buckets (2 ^ 32) → spread sum * k / 2 ^ 32 ≡ bucketOf buckets sum
+unfolding bucketOf
+is-bucket buckets sum e = ap (λ (k : ℕ). spread sum * k / 2 ^ 32) e
+
+pub bucket-few : (buckets sum : ℕ) → 1 ≤ buckets → bucketOf buckets sum < buckets
+unfolding bucketOf
+bucket-few buckets sum some =
+    let least : 1 ≤ min buckets (2 ^ 32) = omega arith in
+    let scale = scaled sum least in
+    omega (arith, scale, min-le-left buckets (2 ^ 32))
+
 -- the example of docs/LAYOUT.md
-example : (summed 37 4 (jumpdest 7) (constant 4294967295 ∷ before 2 ∷ before 3 ∷ []) ≡ 3898602115) × (summed 3 4 (jumpdest 7) (constant 4294967295 ∷ before 2 ∷ before 3 ∷ []) % 256 ≡ 193)
-    × (bucketOf 2048 (stamp 4 (jumpdest 7) (constant 4294967295 ∷ before 2 ∷ before 3 ∷ [])) ≡ 791)
+example : (summed 37 4 (jumpdest 7) (constant 4294967295 ∷ before 2 ∷ before 3 ∷ []) ≡ 3898602115) × (bucketOf 256 (summed 3 4 (jumpdest 7) (constant 4294967295 ∷ before 2 ∷ before 3 ∷ [])) ≡ 85)
+    × (bucketOf 2048 (stamp 4 (jumpdest 7) (constant 4294967295 ∷ before 2 ∷ before 3 ∷ [])) ≡ 1308)
 unfolding summed symSums mixed weight stamp bucketOf
 example = (refl, refl, refl)

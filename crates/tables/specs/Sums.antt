@@ -22,13 +22,13 @@ symSums k sum (x ∷ xs) = symSums k (mixed k sum (weight x)) xs
 unfoldable pub summed : ℕ → ℕ → Sym → List Sym → ℕ
 summed k last x xs = symSums k (mixed k (mixed k 0 last) (weight x)) xs
 
--- a row's sum, and the mark that tells apart rows of one sum, in the lowest byte
-unfoldable pub stamp : ℕ → Sym → List Sym → ℕ
-stamp last x xs = summed 37 last x xs * 256 + summed 3 last x xs % 256
-
 -- the bucket of a sum: its lowest 32 bits are spread over 32 bits by a factor, and what comes out is scaled down to the buckets
 unfoldable pub bucketOf : ℕ → ℕ → ℕ
 bucketOf buckets sum = sum % 2 ^ 32 * 2654435769 % 2 ^ 32 * min buckets (2 ^ 32) / 2 ^ 32
+
+-- a row's sum, and in the lowest byte the mark that tells apart rows of one sum: where the second sum falls among 256 buckets, so that every bit of it counts
+unfoldable pub stamp : ℕ → Sym → List Sym → ℕ
+stamp last x xs = summed 37 last x xs * 256 + bucketOf 256 (summed 3 last x xs)
 
 -- r has both sums with the symbols
 pub record SumsWith (a : Sums) (xs : List Sym) (r : Sums) : Type 0 where

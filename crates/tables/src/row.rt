@@ -104,7 +104,10 @@ fn sum_cells(s: &[u8], from: usize, cells: usize, sums: Sums) -> Sums
     Sums { sum, mark }
 }
 
-// The sum of what is looked up, and its mark in the lowest byte.
+// How many marks there are.
+const MARKS: usize = 256;
+
+// The sum of what is looked up, and its mark in the lowest byte: where the second sum falls among 256 buckets.
 pub fn stamp_of(s: &[u8], seen: Seen) -> usize
     requires { ⌜ (State (now s) (9 * seen .from) (seen .cells)) × (seen .last < 2 ^ 16) ⌝ }
     ensures { λ r. ⌜ Stamped (now (s .entry)) seen r ⌝ }
@@ -115,7 +118,7 @@ pub fn stamp_of(s: &[u8], seen: Seen) -> usize
     let sum = mix(mix(0, last), weight);
     let mark = blend(blend(0, last), weight);
     let sums = sum_cells(s, seen.from, seen.cells, Sums { sum, mark });
-    wide(sums.sum) * 256 + wide(sums.mark) % 256
+    wide(sums.sum) * 256 + bucket_of(wide(sums.mark), MARKS)
 }
 
 // Whether a row remembers `seen`, whose sum is given.

@@ -5,6 +5,11 @@ pub fn mixed(times: u32, sum: u32, number: u32) -> u32 {
     sum.wrapping_mul(times).wrapping_add(number)
 }
 
+/// The bucket of a sum, of so many.
+pub fn bucket(buckets: u64, sum: u32) -> u64 {
+    u64::from(sum.wrapping_mul(2_654_435_769)) * buckets >> 32
+}
+
 /// A symbol as a number, by its tag and its own number.
 pub fn weight(tag: u32, number: u64) -> u32 {
     (number as u32).wrapping_add(tag.wrapping_mul(1_000_000))
@@ -12,7 +17,7 @@ pub fn weight(tag: u32, number: u64) -> u32 {
 
 #[cfg(test)]
 mod tests {
-    use super::{mixed, weight};
+    use super::{bucket, mixed, weight};
 
     const PAGE: &str = include_str!("../../../docs/LAYOUT.md");
 
@@ -64,7 +69,7 @@ mod tests {
             sum = step(37, sum, number, &first);
             mark = step(3, mark, number, &second);
         }
-        let says = format!("has the sum {sum} and the mark {}:", mark % 256);
+        let says = format!("has the sum {sum} and the mark {}:", bucket(256, mark));
         assert!(PAGE.contains(&says), "{says}");
     }
 }
