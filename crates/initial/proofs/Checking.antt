@@ -53,11 +53,14 @@ module _ (code ss : List ℕ) where
   pub jumpi-ends : {m : Bool} (to f : ℕ) → m ≡ mem f ss → m ≡ false → typed 1 0 0 ≡ typeOf (checked code ss (jumpi to f))
   jumpi-ends to f d q = sym (ap typeOf (if-false _ _ _ (sym d ∙ q)))
 
-  pub jumpi-kept : {l m : Bool} (to f : ℕ) → m ≡ mem f ss → m ≡ true → l ≡ lands code ss to → l ≡ true → typed 4 to f ≡ typeOf (checked code ss (jumpi to f))
-  jumpi-kept to f d q e p = sym (ap typeOf (if-true _ _ _ (sym d ∙ q) ∙ if-true _ _ _ (sym e ∙ p)))
+  pub side-starts : {m : Bool} (f : ℕ) → m ≡ mem f ss → m ≡ true → mem f ss ≡ true
+  side-starts f d q = sym d ∙ q
 
-  pub jumpi-falls : {l m : Bool} (to f : ℕ) → m ≡ mem f ss → m ≡ true → l ≡ lands code ss to → l ≡ false → typed 3 f 0 ≡ typeOf (checked code ss (jumpi to f))
-  jumpi-falls to f d q e p = sym (ap typeOf (if-true _ _ _ (sym d ∙ q) ∙ if-false _ _ _ (sym e ∙ p)))
+  pub jumpi-kept : {l : Bool} (to f : ℕ) → mem f ss ≡ true → l ≡ lands code ss to → l ≡ true → typed 4 to f ≡ typeOf (checked code ss (jumpi to f))
+  jumpi-kept to f q e p = sym (ap typeOf (if-true _ _ _ q ∙ if-true _ _ _ (sym e ∙ p)))
+
+  pub jumpi-falls : {l : Bool} (to f : ℕ) → mem f ss ≡ true → l ≡ lands code ss to → l ≡ false → typed 3 f 0 ≡ typeOf (checked code ss (jumpi to f))
+  jumpi-falls to f q e p = sym (ap typeOf (if-true _ _ _ q ∙ if-false _ _ _ (sym e ∙ p)))
 
   abbrev Fits : Kind → Type 0
   Fits k = Good (typeOf k)

@@ -13,6 +13,7 @@ use layout::row::type_at;
 use lent::get8;
 use lent::get16;
 ghost use mathlib.Core.Path.{_≡_};
+ghost use mathlib.Core.Bool.{true};
 ghost use Prim.Native.Nat.{_+_, _*_, _≤_};
 ghost use lib.ListN.{length};
 ghost use Rattle.spec.specs.Lists.{mem};
@@ -82,22 +83,32 @@ fn checked_jumpi(code: &[u8], w: &[u8], to: usize, other: usize) -> BlockType
         (jumpi to other)) ⌝ }
 {
     if starts(code, w, other) {
-        if lands(code, w, to) {
-            return BlockType {
-                kind: JUMPI,
-                to,
-                other,
-            };
-        }
-        return BlockType {
-            kind: JUMP,
-            to: other,
-            other: 0,
-        };
+        return falling(code, w, to, other);
     }
     BlockType {
         kind: TERMINATE,
         to: 0,
+        other: 0,
+    }
+}
+
+// A Jumpi whose false side starts a block: "otherwise, if its true side starts none or isn't 5B, it becomes a Jump to its false side."
+fn falling(code: &[u8], w: &[u8], to: usize, other: usize) -> BlockType
+    requires { ⌜ rowsEnd (length (now code)) ≤ length (now w) ⌝ }
+    requires { ⌜ mem other (starts (blocksAt (now w) (length (now code)))) ≡ true ⌝ }
+    ensures { λ r. ⌜ r ≡ typeOf (checked (now (code .entry)) (starts (blocksAt (now (w .entry)) (length (now (code .entry)))))
+        (jumpi to other)) ⌝ }
+{
+    if lands(code, w, to) {
+        return BlockType {
+            kind: JUMPI,
+            to,
+            other,
+        };
+    }
+    BlockType {
+        kind: JUMP,
+        to: other,
         other: 0,
     }
 }

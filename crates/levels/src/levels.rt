@@ -15,6 +15,9 @@ use steps::path::uncount;
 ghost use mathlib.Core.Path.{_≡_};
 ghost use Prim.Native.Nat.{_+_, _<_, _^_};
 ghost use Rattle.layout.specs.Buffers.{buffers};
+ghost use Rattle.reachable.specs.Contracts.{Address};
+ghost use Rattle.reachable.specs.Marks.{markedBy};
+ghost use Rattle.steps.specs.Cursors.{lastCursor, Asks};
 ghost use Rattle.enter.specs.Enters.{Entering};
 ghost use Rattle.levels.specs.Levels.{spentWith, Opened, Leveled, Tried};
 
@@ -29,6 +32,14 @@ fn spend(going: Run) -> Run
         energy: going.energy + 1,
         counts,
     }
+}
+
+// Is the parent at `at` one "whose path's last block is then reached", when the level opened with `opened` records?
+fn reached_then(w: &[u8], r: &[u8], q: &[u8], size: usize, at: usize, opened: usize) -> bool
+    requires { ⌜ (Asks (now r) (now q) at) × (Address size (now w) (lastCursor (now r) (now q) at)) × (opened + 1 < 2 ^ 64) ⌝ }
+    ensures { λ x. ⌜ x ≡ markedBy (now (w .entry)) size (lastCursor (now (r .entry)) (now (q .entry)) at) (opened + 1) ⌝ }
+{
+    is_marked(w, size, last_block(r, q, at), opened + 1)
 }
 
 // A level: the parents of its path's last block, those that are there and reached when it opens, one after the other.
@@ -59,7 +70,7 @@ pub fn level(
     while at != 0 {
         let here = at;
         at = next_cursor(w, r, plan.n, last, opened, top, here);
-        if is_marked(w, plan.n, last_block(r, q, here), opened + 1) {
+        if reached_then(w, r, q, plan.n, here, opened) {
             cur = spend(cur);
             if plan.limit < cur.energy {
                 return cur;

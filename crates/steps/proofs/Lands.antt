@@ -40,7 +40,7 @@ use Rattle.tables.specs.declared.Reply.{Reply}
 use Rattle.tables.proofs.Counted.{recs-length}
 use Rattle.tables.proofs.Uses.{tables-kept}
 use Rattle.tables.proofs.Noted.{new-nowhere, new-at, recorded-more}
-use Rattle.steps.specs.Lands.{Marks, Lands, remarked, heightened, Grows, Noted}
+use Rattle.steps.specs.Lands.{Marks, Lands, remarked, heightened, FoundMarked, Grows, Noted}
 use Rattle.steps.specs.declared.Plan.{Plan}
 
 -- ---- the mark of an address, with a record more
@@ -190,12 +190,25 @@ spared-then p q =
       back = q .back ∙ p .back;
     }
 
+-- ---- a destination found: marked, and then its sides raised
+
+-- what `raise_sides` asks
+module _ {n a when : ℕ} {w w₁ : List ℕ} (at : Address n w a) (m : Marked n w a when w₁) where
+  pub raises-address : Address n w₁ a
+  raises-address = record { lent = record { short = at .lent .short; room = omega (arith, at .lent .room, m .long) }; inside = at .inside }
+
+  pub raises-within : SidesWithin w n → SidesWithin w₁ n
+  raises-within s = within-sides (sides-kept w w₁ n (marked-kept at m .rows)) s
+
+pub found-marked : {n a when : ℕ} {w w₁ w₂ : List ℕ} → Marked n w a when w₁ → Raised n (sidesAt w₁ a) w₁ a w₂ → FoundMarked n w a when w₂
+found-marked {w₁ = w₁} m v = record { between = w₁; marks = m; raises = v; long = v .long ∙ m .long }
+
+-- ---- noted: recorded, and marked if it is new
+
 -- no record more: the highest parents stay
 height-none : (w : List ℕ) (x : Found) (y h : ℕ) {new : Bool} → new ≡ false → heightened w new x y h ≡ h
 height-none w nowhere y h e = refl
 height-none w (found t s) y h e = if-false _ _ _ (rw e)
-
--- ---- noted: recorded, and marked if it is new
 
 module _ {p : List ℕ} {np n buckets start energy : ℕ} {k : Rooms} {m m′ : tables.Mem} {c : Counts} {x : Found} {a : Reply} (h : Recorded p np n buckets k m c start energy x m′ a) where
   -- recording leaves the marks
@@ -325,7 +338,7 @@ module _ {p : List ℕ} {np : ℕ} {k : Plan} {w r q s w₁ r₁ q₁ s₁ : Lis
   pub landed-nowhere : e .to ≡ NOWHERE → Noted p np k (tables.mem w r q s) c (e .start) (e .energy) (newFound s e) (tables.mem w₁ r₁ q₁ s₁) a
   landed-nowhere z = let is = new-nowhere s e z in noted-as is (strayed (recorded-as is))
 
-  -- what `mark` asks
+  -- what `mark_found` asks
   pub lands-address : (e .to ≡ NOWHERE → ⊥) → Address (k .n) w₁ (e .to)
   lands-address some-to =
       record {
@@ -333,37 +346,28 @@ module _ {p : List ℕ} {np : ℕ} {k : Plan} {w r q s w₁ r₁ q₁ s₁ : Lis
         inside = lands-inside y some-to;
       }
 
-  -- what `raise_sides` asks
-  module _ (some-to : e .to ≡ NOWHERE → ⊥) {w₂ : List ℕ} (m : Marked (k .n) w₁ (e .to) (c .records + 2) w₂) where
-    front : SameRows (k .n) w w₂
-    front = marked-kept (lands-address some-to) m .rows ∙ h .beyond .apart .front
-
-    pub raises-address : Address (k .n) w₂ (e .to)
-    raises-address =
-        record {
-          lent = record { short = y .lent .short; room = omega (arith, y .lent .room, m .long, h .beyond .apart .long) };
-          inside = lands-inside y some-to;
-        }
-
-    pub raises-within : SidesWithin w₂ (k .n)
-    raises-within = within-sides (sides-kept w w₂ (k .n) front) (y .within)
+  pub lands-within : SidesWithin w₁ (k .n)
+  lands-within = within-sides (sides-kept w w₁ (k .n) (h .beyond .apart .front)) (y .within)
 
   -- a record was added, so its destination is marked
-  pub landed-new : (e .to ≡ NOWHERE → ⊥) → {w₂ w₃ : List ℕ} → (a .counts .records ≡ c .records → ⊥) → Marked (k .n) w₁ (e .to) (c .records + 2) w₂
-      → Raised (k .n) (sidesAt w₂ (e .to)) w₂ (e .to) w₃ → Noted p np k (tables.mem w r q s) c (e .start) (e .energy) (newFound s e) (tables.mem w₃ r₁ q₁ s₁) a
-  landed-new some-to {w₂} {w₃} d m v =
+  pub landed-new : (e .to ≡ NOWHERE → ⊥) → {w₂ : List ℕ} → (a .counts .records ≡ c .records → ⊥) → FoundMarked (k .n) w₁ (e .to) (c .records + 2) w₂
+      → Noted p np k (tables.mem w r q s) c (e .start) (e .energy) (newFound s e) (tables.mem w₂ r₁ q₁ s₁) a
+  landed-new some-to d o =
       let is : newFound s e ≡ found (e .to) (stackAt s (9 * e .from) (e .cells)) = new-at s e (y .ready .tables .few) (lands-inside y some-to) in
       let at = lands-address some-to in
+      let m = o .marks in
+      let v = o .raises in
+      let front : SameRows (k .n) w (o .between) = marked-kept at m .rows ∙ h .beyond .apart .front in
       noted-as is
       (noted-by (recorded-as is) (spared-then (spared-mark at m) (spared-raised v)) (λ g. absurd (d g)) (λ _ z l. raised-marks v z l ∙ marked z (ℕ-discrete z (e .to)))
-      (λ _ z l. v .highs z l ∙ ap₂ (λ (ts : List ℕ) (f : ℕ). raised (mem z ts) (e .to) f) (sides-kept w w₂ (k .n) (front some-to m) (e .to) (lands-inside y some-to)) (kept-highs (marked-kept at m) z l))
+      (λ _ z l. v .highs z l ∙ ap₂ (λ (ts : List ℕ) (f : ℕ). raised (mem z ts) (e .to) f) (sides-kept w (o .between) (k .n) front (e .to) (lands-inside y some-to)) (kept-highs (marked-kept at m) z l))
       (λ g. highest-marked g at (omega arith) (lands-few y) m v))
     where
-      marked : (z : ℕ) → Dec (z ≡ e .to) → markAt w₂ (k .n) z ≡ remarked (mem z (e .to ∷ [])) (c .records) (markAt w₁ (k .n) z)
+      marked : (z : ℕ) → Dec (z ≡ e .to) → markAt (o .between) (k .n) z ≡ remarked (mem z (e .to ∷ [])) (c .records) (markAt w₁ (k .n) z)
       marked z (yes i) =
-          rw (mem-one z (e .to), eq-eqb z (e .to) i, i) (marked-one (lands-address some-to) m (lands-few y))
+          rw (mem-one z (e .to), eq-eqb z (e .to) i, i) (marked-one (lands-address some-to) (o .marks) (lands-few y))
       marked z (no i) =
-          marked-others (lands-address some-to) m z i ∙ sym (if-false (mem z (e .to ∷ []) && eqb (markAt w₁ (k .n) z) 0) _ _ (rw (mem-one z (e .to), ne-eqb z (e .to) i)))
+          marked-others (lands-address some-to) (o .marks) z i ∙ sym (if-false (mem z (e .to ∷ []) && eqb (markAt w₁ (k .n) z) 0) _ _ (rw (mem-one z (e .to), ne-eqb z (e .to) i)))
 
 -- ---- for the caller: the older records stay
 

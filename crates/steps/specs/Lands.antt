@@ -22,7 +22,7 @@ use Rattle.tables.specs.declared.Entry.{Entry}
 use Rattle.tables.specs.declared.Reply.{Reply}
 use Rattle.reachable.specs.Marks.{markedBy}
 use Rattle.reachable.specs.Edges.{sidesAt}
-use Rattle.reachable.specs.Contracts.{Room, SidesWithin, Highest, raised}
+use Rattle.reachable.specs.Contracts.{Room, SidesWithin, Marked, Highest, raised, Raised}
 use Rattle.steps.specs.declared.Plan.{Plan}
 
 -- An address counts as reached, for a level that opens with j records, if the round began with it reached or one of those records leads there. That holds
@@ -45,6 +45,13 @@ remarked d l f = if (d && eqb f 0) (l + 2) f
 abbrev pub heightened : List ℕ → Bool → Found → ℕ → ℕ → ℕ
 heightened w new nowhere y h = h
 heightened w new (found t s) y h = raised (new && mem y (sidesAt w t)) t h
+
+-- the address a of W is marked, if it has no mark, and in what that makes the highest parents of its sides are raised to it
+pub record FoundMarked (n : ℕ) (w : List ℕ) (a when : ℕ) (w′ : List ℕ) : Type 0 where
+  pub between : List ℕ
+  pub marks : Marked n w a when between
+  pub raises : Raised n (sidesAt between a) between a w′
+  pub long : length w′ ≡ length w
 
 -- what stays, where the counts c became d: of R, Q and S every byte that is not a new record's but for an older one's link to the next parent, the cells
 -- in use at the bottom of S among them; of W the rows, the counts and the flags of each address, the worklist and what lies past the buckets

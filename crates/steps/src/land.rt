@@ -9,7 +9,18 @@ use tables::Entry;
 use tables::Reply;
 use tables::record_entry;
 ghost use Rattle.tables.specs.Tables.{mem, newFound};
-ghost use Rattle.steps.specs.Lands.{Lands, Noted};
+ghost use Rattle.reachable.specs.Contracts.{Address, SidesWithin};
+ghost use Rattle.steps.specs.Lands.{FoundMarked, Lands, Noted};
+
+// Marks a destination found and raises its sides, so that a level which opens from now on finds it among their parents.
+fn mark_found(w: &mut [u8], size: usize, to: usize, when: usize)
+    requires { ⌜ Address size (now w) to ⌝ }
+    requires { ⌜ SidesWithin (now w) size ⌝ }
+    ensures { λ _. ⌜ FoundMarked size (now (w .entry)) to when (now (w .exit)) ⌝ }
+{
+    mark(w, size, to, when);
+    raise_sides(w, size, to);
+}
 
 // Records the path of np addresses with the entry's destination and its state, or with none, unless it is so recorded, and marks a new destination.
 pub fn land(
@@ -45,8 +56,7 @@ pub fn land(
     }
     let after = answer.counts;
     if after.records != counts.records {
-        mark(w, plan.n, entry.to, counts.records + 2);
-        raise_sides(w, plan.n, entry.to);
+        mark_found(w, plan.n, entry.to, counts.records + 2);
     }
     answer
 }

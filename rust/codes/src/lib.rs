@@ -30,3 +30,10 @@ pub fn from_hex(text: &str) -> Result<Vec<u8>, String> {
 pub fn to_hex(bytes: &[u8]) -> String {
     bytes.iter().map(|byte| format!("{byte:02x}")).collect()
 }
+
+/// FNV-1a of 64 bits, which stands for the bytes of an answer in `tests/sessions.list`.
+pub fn checksum(bytes: &[u8]) -> u64 {
+    bytes.iter().fold(0xcbf2_9ce4_8422_2325, |sum, byte| {
+        (sum ^ u64::from(*byte)).wrapping_mul(0x0100_0000_01b3)
+    })
+}

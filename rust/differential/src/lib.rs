@@ -16,6 +16,7 @@ mod nearby;
 mod panics;
 mod port;
 mod reports;
+mod sessions;
 mod shrink;
 mod stored;
 mod tally;
@@ -31,6 +32,7 @@ pub use logs::{Call, Follower, Index, Logs, check as check_log, ring, run as fol
 pub use mismatch::Mismatch;
 pub use port::{ChoicePort, JsonPort, ModePort, Port};
 pub use reports::{ReportPort, Reports, run as run_reports};
+pub use sessions::{Entry, check as check_session};
 pub use shrink::smaller;
 pub use stored::{Maps, Reader, check as check_map, run as read_maps};
 pub use tally::Tally;

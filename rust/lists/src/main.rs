@@ -1,5 +1,5 @@
-//! `lists [--check]`: writes `tests/answers.list`, `tests/rust.list`, `tests/rooms.list` and the cases
-//! of `crates/sessions`, the same bytes each time; with `--check` it writes nothing and fails if a
+//! `lists [--check]`: writes `tests/answers.list`, `tests/rust.list`, `tests/sessions.list` and
+//! `tests/rooms.list`, the same bytes each time; with `--check` it writes nothing and fails if a
 //! file holds anything else.
 
 mod answers;
@@ -40,10 +40,8 @@ fn run(check: bool) -> Result<(), String> {
     settle(check, "tests/rust.list", &texts)?;
     println!("{}", summary::of_maps(&maps));
     let sessions = sessions::lines();
-    let texts: Vec<String> = sessions.iter().map(sessions::case).collect();
-    settle(check, "crates/sessions/stdin", &texts)?;
-    let texts: Vec<String> = sessions.iter().map(sessions::told).collect();
-    settle(check, "crates/sessions/stdout", &texts)?;
+    let texts: Vec<String> = sessions.iter().map(sessions::text).collect();
+    settle(check, "tests/sessions.list", &texts)?;
     println!("{}", summary::of_sessions(&sessions));
     let rooms = rooms(&answers, &sessions);
     let texts: Vec<String> = rooms.iter().map(|line| line.text()).collect();
@@ -52,7 +50,7 @@ fn run(check: bool) -> Result<(), String> {
     Ok(())
 }
 
-/// Calls of `sessions` on short codes that `tests/answers.list` does not have: with it more than
+/// Calls of `tests/sessions.list` on short codes that `tests/answers.list` does not have: with it more than
 /// a thousand whose numbers the definitions give.
 fn rooms<'a>(answers: &[answers::Line], sessions: &'a [answers::Line]) -> Vec<&'a answers::Line> {
     let known: std::collections::HashSet<String> = answers.iter().map(|line| line.text()).collect();

@@ -1,5 +1,4 @@
-//! `crates/sessions/stdin` and `crates/sessions/stdout`: calls of the entry, answered by the model,
-//! and what the program `sessions` must write of each.
+//! `tests/sessions.list`: calls of the entry, and what the model answers to each.
 
 use crate::answers::{self, Line, chosen};
 use crate::maps;
@@ -12,7 +11,7 @@ use codes::init;
 use model::{HIGHEST_LIMIT, LONGEST_CODE, LONGEST_DEPLOYED, Lent};
 use std::collections::HashSet;
 
-/// The lengths of the program's own buffers: no case lends more.
+/// No call lends more.
 const BUFFERS: Lent = Lent {
     w: 3_145_984,
     p: 65_536,
@@ -22,16 +21,25 @@ const BUFFERS: Lent = Lent {
     q: 262_144,
     out: 1_048_576,
 };
+/// The longest piece of a line that is taken from `tests/answers.list`.
+const MOST_BYTES: usize = 4_900;
 /// The bytes of a unit of W, P, S, T, R, Q and the output.
 const UNITS: [u64; 7] = [64, 2, 9, 32, 32, 2, 1];
-/// The bytes of cases that the program reads.
-const INPUT: usize = 1 << 20;
 
-/// `limit w p s t r q out length piece`: the code repeats the piece up to its length.
-pub fn case(line: &Line) -> String {
-    let lent: String = line.lent.map(|bytes| format!(" {bytes}")).concat();
-    let piece = codes::to_hex(piece(&line.code));
-    format!("{}{lent} {} {piece}", line.limit, line.code.len())
+/// `limit w p s t r q out length piece number written checksum`: the code repeats the piece up to its length.
+pub fn text(line: &Line) -> String {
+    let answer = line.answer();
+    let (written, lent) = (answer.written(), line.lent.map(|bytes| format!(" {bytes}")));
+    format!(
+        "{}{} {} {} {} {} {:016x}",
+        line.limit,
+        lent.concat(),
+        line.code.len(),
+        codes::to_hex(piece(&line.code)),
+        answer.number(),
+        written.len(),
+        codes::checksum(written)
+    )
 }
 
 /// The first bytes of a long code, if it repeats a few of them; else the whole.
@@ -42,36 +50,7 @@ fn piece(code: &[u8]) -> &[u8] {
     &code[..length]
 }
 
-/// `number written checksum letters`: a room is `0` wiped or `x` untouched, the output `x` behind
-/// what was written; `-` has no bytes.
-pub fn told(line: &Line) -> String {
-    let answer = line.answer();
-    let (number, written) = (answer.number(), answer.written());
-    let wiped = !(1..=3).contains(&number);
-    let letter = |bytes: &u64| match (bytes, wiped) {
-        (0, _) => '-',
-        (_, true) => '0',
-        (_, false) => 'x',
-    };
-    let rooms: String = line.lent[..6].iter().map(letter).collect();
-    let (count, sum) = (written.len(), checksum(written));
-    let rest = if line.lent[6] > count as u64 {
-        'x'
-    } else {
-        '-'
-    };
-    format!("{number} {count} {sum:016x} {rooms}{rest}")
-}
-
-/// FNV-1a of 64 bits.
-fn checksum(bytes: &[u8]) -> u64 {
-    bytes.iter().fold(0xcbf2_9ce4_8422_2325, |sum, byte| {
-        (sum ^ u64::from(*byte)).wrapping_mul(0x0100_0000_01b3)
-    })
-}
-
-/// All cases, each once; a list that the program could not read, or that says too little, is a
-/// fault of this program.
+/// All calls, each once; a list that says too little is a fault of this program.
 pub fn lines() -> Vec<Line> {
     let rust = rust_codes();
     assert!(rust.len() >= 500, "codes of the Rust's answers");
@@ -87,21 +66,19 @@ pub fn lines() -> Vec<Line> {
     lines.iter_mut().for_each(fit);
     let mut seen = HashSet::new();
     lines.retain(|line| seen.insert(line.clone()));
-    let length: usize = lines.iter().map(|line| case(line).len() + 1).sum();
-    assert!(length <= INPUT, "the program reads {INPUT} bytes of cases");
     lines
 }
 
-/// Whether a case is short enough to stand among thousands: the code is, or it repeats a piece.
+/// Whether a call is short enough to stand among thousands: the code is, or it repeats a piece.
 fn short(line: &Line) -> bool {
-    case(line).len() <= 10_000
+    piece(&line.code).len() <= MOST_BYTES
 }
 
 fn in_buffers(limit: u64, code: &[u8]) -> Line {
     Line::new(limit, &BUFFERS, code)
 }
 
-/// The call in the rooms of document 01's program, or in all that this one has where it needs more:
+/// The call in the rooms of document 01's program, or in the most that is lent where it needs more:
 /// a small code in large buffers spends its time on marks.
 fn roomy(code: &[u8]) -> Line {
     let line = Line::new(HIGHEST_LIMIT, &Lent::PROGRAM, code);
@@ -112,7 +89,7 @@ fn roomy(code: &[u8]) -> Line {
     }
 }
 
-/// Lends at most what the program has.
+/// Lends at most that.
 fn fit(line: &mut Line) {
     let most = in_buffers(0, &[]).lent;
     for (bytes, most) in line.lent.iter_mut().zip(most) {
@@ -159,7 +136,7 @@ fn both_families() -> Vec<Line> {
     lines
 }
 
-/// Every corner: in all that the program has, at the highest limit and at low ones, and in exactly
+/// Every corner: in the most that is lent, at the highest limit and at low ones, and in exactly
 /// the rooms that it needs.
 fn corners() -> Vec<Line> {
     let extra = ["1e00", "1e", "5b305b0c305b00", "6005565b0c5b30"];
@@ -215,7 +192,7 @@ fn some_of(all: u64) -> Vec<u64> {
     counts
 }
 
-/// Longer codes than those of `tests/rust.list`, which the program answers too.
+/// Longer codes than those of `tests/rust.list`.
 const LONGER: [(&str, usize); 3] = [("woven-long", 20), ("calls-middle", 30), ("calls-large", 8)];
 
 /// Bytes of whole contracts, up to the longest that is deployed.

@@ -22,13 +22,16 @@ pub fn of_answers(lines: &[Line]) -> String {
     )
 }
 
-/// Cases of the program by refusal.
+/// The calls of `tests/sessions.list` by refusal.
 pub fn of_sessions(lines: &[Line]) -> String {
     let mut numbers: BTreeMap<u8, usize> = BTreeMap::new();
     for line in lines {
         *numbers.entry(line.answer().number()).or_default() += 1;
     }
-    format!("sessions: {} cases; by number {numbers:?}", lines.len())
+    format!(
+        "sessions.list: {} calls; by number {numbers:?}",
+        lines.len()
+    )
 }
 
 /// Codes by what is in their map.

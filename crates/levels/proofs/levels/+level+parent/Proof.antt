@@ -5,7 +5,7 @@ mod ParentAtCursor
 mod LevelHalfway
 mod LevelLoop
 mod ParentDeeper
-use LevelLoop.{Going, level-at-block, level-address, level-starts, going-block, going-cursor, going-asks, going-address, going-falls, going-spend, going-tries, level-skips, level-passes, level-refused, level-tried, level-ends}
+use LevelLoop.{Going, level-at-block, level-address, level-starts, going-block, going-cursor, going-asks, going-falls, going-spend, going-tries, level-skips, level-passes, level-refused, level-tried, level-ends}
 use ParentDeeper.{parent-shut, opens-lighter, parent-counts, parent-opens, parent-refused, parent-uncounts, parent-done}
 use mathlib.Core.Path.{_∙_}
 use native.Mathlib.Omega.{arith}
@@ -23,11 +23,10 @@ use Rattle.levels.proofs.levels.+level+parent.Lts-parent as parent-lts
 use Rattle.lent.proofs.get16.Reads as get16-reads
 use Rattle.layout.specs.Buffers.{buffers}
 use Rattle.reachable.proofs.highest.Reads as highest-reads
-use Rattle.reachable.proofs.is_marked.Reads as is-marked-reads
 use Rattle.steps.proofs.cursor.first_cursor.Reads as first-cursor-reads
-use Rattle.steps.proofs.cursor.last_block.Reads as last-block-reads
 use Rattle.steps.proofs.cursor.next_cursor.Reads as next-cursor-reads
 use Rattle.enter.proofs.enter.enter.Reads as enter-reads
+use Rattle.levels.proofs.levels.reached_then.Reads as reached-then-reads
 use Rattle.levels.proofs.levels.spend.Reads as spend-reads
 use Rattle.steps.proofs.path.count.Reads as count-reads
 use Rattle.steps.proofs.path.uncount.Reads as uncount-reads
@@ -60,7 +59,7 @@ abbrev level-μ-loop : level-lts.MeasureT-loop
 level-μ-loop code w₀ p₀ s₀ t₀ r₀ q₀ k start l opened b top at₀ cur₀ w p s t r q at cur = fuel at
 
 abbrev level-cs : ℕ → level-lts.Claims
-level-cs t = (get16-reads.Asked, get16-reads.Learnt, highest-reads.Asked, highest-reads.Learnt, first-cursor-reads.Asked, first-cursor-reads.Learnt, next-cursor-reads.Asked, next-cursor-reads.Learnt, last-block-reads.Asked, last-block-reads.Learnt, is-marked-reads.Asked, is-marked-reads.Learnt, spend-reads.Asked, spend-reads.Learnt, parent-below t, parent.Post)
+level-cs t = (get16-reads.Asked, get16-reads.Learnt, highest-reads.Asked, highest-reads.Learnt, first-cursor-reads.Asked, first-cursor-reads.Learnt, next-cursor-reads.Asked, next-cursor-reads.Learnt, reached-then-reads.Asked, reached-then-reads.Learnt, spend-reads.Asked, spend-reads.Learnt, parent-below t, parent.Post)
 
 abbrev parent-cs : ℕ → parent-lts.Claims
 parent-cs t = (enter-reads.Asked, enter-reads.Learnt, count-reads.Asked, count-reads.Learnt, level-below t, level.Post, uncount-reads.Asked, uncount-reads.Learnt)
@@ -78,7 +77,7 @@ level-to-entry-from-highest-arg t c = search
 abbrev level-to-entry : (t : ℕ) → level-lts.At-loop (level-cs t) (level-at t) level.Post level-Inv-loop level-μ-loop → level-lts.Start (level-cs t) (level-at t) level.Post level-Inv-loop level-μ-loop
 level-to-entry t c = search
 
-abbrev level-to-loop : (t : ℕ) → level-lts.After-last-block-arg2 (level-cs t) (level-at t) level.Post level-Inv-loop level-μ-loop → level-lts.At-loop (level-cs t) (level-at t) level.Post level-Inv-loop level-μ-loop
+abbrev level-to-loop : (t : ℕ) → level-lts.After-reached-then-arg3 (level-cs t) (level-at t) level.Post level-Inv-loop level-μ-loop → level-lts.At-loop (level-cs t) (level-at t) level.Post level-Inv-loop level-μ-loop
 level-to-loop t c = search
 
 abbrev level-to-loop-from-then1 : (t : ℕ) → level-lts.Then1 (level-cs t) (level-at t) level.Post level-Inv-loop level-μ-loop → level-lts.At-loop (level-cs t) (level-at t) level.Post level-Inv-loop level-μ-loop
@@ -93,14 +92,14 @@ level-to-loop-test t c = search
 abbrev level-to-loop-test-from-spend : (t : ℕ) → level-lts.After-spend (level-cs t) (level-at t) level.Post level-Inv-loop level-μ-loop → level-lts.In-loop (level-cs t) (level-at t) level.Post level-Inv-loop level-μ-loop
 level-to-loop-test-from-spend t c = search
 
-abbrev level-to-next-cursor : (t : ℕ) → level-lts.After-last-block (level-cs t) (level-at t) level.Post level-Inv-loop level-μ-loop → level-lts.After-next-cursor (level-cs t) (level-at t) level.Post level-Inv-loop level-μ-loop
+abbrev level-to-next-cursor : (t : ℕ) → level-lts.After-reached-then (level-cs t) (level-at t) level.Post level-Inv-loop level-μ-loop → level-lts.After-next-cursor (level-cs t) (level-at t) level.Post level-Inv-loop level-μ-loop
 level-to-next-cursor t c = search
 
-abbrev level-to-last-block : (t : ℕ) → level-lts.After-parent (level-cs t) (level-at t) level.Post level-Inv-loop level-μ-loop → level-lts.After-last-block (level-cs t) (level-at t) level.Post level-Inv-loop level-μ-loop
-level-to-last-block t c = search
+abbrev level-to-reached-then : (t : ℕ) → level-lts.After-parent (level-cs t) (level-at t) level.Post level-Inv-loop level-μ-loop → level-lts.After-reached-then (level-cs t) (level-at t) level.Post level-Inv-loop level-μ-loop
+level-to-reached-then t c = search
 
 abbrev level-to-loop-from-parent : (t : ℕ) → level-lts.After-parent (level-cs t) (level-at t) level.Post level-Inv-loop level-μ-loop → level-lts.At-loop (level-cs t) (level-at t) level.Post level-Inv-loop level-μ-loop
-level-to-loop-from-parent t c = level-to-loop t (level-to-last-block t c .before)
+level-to-loop-from-parent t c = level-to-loop t (level-to-reached-then t c .before)
 
 abbrev level-to-spend : (t : ℕ) → level-lts.After-struct-known3 (level-cs t) (level-at t) level.Post level-Inv-loop level-μ-loop → level-lts.After-spend (level-cs t) (level-at t) level.Post level-Inv-loop level-μ-loop
 level-to-spend t c = search
@@ -169,22 +168,11 @@ level-next-cursor-requires t c κs =
     let at-entry = level-to-entry t at-loop in
     (going-block (at-entry .pre .1) (at-loop .loop .inv), going-cursor (at-entry .pre .1) (at-loop .loop .inv) (at-loop-test .loop-test .taken))
 
-level-last-block-requires : (t : ℕ) → level-lts.Need-last-block-requires (level-cs t) (level-at t) level.Post level-Inv-loop level-μ-loop
-level-last-block-requires t c κs =
+level-reached-then-requires : (t : ℕ) → level-lts.Need-reached-then-requires (level-cs t) (level-at t) level.Post level-Inv-loop level-μ-loop
+level-reached-then-requires t c κs =
     let pre = level-to-entry t (level-to-loop t c) .pre .1 in
     let g = level-to-loop t c .loop .inv in
     search (going-asks pre g)
-
-level-add-is-marked : (t : ℕ) → level-lts.Need-add-is-marked (level-cs t) (level-at t) level.Post level-Inv-loop level-μ-loop
-level-add-is-marked t c =
-    let at-entry = level-to-entry t (level-to-loop t (c .before)) in
-    omega (arith, at-entry .pre .1 .fits .tables .within .fitsR, at-entry .pre .1 .fits .tables .within .mostR)
-
-level-is-marked-requires : (t : ℕ) → level-lts.Need-is-marked-requires (level-cs t) (level-at t) level.Post level-Inv-loop level-μ-loop
-level-is-marked-requires t c κs =
-    let pre = level-to-entry t (level-to-loop t (c .before)) .pre .1 in
-    let g = level-to-loop t (c .before) .loop .inv in
-    search (going-address pre g)
 
 level-spend-requires : (t : ℕ) → level-lts.Need-spend-requires (level-cs t) (level-at t) level.Post level-Inv-loop level-μ-loop
 level-spend-requires t c κs =
@@ -213,11 +201,10 @@ level-returns : (t : ℕ) → level-lts.Need-returns (level-cs t) (level-at t) l
 level-returns t c =
     let at-spend = level-to-spend t (c .before) in
     let at-if1 = at-spend .before in
-    let at-is-marked = at-if1 .before in
-    let at-last-block = at-is-marked .before in
-    let at-loop-test = level-to-loop-test t (level-to-next-cursor t at-last-block .before) in
+    let at-reached-then = at-if1 .before in
+    let at-loop-test = level-to-loop-test t (level-to-next-cursor t at-reached-then .before) in
     let at-loop = at-loop-test .before in
-    level-passes (level-to-entry t at-loop .pre .1) (at-loop .loop .inv) (at-loop-test .loop-test .taken) (at-last-block .last-block .ensures) (at-is-marked .is-marked .ensures) (at-if1 .if1 .taken) (at-spend .spend .ensures) (c .if2 .taken)
+    level-passes (level-to-entry t at-loop .pre .1) (at-loop .loop .inv) (at-loop-test .loop-test .taken) (at-reached-then .reached-then .ensures) (at-if1 .if1 .taken) (at-spend .spend .ensures) (c .if2 .taken)
 
 level-parent-requires : (t : ℕ) → level-lts.Need-parent-requires (level-cs t) (level-at t) level.Post level-Inv-loop level-μ-loop
 level-parent-requires t c κs =
@@ -264,15 +251,14 @@ level-returns-2 t c =
     let at-if2 = level-to-if2 t (at-parent .before) in
     let at-spend = level-to-spend t (at-if2 .before) in
     let at-if1 = at-spend .before in
-    let at-is-marked = at-if1 .before in
-    let at-last-block = at-is-marked .before in
-    let at-loop-test = level-to-loop-test t (level-to-next-cursor t at-last-block .before) in
+    let at-reached-then = at-if1 .before in
+    let at-loop-test = level-to-loop-test t (level-to-next-cursor t at-reached-then .before) in
     let at-loop = at-loop-test .before in
-    level-refused (level-to-entry t at-loop .pre .1) (at-loop .loop .inv) (at-loop-test .loop-test .taken) (at-last-block .last-block .ensures) (at-is-marked .is-marked .ensures) (at-if1 .if1 .taken) (at-spend .spend .ensures) (at-if2 .if2 .left) (at-parent .parent .ensures) (c .if3 .taken)
+    level-refused (level-to-entry t at-loop .pre .1) (at-loop .loop .inv) (at-loop-test .loop-test .taken) (at-reached-then .reached-then .ensures) (at-if1 .if1 .taken) (at-spend .spend .ensures) (at-if2 .if2 .left) (at-parent .parent .ensures) (c .if3 .taken)
 
 level-loop-less : (t : ℕ) → level-lts.Need-loop-less (level-cs t) (level-at t) level.Post level-Inv-loop level-μ-loop
 level-loop-less t c =
-    let at-next-cursor = level-to-next-cursor t (level-to-last-block t (level-to-parent t (c .before))) in
+    let at-next-cursor = level-to-next-cursor t (level-to-reached-then t (level-to-parent t (c .before))) in
     let at-loop-test = level-to-loop-test t (at-next-cursor .before) in
     let at-loop = at-loop-test .before in
     going-falls (level-to-entry t at-loop .pre .1) (at-loop .loop .inv) (at-loop-test .loop-test .taken) (at-next-cursor .next-cursor .ensures)
@@ -283,29 +269,26 @@ level-loop-again t c =
     let at-if2 = level-to-if2 t (at-parent .before) in
     let at-spend = level-to-spend t (at-if2 .before) in
     let at-if1 = at-spend .before in
-    let at-is-marked = at-if1 .before in
-    let at-last-block = at-is-marked .before in
-    let at-next-cursor = level-to-next-cursor t at-last-block in
+    let at-reached-then = at-if1 .before in
+    let at-next-cursor = level-to-next-cursor t at-reached-then in
     let at-loop-test = level-to-loop-test t (at-next-cursor .before) in
     let at-loop = at-loop-test .before in
-    level-tried (level-to-entry t at-loop .pre .1) (at-loop .loop .inv) (at-loop-test .loop-test .taken) (at-last-block .last-block .ensures) (at-is-marked .is-marked .ensures) (at-if1 .if1 .taken) (at-spend .spend .ensures) (at-if2 .if2 .left) (at-parent .parent .ensures) (at-next-cursor .next-cursor .ensures) (c .if3 .left) (record { w = at-parent .parent .kept .1 .0; p = at-parent .parent .kept .1 .1 .0; s = at-parent .parent .kept .1 .1 .1 .0; t = at-parent .parent .kept .1 .1 .1 .1 .0; r = at-parent .parent .kept .1 .1 .1 .1 .1 .0; q = at-parent .parent .kept .1 .1 .1 .1 .1 .1 .0 })
+    level-tried (level-to-entry t at-loop .pre .1) (at-loop .loop .inv) (at-loop-test .loop-test .taken) (at-reached-then .reached-then .ensures) (at-if1 .if1 .taken) (at-spend .spend .ensures) (at-if2 .if2 .left) (at-parent .parent .ensures) (at-next-cursor .next-cursor .ensures) (c .if3 .left) (record { w = at-parent .parent .kept .1 .0; p = at-parent .parent .kept .1 .1 .0; s = at-parent .parent .kept .1 .1 .1 .0; t = at-parent .parent .kept .1 .1 .1 .1 .0; r = at-parent .parent .kept .1 .1 .1 .1 .1 .0; q = at-parent .parent .kept .1 .1 .1 .1 .1 .1 .0 })
 
 level-loop-less-2 : (t : ℕ) → level-lts.Need-loop-less-2 (level-cs t) (level-at t) level.Post level-Inv-loop level-μ-loop
 level-loop-less-2 t c =
-    let at-is-marked = c .before in
-    let at-next-cursor = level-to-next-cursor t (at-is-marked .before) in
+    let at-next-cursor = level-to-next-cursor t (c .before) in
     let at-loop-test = level-to-loop-test t (at-next-cursor .before) in
     let at-loop = at-loop-test .before in
     going-falls (level-to-entry t at-loop .pre .1) (at-loop .loop .inv) (at-loop-test .loop-test .taken) (at-next-cursor .next-cursor .ensures)
 
 level-loop-again-2 : (t : ℕ) → level-lts.Need-loop-again-2 (level-cs t) (level-at t) level.Post level-Inv-loop level-μ-loop
 level-loop-again-2 t c =
-    let at-is-marked = c .before in
-    let at-last-block = at-is-marked .before in
-    let at-next-cursor = level-to-next-cursor t at-last-block in
+    let at-reached-then = c .before in
+    let at-next-cursor = level-to-next-cursor t at-reached-then in
     let at-loop-test = level-to-loop-test t (at-next-cursor .before) in
     let at-loop = at-loop-test .before in
-    level-skips (level-to-entry t at-loop .pre .1) (at-loop .loop .inv) (at-loop-test .loop-test .taken) (at-last-block .last-block .ensures) (at-is-marked .is-marked .ensures) (at-next-cursor .next-cursor .ensures) (c .if1 .left)
+    level-skips (level-to-entry t at-loop .pre .1) (at-loop .loop .inv) (at-loop-test .loop-test .taken) (at-reached-then .reached-then .ensures) (at-next-cursor .next-cursor .ensures) (c .if1 .left)
 
 level-same-length-13 : (t : ℕ) → level-lts.Need-same-length-13 (level-cs t) (level-at t) level.Post level-Inv-loop level-μ-loop
 level-same-length-13 t c = search needs
@@ -468,9 +451,7 @@ pub +level+parent-spec : {M : Type 1} → statement M
     (level-first-cursor-requires t)
     (level-loop-holds t)
     (level-next-cursor-requires t)
-    (level-last-block-requires t)
-    (level-add-is-marked t)
-    (level-is-marked-requires t)
+    (level-reached-then-requires t)
     (level-spend-requires t)
     (level-same-length t)
     (level-same-length-2 t)

@@ -1,6 +1,6 @@
 -- `land`: there is no destination, the record is new and its destination is marked, or nothing is. Assumes nothing.
 use borrow.Author.Needs.{needs}
-use Rattle.steps.proofs.Lands.{lands-few, lands-address, raises-address, raises-within, landed-nowhere, landed-new, landed-old}
+use Rattle.steps.proofs.Lands.{lands-few, lands-address, lands-within, landed-nowhere, landed-new, landed-old}
 use Rattle.steps.proofs.land.land.Statement.{statement}
 use Rattle.steps.proofs.land.land.Tie as tie
 
@@ -17,44 +17,33 @@ to-if1 c = search
 abbrev to-if2 : tie.After-struct-known4 → tie.Then2
 to-if2 c = search
 
-abbrev to-mark : tie.After-raise-sides-arg → tie.After-mark
-to-mark c = search
+abbrev to-mark-found : tie.After-slice-known9 → tie.After-mark-found
+to-mark-found c = search
 
-abbrev to-raise-sides : tie.After-slice-known10 → tie.After-raise-sides
-to-raise-sides c = search
-
-add-mark : tie.Need-add-mark
-add-mark c =
+add-mark-found : tie.Need-add-mark-found
+add-mark-found c =
     let at-entry = to-entry (to-record-entry (to-if1 (to-if2 c))) in
     let few = lands-few (at-entry .pre) in
     search needs
 
-mark-requires : tie.Need-mark-requires
-mark-requires c κs =
+mark-found-requires : tie.Need-mark-found-requires
+mark-found-requires c κs =
     let at-if1 = to-if1 (to-if2 c) in
     let at-record-entry = to-record-entry at-if1 in
-    lands-address (to-entry at-record-entry .pre) (at-record-entry .record-entry .ensures) (at-if1 .if1 .left)
+    let asks = to-entry at-record-entry .pre in
+    let recorded = at-record-entry .record-entry .ensures in
+    (lands-address asks recorded (at-if1 .if1 .left), lands-within asks recorded)
 
 returns : tie.Need-returns
 returns c = search landed-nowhere
 
-raise-sides-requires : tie.Need-raise-sides-requires
-raise-sides-requires c κs =
-    let at-mark = to-mark c in
-    let at-if1 = to-if1 (to-if2 (at-mark .before)) in
-    let at-record-entry = to-record-entry at-if1 in
-    let asks = to-entry at-record-entry .pre in
-    let recorded = at-record-entry .record-entry .ensures in
-    (raises-address asks recorded (at-if1 .if1 .left) (at-mark .mark .ensures), raises-within asks recorded (at-if1 .if1 .left) (at-mark .mark .ensures))
-
 returns-2 : tie.Need-returns-2
 returns-2 c =
-    let at-raise-sides = to-raise-sides c in
-    let at-mark = to-mark (at-raise-sides .before) in
-    let at-if2 = to-if2 (at-mark .before) in
+    let at-mark-found = to-mark-found c in
+    let at-if2 = to-if2 (at-mark-found .before) in
     let at-if1 = to-if1 at-if2 in
     let at-record-entry = to-record-entry at-if1 in
-    landed-new (to-entry at-record-entry .pre) (at-record-entry .record-entry .ensures) (at-if1 .if1 .left) (at-if2 .if2 .taken) (at-mark .mark .ensures) (at-raise-sides .raise-sides .ensures)
+    landed-new (to-entry at-record-entry .pre) (at-record-entry .record-entry .ensures) (at-if1 .if1 .left) (at-if2 .if2 .taken) (at-mark-found .mark-found .ensures)
 
 returns-3 : tie.Need-returns-3
 returns-3 c = search landed-old
@@ -69,9 +58,8 @@ land-spec =
     (λ c. search needs)
     (λ c. search needs)
     returns
-    add-mark
-    mark-requires
-    raise-sides-requires
+    add-mark-found
+    mark-found-requires
     (λ c. search needs)
     (λ c. search needs)
     (λ c. search needs)

@@ -132,11 +132,11 @@ module _ {code : List ℕ} {k : Plan} {start : ℕ} {l : Level} {m₀ : Mem} {o 
       pub going-cursor : Cursor (m .w) (m .r) (k .n) at
       going-cursor = next .cursor
 
-      pub going-asks : Asks (m .r) (m .q) at
-      going-asks = next .asks
-
-      pub going-address : {a : ℕ} → a ≡ lastCursor (m .r) (m .q) at → Address (k .n) (m .w) a
-      going-address e = record { lent = here .fits .planned .lentW; inside = omega (arith, e, next .last-inside) }
+      -- what the test of the parent's last block asks
+      pub going-asks : (Asks (m .r) (m .q) at) × (Address (k .n) (m .w) (lastCursor (m .r) (m .q) at)) × (o .counts .records + 1 < 2 ^ 64)
+      going-asks =
+          let within = pre .fits .tables .within in
+          (next .asks, record { lent = here .fits .planned .lentW; inside = next .last-inside }, omega (arith, within .fitsR, within .mostR))
 
       pub going-falls : {at′ : ℕ} → at′ ≡ nextCursor (m .w) (m .r) (k .n) b (o .counts .records) high at → fuel at′ < fuel at
       going-falls e = rw e (next .falls)
@@ -155,10 +155,10 @@ module _ {code : List ℕ} {k : Plan} {start : ℕ} {l : Level} {m₀ : Mem} {o 
             unrefused = g .unrefused;
           })
 
-      module _ {a : ℕ} (e : a ≡ lastCursor (m .r) (m .q) at) {marked : Bool} (v : marked ≡ markedBy (m .w) (k .n) a (o .counts .records + 1)) where
+      module _ {marked : Bool} (v : marked ≡ markedBy (m .w) (k .n) (lastCursor (m .r) (m .q) at) (o .counts .records + 1)) where
         -- in any turn, the mark says whether the parent is tried
         is-live : (t : Turn) (since : ℕ) → Fits code k t since start m₀ (o .counts) → tried? k t m₀ o (held code k m b at) ≡ marked
-        is-live t since f = sym (rw e at v ∙ half-live f (pre .stands) (g .block) (g .top) (g .half t since f) d)
+        is-live t since f = sym (v ∙ half-live f (pre .stands) (g .block) (g .top) (g .half t since f) d)
 
         pub level-skips : {at′ : ℕ} → at′ ≡ nextCursor (m .w) (m .r) (k .n) b (o .counts .records) high at → marked ≡ false → Going code k start l m₀ o b high m cur at′
         level-skips x no-mark = record {

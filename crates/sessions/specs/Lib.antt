@@ -1,3 +1,0 @@
-pub mod Input
-pub mod Room
-pub mod Trial
