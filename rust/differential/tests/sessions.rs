@@ -8,8 +8,11 @@ use differential::{Entry, check_session};
 const RETURN: &str = "500000 33024 32768 32768 32768 32768 32768 32768 9 60056007565b005b56";
 
 fn told(entry: Entry, came: &str) -> Result<(), String> {
-    let line = format!("{RETURN} {came}");
-    check_session(entry, &line, &mut Random::new(1))
+    checked(entry, &format!("{RETURN} {came}"))
+}
+
+fn checked(entry: Entry, line: &str) -> Result<(), String> {
+    check_session(entry, line, &mut Random::new(1))
 }
 
 /// What must come of it.
@@ -66,7 +69,27 @@ fn a_wrong_entry_is_told() {
         }
         9
     };
-    for wrong in [other_byte, not_wiped, behind, refuses] {
-        assert!(told(wrong, RIGHT).is_err());
+    let faults = [
+        (other_byte, "'0 71 "),
+        (not_wiped, "byte 33023 of W is not wiped"),
+        (behind, "byte 71 of the output is touched"),
+        (refuses, "'9 0 cbf29ce484222325', and the list has"),
+    ];
+    for (wrong, fault) in faults {
+        let sentence = told(wrong, RIGHT).expect_err(fault);
+        assert!(sentence.contains(fault), "{sentence}");
     }
+}
+
+/// "1, 2, 3 are tested in that order and touch nothing."
+#[test]
+fn an_early_refusal_that_touches_a_room_is_told() {
+    let line = "500001 33024 32768 32768 32768 32768 32768 32768 1 00 2 0 cbf29ce484222325";
+    assert_eq!(checked(call, line), Ok(()));
+    let touches: Entry = |code, limit, lent| {
+        lent.q[0] = 0;
+        call(code, limit, lent)
+    };
+    let sentence = checked(touches, line).expect_err("Q is touched");
+    assert!(sentence.contains("byte 0 of Q is touched"), "{sentence}");
 }

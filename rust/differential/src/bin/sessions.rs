@@ -6,10 +6,30 @@ use std::process::ExitCode;
 use codes::Random;
 use differential::check_session;
 
+const HELP: &str = "\
+sessions: makes the calls of tests/sessions.list of the proved library, and holds each to its line.
+
+Exit: 0 if all are as the list has them, 1 if one is not, 2 if the command is not understood.
+";
+
 /// A list that says less is a fault of the list.
 const FEWEST: usize = 4_000;
 
 fn main() -> ExitCode {
+    match std::env::args().nth(1).as_deref() {
+        None => run(),
+        Some("--help" | "-h") => {
+            print!("{HELP}");
+            ExitCode::SUCCESS
+        }
+        Some(word) => {
+            eprintln!("sessions: '{word}' is no option\n{HELP}");
+            ExitCode::from(2)
+        }
+    }
+}
+
+fn run() -> ExitCode {
     let list = Path::new(env!("CARGO_MANIFEST_DIR")).join("../../tests/sessions.list");
     let text = match std::fs::read_to_string(&list) {
         Ok(text) if text.lines().count() >= FEWEST => text,
