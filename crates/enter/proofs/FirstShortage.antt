@@ -16,7 +16,7 @@ use Rattle.tables.proofs.Shorts.{short-after}
 use Rattle.tables.specs.declared.Rooms.{Rooms}
 use Rattle.steps.specs.Runs.{stOf}
 use Rattle.enter.specs.Enters.{shutWith, Outcome}
-use Rattle.steps.specs.declared.Plan.{Plan}
+use Rattle.steps.specs.Plans.{Plan}
 use Rattle.steps.specs.declared.Level.{Level}
 use Rattle.steps.specs.declared.Run.{Run}
 

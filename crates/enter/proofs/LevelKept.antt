@@ -21,7 +21,7 @@ use Rattle.steps.proofs.Paths.{only-flagged}
 use Rattle.steps.specs.Paths.{OnPath, CountsOnly}
 use Rattle.steps.specs.Runs.{recsIn}
 use Rattle.enter.specs.Fits.{levelOf, Stands, OnIts, Stays}
-use Rattle.steps.specs.declared.Plan.{Plan}
+use Rattle.steps.specs.Plans.{Plan}
 use Rattle.steps.specs.declared.Level.{Level}
 
 -- ---- it composes

@@ -38,12 +38,11 @@ use Rattle.reachable.specs.Marks.{flagged, markedBy}
 use Rattle.reachable.proofs.Raising.{highest-once}
 use Rattle.steps.specs.Paths.{OnPath}
 use Rattle.steps.specs.Runs.{tabled, recsIn, stOf, Did}
-use Rattle.steps.specs.declared.Plan.{Plan}
+use Rattle.steps.specs.Plans.{Plan}
 use Rattle.steps.specs.declared.Level.{Level}
 use Rattle.steps.specs.declared.Run.{Run}
 use Rattle.enter.specs.Fits.{Fits, levelOf, held, Stays}
-use Rattle.enter.specs.Enters.{onward, Opens, Outcome, Entered}
-use Rattle.enter.specs.declared.enter.Opening.{Opening}
+use Rattle.enter.specs.Enters.{Opening, onward, Opens, Outcome, Entered}
 use Rattle.enter.proofs.TurnKept.{mets-length}
 
 -- ---- what is done from one state has one number, and where that is 0 one state

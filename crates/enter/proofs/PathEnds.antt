@@ -1,5 +1,5 @@
 -- A path that has ended: what is recorded of it, and no level opens. Assumes nothing.
-use mathlib.Core.Path.{_≡_, refl, subst}
+use mathlib.Core.Path.{_≡_, refl, ap, subst, _∙_}
 use Prim.Native.Nat.{ℕ}
 use mathlib.Core.List.{List}
 use Rattle.spec.specs.Search.{Found, nowhere}
@@ -9,11 +9,21 @@ use Rattle.tables.specs.declared.Entry.{Entry}
 use Rattle.tables.proofs.Noted.{new-nowhere}
 use Rattle.tables.specs.declared.Reply.{Reply}
 use Rattle.steps.specs.Lands.{Noted}
-use Rattle.enter.specs.Enters.{endedWith, Ended}
-use Rattle.steps.specs.declared.Plan.{Plan}
+use Rattle.enter.specs.Enters.{Opening, openingOf, shutAt, shutWith, afterWith, endedWith, Landed, Ended}
+use Rattle.steps.specs.Plans.{Plan}
 use Rattle.steps.specs.declared.Level.{Level}
 use Rattle.steps.specs.declared.Run.{Run}
-use Rattle.enter.specs.declared.enter.Opening.{Opening}
+use Rattle.enter.specs.declared.enter.Deeper.{Deeper}
+
+-- what was answered is how the search goes then
+pub landed-in : {p : List ℕ} {np : ℕ} {k : Plan} {m m′ : tables.Mem} {o d : Run} {y : Entry} {a : Reply}
+    → Noted p np k m (o .counts) (y .start) (y .energy) (newFound (m .s) y) m′ a → d ≡ afterWith o (a .code) (a .counts) → Landed p np k m y o m′ d
+landed-in n f = rw f (record { noted = n; is = refl })
+
+-- and no level opens
+pub ended-in : {p : List ℕ} {np : ℕ} {k : Plan} {m m′ : tables.Mem} {o d : Run} {y : Entry} {x : Deeper} {l : Level} → Landed p np k m y o m′ d → x ≡ shutAt l
+    → openingOf d x ≡ endedWith o (record { code = d .code; counts = d .counts }) l
+ended-in {d = d} {l = l} f g = ap (openingOf d) g ∙ ap (λ (v : Run). shutWith v l) (f .is)
 
 pub ended-with : {p : List ℕ} {np start energy : ℕ} {k : Plan} {m m′ : tables.Mem} {l : Level} {o : Run} {y : Found} {a : Reply} {e : Opening}
     → Noted p np k m (o .counts) start energy y m′ a → energy ≡ o .energy → e ≡ endedWith o a l → Ended p np k m start l o y m′ e

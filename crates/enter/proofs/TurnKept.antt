@@ -40,7 +40,7 @@ use Rattle.steps.specs.States.{Took}
 use Rattle.steps.specs.Lands.{Noted}
 use Rattle.steps.specs.Runs.{stOf}
 use Rattle.enter.specs.Fits.{Planned, Fits, Stays}
-use Rattle.steps.specs.declared.Plan.{Plan}
+use Rattle.steps.specs.Plans.{Plan}
 use Rattle.steps.specs.declared.Level.{Level}
 use Rattle.steps.specs.declared.Run.{Run}
 use Rattle.steps.specs.declared.state_of.Taken.{Taken}
@@ -61,7 +61,7 @@ links-prefix n buckets {w} {w′} k h e long = record {
 -- ---- sides
 
 -- the rows' blocks have their sides in the code
-pub known-within : {mode : ℕ} {code w : List ℕ} {head : ℕ} → Known mode code w head → SidesWithin w (length code)
+pub known-within : {mode : ℕ} {code w : List ℕ} {many : ℕ} → Known mode code w many → SidesWithin w (length code)
 known-within {mode} {code} {w} k = blocks-within w (length code) side
   where
     side : (b : Block) (t : ℕ) → In b (blocksAt w (length code)) → In t (sides (b .kind)) → t ≤ length code
@@ -88,6 +88,7 @@ planned-long w p s t r q f e g = record {
   lentP = omega (arith, f .lentP);
   mostP = f .mostP;
   shelves = f .shelves;
+  moded = f .moded;
 }
 
 -- ---- remembered rows, by the counts that they speak of

@@ -19,7 +19,7 @@ use Rattle.state.specs.Symbols.{symOf}
 use Rattle.state.specs.Cells.{stackAt, State}
 use Rattle.tables.specs.Addrs.{addrs}
 use Rattle.tables.specs.Tables as tables
-use Rattle.tables.specs.Tables.{Ready, noEntry}
+use Rattle.tables.specs.Tables.{Ready, noEntry, newFound}
 use Rattle.tables.specs.Recording.{Lends}
 use Rattle.tables.specs.declared.Counts.{Counts}
 use Rattle.tables.specs.declared.Reply.{Reply}
@@ -29,27 +29,41 @@ use Rattle.reachable.specs.Contracts.{Room, Address, SidesWithin}
 use Rattle.steps.specs.Paths.{OnPath}
 use Rattle.steps.specs.Lands.{Noted}
 use Rattle.steps.specs.Runs.{stOf, Did}
-use Rattle.steps.specs.declared.Plan.{Plan}
+use Rattle.steps.specs.Plans.{Plan}
 use Rattle.steps.specs.declared.Level.{Level}
 use Rattle.steps.specs.declared.Run.{Run}
 use Rattle.steps.specs.declared.state_of.Taken.{Taken}
 use Rattle.enter.specs.Fits.{Fits, levelOf, Stands, OnIts, held, Parental, Stays}
-use Rattle.enter.specs.declared.enter.Opening.{Opening}
+use Rattle.enter.specs.declared.enter.Deeper.{Deeper}
 
 -- ---- how the search goes on
 
 abbrev pub afterWith : Run → ℕ → Counts → Run
 afterWith o code counts = record { code = code; energy = o .energy; counts = counts }
 
+-- whether a level opens, how the search goes then, and the level
+pub record Opening : Type 0 where
+  pub opens : Bool
+  pub run : Run
+  pub level : Level
+
+abbrev pub openingOf : Run → Deeper → Opening
+openingOf o d = record { opens = d .opens; run = o; level = d .level }
+
+abbrev pub shutAt : Level → Deeper
+shutAt l = record { opens = false; level = l }
+
 abbrev pub shutWith : Run → Level → Opening
-shutWith o l = record { opens = false; run = o; level = l }
+shutWith o l = openingOf o (shutAt l)
 
 abbrev pub endedWith : Run → Reply → Level → Opening
 endedWith o a l = shutWith (afterWith o (a .code) (a .counts)) l
 
+abbrev pub openAt : ℕ → ℕ → Seen → Level → Deeper
+openAt np position x l = record { opens = true; level = record { np = np; position = position; from = x .from; cells = x .cells; left = l .left - 1 } }
+
 abbrev pub openWith : Run → ℕ → ℕ → Seen → Level → Opening
-openWith o np position x l =
-    record { opens = true; run = o; level = record { np = np; position = position; from = x .from; cells = x .cells; left = l .left - 1 } }
+openWith o np position x l = openingOf o (openAt np position x l)
 
 abbrev pub refusedWith : Run → ℕ → Run
 refusedWith o code = afterWith o code (o .counts)
@@ -97,6 +111,11 @@ pub record Outcome (code : List ℕ) (k : Plan) (t : Turn) (since start : ℕ) (
   pub energy : e .run .energy ≡ o .energy
 
 -- ---- the functions
+
+-- what the entry says is recorded, and how the search goes on
+pub record Landed (p : List ℕ) (np : ℕ) (k : Plan) (m : tables.Mem) (y : Entry) (o : Run) (m′ : tables.Mem) (d : Run) : Type 0 where
+  pub noted : Noted p np k m (o .counts) (y .start) (y .energy) (newFound (m .s) y) m′ (record { code = d .code; counts = d .counts })
+  pub is : d ≡ afterWith o (d .code) (d .counts)
 
 -- the path ends in y, which is recorded, and no level opens
 pub record Ended (p : List ℕ) (np : ℕ) (k : Plan) (m : tables.Mem) (start : ℕ) (l : Level) (o : Run) (y : Found) (m′ : tables.Mem) (e : Opening) : Type 0 where

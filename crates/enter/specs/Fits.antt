@@ -12,7 +12,6 @@ use Rattle.layout.specs.Parts.{bucketPlace, SameRows}
 use Rattle.layout.specs.Records.{toAt}
 use Rattle.layout.specs.Rows.{startOf}
 use Rattle.layout.specs.Buffers.{Mem}
-use Rattle.exec.specs.Modes.{modeOf}
 use Rattle.state.specs.Cells.{stackAt, State}
 use Rattle.exec.specs.Owns.{roomOf}
 use Rattle.tables.specs.Addrs.{addrs}
@@ -28,12 +27,12 @@ use Rattle.steps.specs.Paths.{Inside, OnPath}
 use Rattle.steps.specs.Sound.{DEEPEST, SoundStack, SoundRecs}
 use Rattle.steps.specs.Lands.{Marks}
 use Rattle.steps.specs.Runs.{tabled, recsIn}
-use Rattle.steps.specs.declared.Plan.{Plan}
+use Rattle.steps.specs.Plans.{Plan}
 use Rattle.steps.specs.declared.Level.{Level}
 
 -- the code's blocks after the first stage, in the plan's mode
 abbrev pub preparedIn : Plan → List ℕ → List Node
-preparedIn k code = prepared (in-mode (modeOf (k .mode))) code
+preparedIn k code = prepared (in-mode (k .mode)) code
 
 -- the plan is the code's, and the buffers are as long as it says
 pub record Planned (code : List ℕ) (k : Plan) (m : Mem) : Type 0 where
@@ -45,6 +44,7 @@ pub record Planned (code : List ℕ) (k : Plan) (m : Mem) : Type 0 where
   pub lentP : 2 * k .rooms .p ≤ length (m .p)
   pub mostP : k .rooms .p ≤ 2 ^ 30
   pub shelves : 1 ≤ k .rooms .t → 1 ≤ k .shelves
+  pub moded : k .mode ≤ 1
 
 -- the buffers in the turn t of the block at `start`, in a round that began with `since` records
 pub record Fits (code : List ℕ) (k : Plan) (t : Turn) (since start : ℕ) (m : Mem) (c : Counts) : Type 0 where
@@ -55,7 +55,7 @@ pub record Fits (code : List ℕ) (k : Plan) (t : Turn) (since start : ℕ) (m :
   pub tables : Tables (k .n) (k .buckets) (k .rooms) (tabled m) c
   pub remembers : Remembers (k .shelves) (k .rooms) (m .t) (m .s) c
   pub packs : Packs (cells (t .first)) (m .t) c
-  pub known : Known (modeOf (k .mode)) code (m .w) (k .head)
+  pub known : Known (k .mode) code (m .w) (k .many)
   pub began : since ≤ c .records
   pub marks : Marks (k .n) (m .w) (t .reached) since (recsIn k m c)
   pub sound : SoundRecs (k .n) (recsIn k m c)
@@ -82,7 +82,7 @@ OnIts k m l = OnPath (k .n) (m .w) (addrs (m .p) 0 (l .np))
 -- ---- a parent of the block b, by its number
 
 abbrev pub held : List ℕ → Plan → Mem → ℕ → ℕ → Parent
-held code k m b at = parent b (pathCursor (m .r) (m .q) at) (stackCursor (modeOf (k .mode)) code (m .r) (m .s) (k .rooms .s) at)
+held code k m b at = parent b (pathCursor (m .r) (m .q) at) (stackCursor (k .mode) code (m .r) (m .s) (k .rooms .s) at)
 
 pub record Parental (code : List ℕ) (k : Plan) (m : Mem) (c : Counts) (at : ℕ) : Type 0 where
   pub some : 1 ≤ at
@@ -92,7 +92,7 @@ pub record Parental (code : List ℕ) (k : Plan) (m : Mem) (c : Counts) (at : �
   pub leads : 0x10000 ≤ at → toAt (m .r) (at - 0x10000) ≤ k .n
   pub long : 0x10000 ≤ at → 2 ≤ length (pathCursor (m .r) (m .q) at)
   pub inside : Inside (k .n) (pathCursor (m .r) (m .q) at)
-  pub sound : SoundStack (k .n) (length (pathCursor (m .r) (m .q) at)) (stackCursor (modeOf (k .mode)) code (m .r) (m .s) (k .rooms .s) at)
+  pub sound : SoundStack (k .n) (length (pathCursor (m .r) (m .q) at)) (stackCursor (k .mode) code (m .r) (m .s) (k .rooms .s) at)
 
 -- ---- what stays, while a level with a path of np addresses is tried: that path, the cells in use, W's rows and flags and what is beyond its parts, and the records
 

@@ -5,18 +5,27 @@ use lent::get16;
 use parents::link::parent_start;
 use state::sym::StackSym;
 use steps::Level;
-use steps::Plan;
 use steps::Run;
 use steps::cursor::FOUND;
+use steps::going::ADDRESSES;
+use steps::going::CODE;
+use steps::going::ENERGY;
+use steps::going::KEPT;
+use steps::going::RECORDS;
+use steps::going::ROWS;
+use steps::going::RUN;
+use steps::going::USED;
 use steps::land::land;
 use steps::meet::meet;
 use steps::path::grow;
 use steps::path::on_path;
+use steps::plan::PLAN;
+use steps::plan::ROOM_P;
+use steps::plan::SIZE;
 use steps::state_of::Taken;
 use steps::state_of::take_state;
 use tables::Counts;
 use tables::Entry;
-use tables::Reply;
 use tables::row::Seen;
 ghost use mathlib.Core.Path.{_≡_};
 ghost use Prim.Native.Nat.{_*_, _≤_};
@@ -24,22 +33,55 @@ ghost use lib.ListN.{length};
 ghost use Rattle.layout.specs.Buffers.{buffers};
 ghost use Rattle.state.specs.Symbols.{symOf};
 ghost use Rattle.tables.specs.Tables.{mem, noEntry};
-ghost use Rattle.enter.specs.Enters.{refusedWith, afterWith, shutWith, endedWith, openWith, SkipAsks, skips, entryOf, Arriving, Arrived, Entering, Entered, Saw, Following, Followed};
+ghost use Rattle.enter.specs.Enters.{refusedWith, afterWith, shutAt, openAt, openingOf, SkipAsks, skips, entryOf, Landed, Arriving, Arrived, Entering, Entered, Saw, Following, Followed};
+ghost use Rattle.steps.specs.Plans.{planIn};
+ghost use Rattle.steps.specs.Goings.{runIn};
+ghost use Rattle.steps.specs.Lands.{Lands};
 
 // The number of a refusal where P is short.
 pub const SHORT_P: usize = 4;
 
-// Whether a level opens, how the search goes, and the level.
-pub struct Opening {
+// Whether a level opens, and the level.
+pub struct Deeper {
     pub opens: bool,
-    pub run: Run,
     pub level: Level,
 }
 
-// What a step answered: the number of a room that was short, or 0, and what is in use.
-fn after(going: Run, code: usize, counts: Counts) -> Run
-    ensures { λ r. ⌜ r ≡ afterWith going code counts ⌝ }
+// What a step answered: the number of a room that was short, or 0, and what is in use. The numbers are written whole, so that no proof asks how many stand there.
+fn after(run: &mut [usize; RUN], code: usize, counts: Counts)
+    ensures { λ _. ⌜ runIn (now (run .exit)) ≡ afterWith (runIn (now (run .entry))) code counts ⌝ }
 {
+    *run = [
+        code,
+        run[ENERGY],
+        counts.records,
+        counts.addresses,
+        counts.kept,
+        counts.used,
+        counts.rows,
+    ];
+}
+
+// A room is short.
+fn refuse(run: &mut [usize; RUN], code: usize)
+    ensures { λ _. ⌜ runIn (now (run .exit)) ≡ refusedWith (runIn (now (run .entry))) code ⌝ }
+{
+    *run = [
+        code,
+        run[ENERGY],
+        run[RECORDS],
+        run[ADDRESSES],
+        run[KEPT],
+        run[USED],
+        run[ROWS],
+    ];
+}
+
+// A room is short, and no level was tried.
+pub fn refused(going: Run, code: usize) -> Run
+    ensures { λ r. ⌜ r ≡ refusedWith going code ⌝ }
+{
+    let counts = going.counts;
     Run {
         code,
         energy: going.energy,
@@ -47,49 +89,23 @@ fn after(going: Run, code: usize, counts: Counts) -> Run
     }
 }
 
-// A room is short.
-pub fn refused(going: Run, code: usize) -> Run
-    ensures { λ r. ⌜ r ≡ refusedWith going code ⌝ }
-{
-    let counts = going.counts;
-    after(going, code, counts)
-}
-
 // No level opens.
-fn shut(going: Run, level: Level) -> Opening
-    ensures { λ r. ⌜ r ≡ shutWith going level ⌝ }
+fn shut(level: Level) -> Deeper
+    ensures { λ d. ⌜ d ≡ shutAt level ⌝ }
 {
-    Opening {
+    Deeper {
         opens: false,
-        run: going,
-        level,
-    }
-}
-
-// The path has ended, with what its record answered, and no level opens.
-fn ended(going: Run, answer: Reply, level: Level) -> Opening
-    ensures { λ r. ⌜ r ≡ endedWith going answer level ⌝ }
-{
-    let counts = answer.counts;
-    Opening {
-        opens: false,
-        run: Run {
-            code: answer.code,
-            energy: going.energy,
-            counts,
-        },
         level,
     }
 }
 
 // A level opens behind the grown path of np addresses, with the state that was seen.
-fn opened(going: Run, np: usize, position: usize, seen: Seen, level: Level) -> Opening
+fn opened(np: usize, position: usize, seen: Seen, level: Level) -> Deeper
     requires { ⌜ (level .left ≡ 0 → ⊥) ⌝ }
-    ensures { λ r. ⌜ r ≡ openWith going np position seen level ⌝ }
+    ensures { λ d. ⌜ d ≡ openAt np position seen level ⌝ }
 {
-    Opening {
+    Deeper {
         opens: true,
-        run: going,
         level: Level {
             np,
             position,
@@ -141,6 +157,34 @@ fn entry_of(start: usize, seen: Seen, spent: usize) -> Entry
     }
 }
 
+// The path has ended: it is recorded. It answers no struct: one that a call fills lies in memory, and with it that of every parent.
+fn landed(
+    w: &mut [u8],
+    p: &[u8],
+    s: &mut [u8],
+    r: &mut [u8],
+    q: &mut [u8],
+    np: usize,
+    plan: &[usize; PLAN],
+    entry: Entry,
+    run: &mut [usize; RUN],
+)
+    requires { ⌜ Lands (now p) np (planIn (now plan)) (mem (now w) (now r) (now q) (now s)) (runIn (now run) .counts) entry ⌝ }
+    ensures { λ _. ⌜ Landed (now (p .entry)) np (planIn (now (plan .entry))) (mem (now (w .entry)) (now (r .entry)) (now (q .entry)) (now (s .entry))) entry
+        (runIn (now (run .entry))) (mem (now (w .exit)) (now (r .exit)) (now (q .exit)) (now (s .exit))) (runIn (now (run .exit))) ⌝ }
+{
+    let counts = Counts {
+        records: run[RECORDS],
+        addresses: run[ADDRESSES],
+        kept: run[KEPT],
+        used: run[USED],
+        rows: run[ROWS],
+    };
+    let answer = land(w, p, s, r, q, np, plan, counts, entry);
+    let more = answer.counts;
+    after(run, answer.code, more);
+}
+
 // Step 6: a Before opens a level, a Jumpdest is where the path leads, and anything else leads nowhere.
 fn arrive(
     w: &mut [u8],
@@ -149,23 +193,23 @@ fn arrive(
     r: &mut [u8],
     q: &mut [u8],
     np: usize,
-    plan: Plan,
+    plan: &[usize; PLAN],
     start: usize,
     level: Level,
     seen: Seen,
-    going: Run,
-) -> Opening
-    requires { ⌜ Arriving (now p) np plan (mem (now w) (now r) (now q) (now s)) start level seen going ⌝ }
-    ensures { λ e. ⌜ Arrived (now (p .entry)) np plan (mem (now (w .entry)) (now (r .entry)) (now (q .entry)) (now (s .entry))) start level seen going
-        (mem (now (w .exit)) (now (r .exit)) (now (q .exit)) (now (s .exit))) e ⌝ }
+    run: &mut [usize; RUN],
+) -> Deeper
+    requires { ⌜ Arriving (now p) np (planIn (now plan)) (mem (now w) (now r) (now q) (now s)) start level seen (runIn (now run)) ⌝ }
+    ensures { λ d. ⌜ Arrived (now (p .entry)) np (planIn (now (plan .entry))) (mem (now (w .entry)) (now (r .entry)) (now (q .entry)) (now (s .entry))) start level seen
+        (runIn (now (run .entry))) (mem (now (w .exit)) (now (r .exit)) (now (q .exit)) (now (s .exit))) (openingOf (runIn (now (run .exit))) d) ⌝ }
 {
     let symbol = seen.symbol;
     if let StackSym::Before(position) = symbol {
-        return opened(going, np, position, seen, level);
+        return opened(np, position, seen, level);
     }
-    let counts = going.counts;
-    let entry = entry_of(start, seen, going.energy);
-    ended(going, land(w, p, s, r, q, np, plan, counts, entry), level)
+    let entry = entry_of(start, seen, run[ENERGY]);
+    landed(w, p, s, r, q, np, plan, entry, run);
+    shut(level)
 }
 
 // What is seen at the end of the path of np addresses: its last address, the symbol and the state taken, which stands after `used` cells.
@@ -191,34 +235,41 @@ fn follow(
     t: &mut [u8],
     r: &mut [u8],
     q: &mut [u8],
-    plan: Plan,
+    plan: &[usize; PLAN],
     start: usize,
     level: Level,
     at: usize,
     np: usize,
-    going: Run,
-) -> Opening
-    requires { ⌜ Following (now code) plan start level at np (buffers (now w) (now p) (now s) (now t) (now r) (now q)) going ⌝ }
-    ensures { λ e. ⌜ Followed (now (code .entry)) plan start level at np
-        (buffers (now (w .entry)) (now (p .entry)) (now (s .entry)) (now (t .entry)) (now (r .entry)) (now (q .entry))) going
-        (buffers (now (w .exit)) (now (p .entry)) (now (s .exit)) (now (t .exit)) (now (r .exit)) (now (q .exit))) e ⌝ }
+    run: &mut [usize; RUN],
+) -> Deeper
+    requires { ⌜ Following (now code) (planIn (now plan)) start level at np (buffers (now w) (now p) (now s) (now t) (now r) (now q)) (runIn (now run)) ⌝ }
+    ensures { λ d. ⌜ Followed (now (code .entry)) (planIn (now (plan .entry))) start level at np
+        (buffers (now (w .entry)) (now (p .entry)) (now (s .entry)) (now (t .entry)) (now (r .entry)) (now (q .entry))) (runIn (now (run .entry)))
+        (buffers (now (w .exit)) (now (p .entry)) (now (s .exit)) (now (t .exit)) (now (r .exit)) (now (q .exit))) (openingOf (runIn (now (run .exit))) d) ⌝ }
 {
-    let counts = going.counts;
+    let counts = Counts {
+        records: run[RECORDS],
+        addresses: run[ADDRESSES],
+        kept: run[KEPT],
+        used: run[USED],
+        rows: run[ROWS],
+    };
     let taken = take_state(code, w, s, r, plan, counts, level, at);
     if taken.code != 0 {
-        return shut(refused(going, taken.code), level);
+        refuse(run, taken.code);
+        return shut(level);
     }
     let seen = seen(p, np, taken, counts.used);
     let meeting = meet(s, t, plan, counts, seen);
     if meeting.met {
-        return shut(going, level);
+        return shut(level);
     }
     let more = meeting.counts;
-    let here = after(going, meeting.code, more);
+    after(run, meeting.code, more);
     if meeting.code != 0 {
-        return shut(here, level);
+        return shut(level);
     }
-    arrive(w, p, s, r, q, np, plan, start, level, seen, here)
+    arrive(w, p, s, r, q, np, plan, start, level, seen, run)
 }
 
 // Steps 2 to 6 of the parent at `at`, but for the level that it may open.
@@ -230,42 +281,29 @@ pub fn enter(
     t: &mut [u8],
     r: &mut [u8],
     q: &mut [u8],
-    plan: Plan,
+    plan: &[usize; PLAN],
     start: usize,
     level: Level,
     at: usize,
-    going: Run,
-) -> Opening
-    requires { ⌜ Entering (now code) plan start level at (buffers (now w) (now p) (now s) (now t) (now r) (now q)) going ⌝ }
-    ensures { λ e. ⌜ Entered (now (code .entry)) plan start level at
-        (buffers (now (w .entry)) (now (p .entry)) (now (s .entry)) (now (t .entry)) (now (r .entry)) (now (q .entry))) going
-        (buffers (now (w .exit)) (now (p .exit)) (now (s .exit)) (now (t .exit)) (now (r .exit)) (now (q .exit))) e ⌝ }
+    run: &mut [usize; RUN],
+) -> Deeper
+    requires { ⌜ Entering (now code) (planIn (now plan)) start level at (buffers (now w) (now p) (now s) (now t) (now r) (now q)) (runIn (now run)) ⌝ }
+    ensures { λ d. ⌜ Entered (now (code .entry)) (planIn (now (plan .entry))) start level at
+        (buffers (now (w .entry)) (now (p .entry)) (now (s .entry)) (now (t .entry)) (now (r .entry)) (now (q .entry))) (runIn (now (run .entry)))
+        (buffers (now (w .exit)) (now (p .exit)) (now (s .exit)) (now (t .exit)) (now (r .exit)) (now (q .exit))) (openingOf (runIn (now (run .exit))) d) ⌝ }
 {
-    if skipped(w, plan.n, at) {
-        return shut(going, level);
+    if skipped(w, plan[SIZE], at) {
+        return shut(level);
     }
-    let rooms = plan.rooms;
-    let np = grow(p, r, q, rooms.p, level.np, at);
+    let np = grow(p, r, q, plan[ROOM_P], level.np, at);
     if np == 0 {
-        return shut(refused(going, SHORT_P), level);
+        refuse(run, SHORT_P);
+        return shut(level);
     }
     if level.left == 0 {
-        let counts = going.counts;
-        return ended(
-            going,
-            land(
-                w,
-                p,
-                s,
-                r,
-                q,
-                np,
-                plan,
-                counts,
-                no_entry(start, going.energy),
-            ),
-            level,
-        );
+        let entry = no_entry(start, run[ENERGY]);
+        landed(w, p, s, r, q, np, plan, entry, run);
+        return shut(level);
     }
-    follow(code, w, p, s, t, r, q, plan, start, level, at, np, going)
+    follow(code, w, p, s, t, r, q, plan, start, level, at, np, run)
 }

@@ -6,7 +6,7 @@ use native.Mathlib.Omega.{arith}
 use borrow.Author.Tests.{le-leb, lt-leb}
 use Rattle.spec.specs.Lists.{if}
 use Rattle.spec.specs.Opcodes.{argument}
-use Rattle.evm.specs.Rows.{SizeIs}
+use Rattle.evm.specs.Rows.{ArgumentIs}
 
 module _ (b : ℕ) where
   pub argument-below : b < 0x60 → argument b ≡ 0
@@ -25,16 +25,16 @@ module _ (b : ℕ) where
       let l : 0x60 ≤ b = omega arith in
       rw (le-leb 0x60 b l, lt-leb b 0x7F h)
 
-  -- ---- the ways out of size_of
+  -- ---- the ways out of argument_of
 
-  pub size-below : b < 0x60 → SizeIs b 1
-  size-below h = omega (arith, argument-below h)
+  pub has-none-below : b < 0x60 → ArgumentIs b 0
+  has-none-below h = omega (arith, argument-below h)
 
-  pub size-push : 0x60 ≤ b → b < 0x80 → SizeIs b (1 + (b - 0x60 + 1))
-  size-push h g = omega (arith, argument-push h g)
+  pub has-push : 0x60 ≤ b → b < 0x80 → ArgumentIs b (b - 0x60 + 1)
+  has-push h g = omega (arith, argument-push h g)
 
-  pub size-above : 0x80 ≤ b → SizeIs b 1
-  size-above h = omega (arith, argument-above h)
+  pub has-none-above : 0x80 ≤ b → ArgumentIs b 0
+  has-none-above h = omega (arith, argument-above h)
 
   pub argument-most : argument b ≤ 32
   argument-most = go (decLt b 0x60) (decLt b 0x80)

@@ -6,3 +6,4 @@ pub mod Table
 pub mod Once
 pub mod Listed
 mod Held
+mod Spelling

@@ -12,8 +12,7 @@ use mir.Val.{hasKey}
 use types.Run.{OneOf, hit}
 use Rattle.spec.specs.Lists.{if}
 use Rattle.spec.specs.Opcodes.{argument, row}
-use Rattle.evm.specs.Rows.{RowIs, SizeIs, WordsAre}
-use Rattle.evm.specs.declared.rows.Words.{Words}
+use Rattle.evm.specs.Rows.{RowIs, SizeIs, takenIn, givenIn, knownIn, WordsAre}
 use Rattle.evm.proofs.Table.{_both_, left, right, each-of, each-at, every, every-at}
 
 beq→eq : (a b : Bool) → T (Bool·beq a b) → a ≡ b
@@ -23,10 +22,10 @@ beq→eq false true t = absurd t
 beq→eq false false t = refl
 
 -- w is what the list says of the byte k, within the bounds
-abbrev pub fits : Words → ℕ → Bool
-fits w k = eqb (w .taken) (row k .taken) both eqb (w .given) (row k .given) both Bool·beq (w .known) (row k .known) both leb (w .taken) 17 both leb (w .given) 17
+abbrev pub fits : ℕ → ℕ → Bool
+fits w k = eqb (takenIn w) (row k .taken) both eqb (givenIn w) (row k .given) both Bool·beq (knownIn w) (row k .known) both leb (takenIn w) 17 both leb (givenIn w) 17
 
-words-are : (w : Words) (k : ℕ) → T (fits w k) → WordsAre k w
+words-are : (w k : ℕ) → T (fits w k) → WordsAre k w
 words-are w k t =
     record {
       taken = eqb→eq _ _ (left _ _ (left _ _ (left _ _ (left _ _ t))));
@@ -77,18 +76,22 @@ named =
     ∷ []
 
 -- the n-th of these arms, at its bytes
-pub keyed : (w : Words) (n : ℕ) → T (each-of (fits w) (getD named n [])) → {x : ℕ} {r : Words} → OneOf (getD named n []) x → r ≡ w → WordsAre x r
+pub keyed : (w n : ℕ) → T (each-of (fits w) (getD named n [])) → {x r : ℕ} → OneOf (getD named n []) x → r ≡ w → WordsAre x r
 keyed w n t {x} o e = rw e (words-are w x (each-at (fits w) (getD named n []) x t o))
+
+-- an arm for the bytes of a range, n from a on, of which no arm names one; what it gives may go by the byte
+pub within : (w : ℕ → ℕ) (a n : ℕ) → T (every (λ (k : ℕ). fits (w k) k) a n) → {x r : ℕ} → a ≤ x → x < a + n → r ≡ w x → WordsAre x r
+within w a n t {x} h g e = rw e (words-are (w x) x (every-at (λ (k : ℕ). fits (w k) k) n a x t h g))
 
 or-else : (a b : Bool) → T (a || b) → (T a → ⊥) → T b
 or-else a b t n = ⊎-elim (λ h. absurd (n h)) (λ h. h) (or-yes a b t)
 
 -- the byte is named, or w is what the list says of it
-unfoldable pub named-or : (ℕ → Words) → ℕ → Bool
+unfoldable pub named-or : (ℕ → ℕ) → ℕ → Bool
 named-or w k = among named k || fits (w k) k
 
--- an arm for the bytes of a range, n from a on, that no arm names; what it gives may go by the byte
-pub ranged : (w : ℕ → Words) (a n : ℕ) → T (every (named-or w) a n) → {x : ℕ} {r : Words} → Others (Unit {0}) named x → a ≤ x → x < a + n → r ≡ w x → WordsAre x r
+-- the same for those of a range that no arm names, where some are named
+pub ranged : (w : ℕ → ℕ) (a n : ℕ) → T (every (named-or w) a n) → {x r : ℕ} → Others (Unit {0}) named x → a ≤ x → x < a + n → r ≡ w x → WordsAre x r
 unfolding named-or
 ranged w a n t {x} o h g e = rw e (words-are (w x) x (or-else (among named x) (fits (w x) x) (every-at (named-or w) n a x t h g) (unnamed (Unit {0}) named x o)))
 
@@ -101,13 +104,13 @@ pub row-size : (x : ℕ) → x < 256 → row x .size ≡ suc (argument x)
 unfolding sized every row if _both_
 row-size x h = eqb→eq _ _ (every-at sized 256 0 x tt zero≤ h)
 
-pub row-is : {x s : ℕ} {w : Words} → x < 256 → SizeIs x s → WordsAre x w → RowIs x (record { size = s; taken = w .taken; given = w .given; known = w .known })
-row-is {x} h s w =
+pub row-is : {x s w : ℕ} {b : Bool} → x < 256 → SizeIs x s → WordsAre x w → b ≡ knownIn w → RowIs x (record { size = s; taken = takenIn w; given = givenIn w; known = b })
+row-is {x} h s w e =
     record {
       size = s .size ∙ sym (row-size x h);
       taken = w .taken;
       given = w .given;
-      known = w .known;
+      known = e ∙ w .known;
       size-least = s .least;
       size-most = s .most;
       taken-most = w .taken-most;

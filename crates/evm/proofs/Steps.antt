@@ -1,9 +1,12 @@
 -- What is found at a place of the code, and what a caller learns of the walk from it. Assumes nothing.
 use mathlib.Core.Path.{_≡_, ap, sym, _∙_}
+use mathlib.Core.Bool.{Bool, true, false}
 use mathlib.Core.List.{List, [], _∷_}
 use Prim.Native.Nat.{ℕ, suc, _+_, _-_, _≤_, _<_}
 use native.Mathlib.Omega.{arith}
 use native.Mathlib.Decide.{decLe}
+use borrow.Author.Tests.{leb-true, leb-false}
+use lib.Dec.{leb}
 use lib.ListN.{length, getD, drop}
 use Rattle.spec.specs.Opcodes.{argument}
 use Rattle.spec.specs.Walk.{ins, walk}
@@ -27,12 +30,12 @@ module _ (code : List ℕ) (at : ℕ) where
   pub step-past : length code ≤ at → End ≡ stepAt code at
   step-past h = sym (none (omega arith))
 
-  module _ {n : ℕ} (s : SizeIs (getD code at 0) n) where
-    pub step-short : length code - at < n → End ≡ stepAt code at
-    step-short h = sym (none (omega arith))
+  module _ {n : ℕ} (s : SizeIs (getD code at 0) n) {b : Bool} (e : b ≡ leb n (length code - at)) where
+    pub step-short : b ≡ false → End ≡ stepAt code at
+    step-short f = sym (none (omega (arith, leb-false n (length code - at) (sym e ∙ f))))
 
-    pub step-whole : at < length code → n ≤ length code - at → Whole at (getD code at 0) (at + n) ≡ stepAt code at
-    step-whole g h = rw (s .size) (sym (whole (omega arith)))
+    pub step-whole : at < length code → b ≡ true → Whole at (getD code at 0) (at + n) ≡ stepAt code at
+    step-whole g f = rw (s .size) (sym (whole (omega (arith, leb-true n (length code - at) (sym e ∙ f)))))
 
   -- ---- what a caller learns of the step r, by which arm of its `match` it is in
 

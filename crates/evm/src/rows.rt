@@ -1,7 +1,7 @@
 // The rows of document 01, "Opcode rows": an instruction by its byte, and by the range that the byte lies in.
 ghost use mathlib.Core.Path.{_≡_};
 ghost use Rattle.spec.specs.Opcodes.{row};
-ghost use Rattle.evm.specs.Rows.{RowIs, SizeIs, WordsAre, each};
+ghost use Rattle.evm.specs.Rows.{RowIs, SizeIs, ArgumentIs, WordsAre, each};
 
 // An instruction's bytes of code, the words that it takes and gives, and whether its byte is known.
 pub struct Row {
@@ -11,24 +11,21 @@ pub struct Row {
     pub known: bool,
 }
 
-// What a row says beside the size.
-struct Words {
-    taken: u8,
-    given: u8,
-    known: bool,
-}
+// What a row says beside the size is one number, 32 times the words taken and the words given: a struct would go through memory. Of an unknown byte it is
+// this.
+const UNKNOWN: usize = 1024;
 
 impl Row {
     // The row of a byte.
     pub fn of(op: u8) -> Row
         ensures { λ r. ⌜ RowIs op r ⌝ }
     {
-        let w = words_of(op);
+        let words = words_of(op);
         Row {
             size: size_of(op) as u8,
-            taken: w.taken,
-            given: w.given,
-            known: w.known,
+            taken: (words / 32 % 32) as u8,
+            given: (words % 32) as u8,
+            known: words != UNKNOWN,
         }
     }
 }
@@ -37,18 +34,21 @@ impl Row {
 pub fn size_of(op: u8) -> usize
     ensures { λ r. ⌜ SizeIs op r ⌝ }
 {
+    1 + argument_of(op)
+}
+
+// The bytes of code after the instruction's own that belong to it: k of PUSHk, and none of another.
+fn argument_of(op: u8) -> usize
+    ensures { λ r. ⌜ ArgumentIs op r ⌝ }
+{
     match op {
-        // PUSHk
-        0x60..=0x7f => {
-            let k = op as usize - 0x60 + 1;
-            1 + k
-        }
-        _ => 1,
+        0x60..=0x7f => op as usize - 0x60 + 1,
+        _ => 0,
     }
 }
 
 // "Given as taken/given, bytes in hex", in the document's order. "Every other byte is unknown."
-fn words_of(op: u8) -> Words
+fn words_of(op: u8) -> usize
     ensures { λ r. ⌜ WordsAre op r ⌝ }
 {
     match op {
@@ -83,11 +83,7 @@ fn words_of(op: u8) -> Words
         0xf1 | 0xf2 => each(7, 1),
         0xf4 | 0xfa => each(6, 1),
         0xf5 => each(4, 1),
-        _ => Words {
-            taken: 0,
-            given: 0,
-            known: false,
-        },
+        _ => UNKNOWN,
     }
 }
 
@@ -95,17 +91,12 @@ fn words_of(op: u8) -> Words
 pub fn known(op: u8) -> bool
     ensures { λ r. ⌜ r ≡ row op .known ⌝ }
 {
-    let words = words_of(op);
-    words.known
+    words_of(op) != UNKNOWN
 }
 
 // A known byte, with the words that it takes and gives.
-fn each(taken: u8, given: u8) -> Words
+fn each(taken: u8, given: u8) -> usize
     ensures { λ r. ⌜ r ≡ each taken given ⌝ }
 {
-    Words {
-        taken,
-        given,
-        known: true,
-    }
+    taken as usize * 32 + given as usize
 }

@@ -2,6 +2,7 @@
 // "walks whole instructions; stops before one that runs past the end"
 use crate::rows::size_of;
 ghost use mathlib.Core.Path.{_≡_};
+ghost use lib.Dec.{leb};
 ghost use Rattle.evm.specs.Argument.{Follow, Spelled, Widened};
 ghost use Rattle.evm.specs.Step.{nextAt, stepAt};
 
@@ -20,7 +21,7 @@ pub fn step_at(code: &[u8], at: usize) -> Step
     }
     let op = code[at];
     let long = size_of(op);
-    if long <= code.len() - at {
+    if is_whole(long, code.len() - at) {
         Step::Whole {
             pc: at,
             op,
@@ -29,6 +30,13 @@ pub fn step_at(code: &[u8], at: usize) -> Step
     } else {
         Step::End
     }
+}
+
+// Does an instruction end within the bytes that are left of the code? "stops before one that runs past the end"
+fn is_whole(long: usize, left: usize) -> bool
+    ensures { λ r. ⌜ r ≡ leb long left ⌝ }
+{
+    long <= left
 }
 
 // The place of the next instruction, if one stands at a place of the code, else the same place.
@@ -41,8 +49,22 @@ pub fn next_at(code: &[u8], at: usize) -> usize
     }
 }
 
-// The number that the `count` bytes after pc spell, most significant first.
+// The number that the `count` bytes after pc spell, most significant first; without the loop for one or two, which nearly all pushes have.
 pub fn argument_at(code: &[u8], pc: usize, count: usize) -> u64
+    requires { ⌜ Follow (now code) pc count ⌝ }
+    ensures { λ r. ⌜ Spelled (now (code .entry)) pc count r ⌝ }
+{
+    if count == 1 {
+        return wide(code[pc + 1]);
+    }
+    if count == 2 {
+        return wide(code[pc + 1]) * 256 + wide(code[pc + 2]);
+    }
+    spell(code, pc, count)
+}
+
+// The number that the `count` bytes after pc spell, by one byte more at a time.
+fn spell(code: &[u8], pc: usize, count: usize) -> u64
     requires { ⌜ Follow (now code) pc count ⌝ }
     ensures { λ r. ⌜ Spelled (now (code .entry)) pc count r ⌝ }
 {

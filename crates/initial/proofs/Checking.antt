@@ -1,9 +1,10 @@
--- The checks afterwards: a destination is looked up in the rows, a row's block is checked, and all rows one after the other. Assumes nothing.
-use mathlib.Core.Path.{_≡_, refl, sym, ap, ap₂, _∙_}
+-- The checks afterwards: a destination is looked up in the rows, a row's block is checked, and all blocks one after the other. Assumes nothing.
+use mathlib.Core.Path.{_≡_, refl, sym, ap, _∙_}
 use mathlib.Core.Bool.{Bool, true, false, not, and-true}
 use mathlib.Core.List.{List, [], _∷_, _++_, map, map-append, append-nil}
-use Prim.Native.Nat.{ℕ, suc, _+_, _-_, _≤_, _<_}
-use native.Mathlib.Nat.{zero-add}
+use Prim.Native.Nat.{ℕ, zero, suc, _+_, _-_, _^_, _≤_, _<_}
+use native.Mathlib.Nat.{zero-add, suc-add}
+use native.Mathlib.Numerals.{add-one}
 use native.Mathlib.Omega.{arith}
 use lib.Dec.{eqb}
 use lib.ListN.{length, getD, drop, List·getD-eq-default}
@@ -17,10 +18,10 @@ use Rattle.laws.proofs.Branch.{both, if-true, if-false, and-false}
 use Rattle.layout.specs.Parts.{rowPlace, rowsEnd}
 use Rattle.layout.specs.Rows.{END, typed, Put, TypeIs}
 use Rattle.layout.specs.declared.row.BlockType.{BlockType}
-use Rattle.initial.specs.Rows.{typeOf, kindOf, rowBlocks, blocksFrom, blocksAt, Laid}
-use Rattle.initial.specs.Contracts.{Written, Rows, rechecked, CheckedRow}
+use Rattle.initial.specs.Rows.{typeOf, kindOf, blockAt, rowBlocks, blocksFrom, blocksAt, Laid}
+use Rattle.initial.specs.Contracts.{Written, Rows, Apart, no-more, one-more, through, rechecked, CheckedRow}
 use Rattle.initial.proofs.Types.{Good, kind-type, kind-jump, kind-jumpi, good-terminate, good-jump, good}
-use Rattle.initial.proofs.Rows.{here-suffix, from-prefix, from-suffix, from-split, here-block, by-row, start-at, start-past}
+use Rattle.initial.proofs.Rows.{here-suffix, from-suffix, from-split, blocks-split, here-empty, here-block, by-row, row-changed, start-at, start-past}
 use Rattle.initial.proofs.Writing.{put-here, put-laid}
 
 -- ---- a destination is looked up
@@ -91,48 +92,93 @@ module _ {code w : List ℕ} {a : ℕ} {t : BlockType} (r : Rows code w) (h : a 
   ss : List ℕ
   ss = starts (blocksAt w (length code))
 
+  -- the block that stands there
+  there : (t .kind ≡ 0 → ⊥) → rowBlocks w a ≡ blockAt w a ∷ []
+  there z = here-block w a (λ n. z (ap (λ (b : BlockType). b .kind) (y .is) ∙ n))
+
   row-written : {w′ : List ℕ} {end : ℕ} {k : BlockType} → (t .kind ≡ 0 → ⊥) → Holds 2 w (rowPlace a + END) end → kindOf k ≡ checked code ss (kindOf t) → Good k → Put w a end k w′
-      → CheckedRow code w a w′
+      → CheckedRow code w a w′ end
   unfolding ss
   row-written {w′} {end} {k} z e q g p =
       record {
-        same =
-            put-here p g (e .small)
-            ∙ rw (q, e .is, y .is)
-            (sym (ap (map (rechecked code (starts (blocksAt w (length code))))) (here-block w a (λ n. z (ap (λ (b : BlockType). b .kind) (y .is) ∙ n)))));
+        same = put-here p g (e .small) ∙ rw (q, e .is, y .is) (sym (ap (map (rechecked code (starts (blocksAt w (length code))))) (there z)));
         before = kept-take (p .stored) (rowPlace a) (omega arith);
         past = kept-drop (p .stored) (rowPlace (a + 1)) (omega arith);
+        end = e .is ∙ sym (ap (through a) (there z));
         laid = put-laid p (length code) (r .laid) h g (e .small);
         kept = p .stored .kept;
       }
 
   pub row-jump : {w′ : List ℕ} {end : ℕ} {k : BlockType} → t .kind ≡ 3 → Holds 2 w (rowPlace a + END) end
-      → k ≡ typeOf (checked code (starts (blocksAt w (length code))) (jump (t .to))) → Put w a end k w′ → CheckedRow code w a w′
+      → k ≡ typeOf (checked code (starts (blocksAt w (length code))) (jump (t .to))) → Put w a end k w′ → CheckedRow code w a w′ end
   unfolding ss
   row-jump c e q p =
       row-written (λ n. omega arith) e (ap kindOf q ∙ kind-type _ ∙ ap (checked code ss) (sym (kind-jump t c)))
       (rw q (good-checked-jump code ss (t .to) (y .to))) p
 
   pub row-jumpi : {w′ : List ℕ} {end : ℕ} {k : BlockType} → t .kind ≡ 4 → Holds 2 w (rowPlace a + END) end
-      → k ≡ typeOf (checked code (starts (blocksAt w (length code))) (jumpi (t .to) (t .other))) → Put w a end k w′ → CheckedRow code w a w′
+      → k ≡ typeOf (checked code (starts (blocksAt w (length code))) (jumpi (t .to) (t .other))) → Put w a end k w′ → CheckedRow code w a w′ end
   unfolding ss
   row-jumpi c e q p =
       row-written (λ n. omega arith) e (ap kindOf q ∙ kind-type _ ∙ ap (checked code ss) (sym (kind-jumpi t c)))
       (rw q (good-checked-jumpi code ss (t .to) (t .other) (y .to) (y .other))) p
 
-  pub row-same : (t .kind ≡ 3 → ⊥) → (t .kind ≡ 4 → ⊥) → CheckedRow code w a w
-  row-same c d =
-      record {
-        same =
-            by-row w a (λ (bs : List Block). bs ≡ map (rechecked code (starts (blocksAt w (length code)))) bs) (λ _. refl)
-            (λ _. ap {B = List Block} (λ (k : Kind). block a a (numAt 2 w (rowPlace a + END)) k ∷ []) (sym (rw (y .is) at (kind-same code (starts (blocksAt w (length code))) t c d))));
-        before = refl;
-        past = refl;
-        laid = r .laid;
-        kept = refl;
-      }
+  row-kept : {end : ℕ} → rowBlocks w a ≡ map (rechecked code (starts (blocksAt w (length code)))) (rowBlocks w a) → end ≡ through a (rowBlocks w a) → CheckedRow code w a w end
+  row-kept s e = record { same = s; before = refl; past = refl; end = e; laid = r .laid; kept = refl }
 
--- ---- all rows, one after the other
+  pub row-none : t .kind ≡ 0 → CheckedRow code w a w a
+  row-none c =
+      let none = here-empty w a (ap (λ (b : BlockType). b .kind) (sym (y .is)) ∙ c) in
+      row-kept (rw none) (rw none)
+
+  pub row-same : {end : ℕ} → (t .kind ≡ 0 → ⊥) → (t .kind ≡ 3 → ⊥) → (t .kind ≡ 4 → ⊥) → Holds 2 w (rowPlace a + END) end → CheckedRow code w a w end
+  row-same z c d e =
+      let s = kind-same code (starts (blocksAt w (length code))) t c d in
+      row-kept (rw (there z) (ap {B = List Block} (λ (k : Kind). block a a (numAt 2 w (rowPlace a + END)) k ∷ []) (sym (rw (y .is) at s)))) (e .is ∙ rw (there z))
+
+-- ---- no block starts behind another's start up to its end
+
+any-low : {n lo : ℕ} {bs : List Block} → Apart n lo bs → Apart n 0 bs
+any-low no-more = no-more
+any-low (one-more {b} l f i s) = one-more {lo = 0} {b = b} (omega arith) f i s
+
+apart-later : {n lo : ℕ} (xs : List Block) {ys : List Block} → Apart n lo (xs ++ ys) → Apart n 0 ys
+apart-later [] s = any-low s
+apart-later (x ∷ xs) (one-more l f i s) = apart-later xs s
+
+first-low : {n lo : ℕ} {b : Block} {bs : List Block} → Apart n lo (b ∷ bs) → lo ≤ b .start
+first-low (one-more l f i s) = l
+
+module _ (w : List ℕ) (n : ℕ) where
+  -- none stands in the k rows from a on, where the first is behind them
+  apart-none : {lo : ℕ} (a k m : ℕ) → a + k ≤ lo → Apart n lo (blocksFrom w a (k + m)) → blocksFrom w a k ≡ []
+  unfolding blocksFrom
+  apart-none a zero m h s = refl
+  apart-none {lo} a (suc k) m h s =
+      by-row w a (λ (bs : List Block). Apart n lo (bs ++ blocksFrom w (suc a) (k + m)) → bs ++ blocksFrom w (suc a) k ≡ []) (λ _ t. apart-none (suc a) k m (omega arith) t)
+      (λ _ t. absurd (omega (arith, first-low t))) (rw suc-add at s)
+
+  -- the checks may go on behind r after the row of a
+  record Clear (a r : ℕ) : Type 0 where
+    forward : a ≤ r
+    inside : r ≤ n
+    none : blocksFrom w (suc a) (r - a) ≡ []
+
+  clear : (a : ℕ) → a ≤ n → Apart n 0 (blocksAt w n) → Clear a (through a (rowBlocks w a))
+  unfolding blocksFrom
+  clear a h s =
+      by-row w a (λ (bs : List Block). Apart n 0 (bs ++ blocksFrom w (suc a) (n - a)) → Clear a (through a bs)) (λ _ _. alone) (λ _ t. ends t refl)
+      (apart-later (blocksFrom w 0 a) (rw (blocks-split w n a h) at s))
+    where
+      alone : Clear a a
+      alone = let e : a - a ≡ 0 = omega arith in record { forward = omega arith; inside = h; none = rw e }
+
+      ends : {b : Block} → Apart n 0 (b ∷ blocksFrom w (suc a) (n - a)) → b .start ≡ a → Clear a (b .end)
+      ends {b} (one-more l f i t) q =
+          let e : n - a ≡ b .end - a + (n - b .end) = omega arith in
+          record { forward = omega arith; inside = i; none = apart-none (suc a) (b .end - a) (n - b .end) (omega arith) (rw e at t) }
+
+-- ---- all blocks, one after the other
 
 -- the rows before a are checked, and the others are as they were
 pub record Checking (code w₀ w : List ℕ) (a : ℕ) : Type 0 where
@@ -145,10 +191,6 @@ pub record Checking (code w₀ w : List ℕ) (a : ℕ) : Type 0 where
 starts-front : (f : Kind → Kind) (xs ys : List Block) → starts (map (λ (b : Block). with-kind (f (b .kind)) b) xs ++ ys) ≡ starts (xs ++ ys)
 starts-front f [] ys = refl
 starts-front f (x ∷ xs) ys = ap {B = List ℕ} (λ (ns : List ℕ). x .start ∷ ns) (starts-front f xs ys)
-
-from-snoc : (w : List ℕ) (a : ℕ) → blocksFrom w 0 (a + 1) ≡ blocksFrom w 0 a ++ rowBlocks w a
-unfolding blocksFrom
-from-snoc w a = from-split w a 1 0 ∙ rw (zero-add, append-nil)
 
 pub check-none : {code w : List ℕ} → Rows code w → Checking code w w 0
 unfolding blocksFrom
@@ -166,19 +208,32 @@ module _ {code w₀ w : List ℕ} {a : ℕ} (r : Rows code w₀) (g : Checking c
       let rest : blocksFrom w a k ≡ blocksFrom w₀ a k = from-suffix w w₀ a k (rowPlace a) (g .back) (omega arith) in
       rw (e, from-split w a k 0, from-split w₀ a k 0, zero-add, rest, g .front) (starts-front (checked code (starts (blocksAt w₀ (length code)))) (blocksFrom w₀ 0 a) (blocksFrom w₀ a k))
 
-  pub check-more : {w′ : List ℕ} → a ≤ length code → CheckedRow code w a w′ → Checking code w₀ w′ (a + 1)
-  check-more {w′} h c =
-      let old : rowBlocks w a ≡ rowBlocks w₀ a = here-suffix w w₀ a (rowPlace a) (g .back) (omega arith) in
-      record {
-        front =
-            from-snoc w′ a
-            ∙ ap₂ (λ (x y : List Block). x ++ y) (from-prefix w′ w 0 a (rowPlace a) (c .before) (omega arith) ∙ g .front) (rw (starts-kept, old) at (c .same))
-            ∙ sym (ap (map (rechecked code (starts (blocksAt w₀ (length code))))) (from-snoc w₀ a) ∙ map-append _ (blocksFrom w₀ 0 a) (rowBlocks w₀ a));
-        back = c .past ∙ drop-more w w₀ (rowPlace a) (g .back) (rowPlace (a + 1)) (omega arith);
-        laid = c .laid;
-        kept = c .kept ∙ g .kept;
-        inside = omega arith;
-      }
+  module _ (s : Apart (length code) 0 (blocksAt w₀ (length code))) (h : a ≤ length code) {w′ : List ℕ} {end : ℕ} (c : CheckedRow code w a w′ end) where
+    old : rowBlocks w a ≡ rowBlocks w₀ a
+    old = here-suffix w w₀ a (rowPlace a) (g .back) (omega arith)
+
+    passed : Clear w₀ (length code) a end
+    passed = rw (c .end, old) (clear w₀ (length code) a h s)
+
+    pub check-fits : end + 1 < 2 ^ 64
+    check-fits = omega (arith, passed .inside, r .lent .short)
+
+    pub check-less : length code + 1 - (end + 1) < length code + 1 - a
+    check-less = omega (arith, passed .forward)
+
+    pub check-more : Checking code w₀ w′ (end + 1)
+    check-more =
+        let behind : blocksFrom w (suc a) (end - a) ≡ [] = from-suffix w w₀ (suc a) (end - a) (rowPlace a) (g .back) (omega arith) ∙ passed .none in
+        record {
+          front =
+              rw add-one
+              (row-changed w′ w end a (passed .forward) (c .before) (c .past)
+              ∙ rw (behind, g .front, c .same, old, starts-kept, blocks-split w₀ end a (passed .forward), passed .none, append-nil, append-nil) (sym (map-append _ (blocksFrom w₀ 0 a) (rowBlocks w₀ a))));
+          back = drop-more w′ w₀ (rowPlace (a + 1)) (c .past ∙ drop-more w w₀ (rowPlace a) (g .back) (rowPlace (a + 1)) (omega arith)) (rowPlace (end + 1)) (omega (arith, passed .forward));
+          laid = c .laid;
+          kept = c .kept ∙ g .kept;
+          inside = omega (arith, passed .inside);
+        }
 
   pub check-done : length code < a → Written (length code) (check-all code (blocksAt w₀ (length code))) w₀ w
   check-done h =

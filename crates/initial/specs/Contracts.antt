@@ -99,15 +99,26 @@ pub record Rows (code w : List ℕ) : Type 0 where
   pub lent : Lent code w
   pub laid : Laid w (length code)
 
+-- blocks from lo on, of a code of n bytes, each behind the end of the one before
+pub data Apart (n : ℕ) : ℕ → List Block → Type 0 where
+  no-more : {lo : ℕ} → Apart n lo []
+  one-more : {lo : ℕ} {b : Block} {bs : List Block} → lo ≤ b .start → b .start ≤ b .end → b .end ≤ n → Apart n (suc (b .end)) bs → Apart n lo (b ∷ bs)
+
+-- the end of the block in the row of a, or a where none starts
+abbrev pub through : ℕ → List Block → ℕ
+through a [] = a
+through a (b ∷ bs) = b .end
+
 -- a block with its kind checked, where the blocks start so
 abbrev pub rechecked : List ℕ → List ℕ → Block → Block
 rechecked code ss b = with-kind (checked code ss (b .kind)) b
 
--- the row of one address was checked
-pub record CheckedRow (code w : List ℕ) (a : ℕ) (w′ : List ℕ) : Type 0 where
+-- the row of one address was checked, and r is the end of its block, or the address where none starts
+pub record CheckedRow (code w : List ℕ) (a : ℕ) (w′ : List ℕ) (r : ℕ) : Type 0 where
   pub same : rowBlocks w′ a ≡ map (rechecked code (starts (blocksAt w (length code)))) (rowBlocks w a)
   pub before : take (rowPlace a) w′ ≡ take (rowPlace a) w
   pub past : drop (rowPlace (a + 1)) w′ ≡ drop (rowPlace (a + 1)) w
+  pub end : r ≡ through a (rowBlocks w a)
   pub laid : Laid w′ (length code)
   pub kept : length w′ ≡ length w
 

@@ -1,4 +1,4 @@
-// The checks afterwards, one row a turn.
+// The checks afterwards, from a block to behind its end.
 // "Afterwards a Jump to no block, or to a block whose first byte isn't 5B, becomes Terminate false. So does a Jumpi whose false side starts no block;
 // otherwise, if its true side starts none or isn't 5B, it becomes a Jump to its false side."
 use evm::op::JUMPDEST;
@@ -20,40 +20,44 @@ ghost use Rattle.spec.specs.Lists.{mem};
 ghost use Rattle.spec.specs.Blocks.{jump, jumpi, starts, lands, checked, check-all};
 ghost use Rattle.layout.specs.Parts.{rowsEnd};
 ghost use Rattle.initial.specs.Rows.{typeOf, blocksAt};
-ghost use Rattle.initial.specs.Contracts.{Written, Rows, CheckedRow};
+ghost use Rattle.initial.specs.Contracts.{Written, Rows, Apart, CheckedRow};
 
-// The checks of every block.
+// The checks of every block. Up to a block's end no other starts, so the next turn is behind it.
 pub fn check(code: &[u8], w: &mut [u8])
     requires { ⌜ Rows (now code) (now w) ⌝ }
+    requires { ⌜ Apart (length (now code)) 0 (blocksAt (now w) (length (now code))) ⌝ }
     ensures { λ _. ⌜ Written (length (now (code .entry))) (check-all (now (code .entry)) (blocksAt (now (w .entry)) (length (now (code .entry)))))
         (now (w .entry)) (now (w .exit)) ⌝ }
 {
     let size = code.len();
     let mut start = 0;
     while start <= size {
-        check_row(code, w, start);
-        start += 1;
+        start = check_row(code, w, start) + 1;
     }
 }
 
-// The checks of the block that starts at `start`, if one does.
-fn check_row(code: &[u8], w: &mut [u8], start: usize)
+// The checks of the block that starts at `start`, and its end; `start` where none does.
+fn check_row(code: &[u8], w: &mut [u8], start: usize) -> usize
     requires { ⌜ Rows (now code) (now w) ⌝ }
     requires { ⌜ start ≤ length (now code) ⌝ }
-    ensures { λ _. ⌜ CheckedRow (now (code .entry)) (now (w .entry)) start (now (w .exit)) ⌝ }
+    ensures { λ r. ⌜ CheckedRow (now (code .entry)) (now (w .entry)) start (now (w .exit)) r ⌝ }
 {
     let block = type_at(w, start);
+    if block.kind == 0 {
+        return start;
+    }
+    let end = get16(w, ROW * start + END);
     if block.kind == JUMP {
-        let end = get16(w, ROW * start + END);
         let to = checked_jump(code, w, block.to);
         put_block(w, start, end, to);
-        return;
+        return end;
     }
     if block.kind == JUMPI {
-        let end = get16(w, ROW * start + END);
         let to = checked_jumpi(code, w, block.to, block.other);
         put_block(w, start, end, to);
+        return end;
     }
+    end
 }
 
 // A Jump to no block, or to one without a JUMPDEST, becomes Terminate false.

@@ -2,6 +2,7 @@
 // "It must name the same blocks, paths and destinations as the entries, and no other"
 use crate::block::add_block;
 use crate::field::add_comma;
+use entries::behind;
 use entries::is_kept;
 ghost use mathlib.Core.List.{[], _∷_};
 ghost use Prim.Native.Nat.{_+_, _^_, _≤_};
@@ -50,8 +51,9 @@ pub fn add_blocks(
     let mut end = at;
     let mut start = 0;
     while start <= size {
-        end = add_kept(w, r, q, out, end, at, size, rows, start);
-        start += 1;
+        let here = start;
+        start = behind(w, here);
+        end = add_kept(w, r, q, out, end, at, size, rows, here);
     }
     end
 }

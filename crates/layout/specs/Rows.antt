@@ -1,5 +1,6 @@
 -- The row of the block at an address, in W: kind (2 bytes, of which the second is 0; 0 where no block starts), end (2), to or true side (2), false side
--- (2), position (4), first parent link (2), next link of each side (2, 2), next taker (2). All from the position on is 0 until the blocks are prepared.
+-- (2), position (4), first parent link (2), next link of each side (2, 2), and the taker (2) that has the row's number, whichever block that is. All from
+-- the position on is 0 until the blocks are prepared.
 -- Assumes nothing.
 use mathlib.Core.Path.{_≡_}
 use mathlib.Core.List.{List, _++_}
@@ -38,7 +39,7 @@ TAKER = 18
 
 -- how many bytes the links past the first have
 abbrev pub LINKS : ℕ
-LINKS = 6
+LINKS = 4
 
 -- ---- the block's type, which its first bytes say
 
@@ -77,9 +78,9 @@ pub record TypeIs (w : List ℕ) (a : ℕ) (t : BlockType) : Type 0 where
 abbrev pub positionAt : List ℕ → ℕ → ℕ
 positionAt w a = numAt 4 w (rowPlace a + POSITION)
 
--- the link to the next block that takes turns: its address and 1
+-- entry i of the blocks that take turns, which stands in row i: its start
 abbrev pub takerAt : List ℕ → ℕ → ℕ
-takerAt w a = numAt 2 w (rowPlace a + TAKER)
+takerAt w i = numAt 2 w (rowPlace i + TAKER)
 
 -- the link to the first direct parent of the address t: its block's start and 1
 abbrev pub firstAt : List ℕ → ℕ → ℕ

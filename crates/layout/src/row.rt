@@ -18,7 +18,8 @@ pub const TO: usize = 4;
 
 pub const OTHER: usize = 6;
 
-// The position that is asked for, the link to the address's first parent, those of its block's two sides, and the link to the next block that takes turns.
+// The position that is asked for, the link to the address's first parent, those of its block's two sides, and an entry of the array of those that take turns:
+// row i has entry i, whichever block that is.
 pub const POSITION: usize = 8;
 
 pub const FIRST: usize = 12;

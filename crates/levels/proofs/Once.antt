@@ -7,7 +7,7 @@ use Rattle.spec.specs.Search.{St, Turn, level}
 use Rattle.layout.specs.Buffers.{Mem}
 use Rattle.tables.proofs.Alike.{AllBytes, AllLong}
 use Rattle.steps.specs.Runs.{tabled, stOf}
-use Rattle.steps.specs.declared.Plan.{Plan}
+use Rattle.steps.specs.Plans.{Plan}
 use Rattle.steps.specs.declared.Level.{Level}
 use Rattle.steps.specs.declared.Run.{Run}
 use Rattle.enter.specs.Fits.{Fits, levelOf}

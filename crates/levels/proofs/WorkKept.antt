@@ -105,7 +105,7 @@ module _ {n buckets : ℕ} {w w′ : List ℕ} (e : Alike n buckets w w′) wher
   pub alike-marks : {reached : List ℕ} {since : ℕ} {rs : List Rec} → Marks n w reached since rs → Marks n w′ reached since rs
   alike-marks m = marks-kept m (e .rows) (e .marks) (e .highs)
 
-  pub alike-known : {mode : ℕ} {code : List ℕ} {head : ℕ} → n ≡ length code → Known mode code w head → Known mode code w′ head
+  pub alike-known : {mode : ℕ} {code : List ℕ} {many : ℕ} → n ≡ length code → Known mode code w many → Known mode code w′ many
   alike-known is k = known-prefix w′ (sym (rw is at (e .rows))) k
 
   pub alike-room : Room n w → Room n w′

@@ -8,7 +8,7 @@ use Rattle.layout.specs.Buffers.{Mem}
 use Rattle.tables.specs.Addrs.{addrs}
 use Rattle.steps.specs.Paths.{OnPath}
 use Rattle.steps.specs.Runs.{stOf, Did}
-use Rattle.steps.specs.declared.Plan.{Plan}
+use Rattle.steps.specs.Plans.{Plan}
 use Rattle.steps.specs.declared.Level.{Level}
 use Rattle.steps.specs.declared.Run.{Run}
 use Rattle.enter.specs.Fits.{Fits, levelOf, Stands, OnIts, held, Stays}

@@ -5,13 +5,22 @@ use lent::get16;
 use reachable::highest;
 use reachable::is_marked;
 use steps::Level;
-use steps::Plan;
-use steps::Run;
 use steps::cursor::first_cursor;
 use steps::cursor::last_block;
 use steps::cursor::next_cursor;
+use steps::going::ADDRESSES;
+use steps::going::CODE;
+use steps::going::ENERGY;
+use steps::going::KEPT;
+use steps::going::RECORDS;
+use steps::going::ROWS;
+use steps::going::RUN;
+use steps::going::USED;
 use steps::path::count;
 use steps::path::uncount;
+use steps::plan::LIMIT;
+use steps::plan::PLAN;
+use steps::plan::SIZE;
 ghost use mathlib.Core.Path.{_≡_};
 ghost use Prim.Native.Nat.{_+_, _<_, _^_};
 ghost use Rattle.layout.specs.Buffers.{buffers};
@@ -20,18 +29,23 @@ ghost use Rattle.reachable.specs.Marks.{markedBy};
 ghost use Rattle.steps.specs.Cursors.{lastCursor, Asks};
 ghost use Rattle.enter.specs.Enters.{Entering};
 ghost use Rattle.levels.specs.Levels.{spentWith, Opened, Leveled, Tried};
+ghost use Rattle.steps.specs.Plans.{planIn};
+ghost use Rattle.steps.specs.Goings.{runIn};
 
 // A unit of energy.
-fn spend(going: Run) -> Run
-    requires { ⌜ going .energy + 1 < 2 ^ 64 ⌝ }
-    ensures { λ r. ⌜ r ≡ spentWith going ⌝ }
+fn spend(run: &mut [usize; RUN])
+    requires { ⌜ runIn (now run) .energy + 1 < 2 ^ 64 ⌝ }
+    ensures { λ _. ⌜ runIn (now (run .exit)) ≡ spentWith (runIn (now (run .entry))) ⌝ }
 {
-    let counts = going.counts;
-    Run {
-        code: going.code,
-        energy: going.energy + 1,
-        counts,
-    }
+    *run = [
+        run[CODE],
+        run[ENERGY] + 1,
+        run[RECORDS],
+        run[ADDRESSES],
+        run[KEPT],
+        run[USED],
+        run[ROWS],
+    ];
 }
 
 // Is the parent at `at` one "whose path's last block is then reached", when the level opened with `opened` records?
@@ -51,37 +65,34 @@ pub fn level(
     t: &mut [u8],
     r: &mut [u8],
     q: &mut [u8],
-    plan: Plan,
+    plan: &[usize; PLAN],
     start: usize,
     level: Level,
-    going: Run,
-) -> Run
-    requires { ⌜ Opened (now code) plan start level (buffers (now w) (now p) (now s) (now t) (now r) (now q)) going ⌝ }
-    ensures { λ d. ⌜ Leveled (now (code .entry)) plan start level
-        (buffers (now (w .entry)) (now (p .entry)) (now (s .entry)) (now (t .entry)) (now (r .entry)) (now (q .entry))) going
-        (buffers (now (w .exit)) (now (p .exit)) (now (s .exit)) (now (t .exit)) (now (r .exit)) (now (q .exit))) d ⌝ }
+    run: &mut [usize; RUN],
+)
+    requires { ⌜ Opened (now code) (planIn (now plan)) start level (buffers (now w) (now p) (now s) (now t) (now r) (now q)) (runIn (now run)) ⌝ }
+    ensures { λ _. ⌜ Leveled (now (code .entry)) (planIn (now (plan .entry))) start level
+        (buffers (now (w .entry)) (now (p .entry)) (now (s .entry)) (now (t .entry)) (now (r .entry)) (now (q .entry))) (runIn (now (run .entry)))
+        (buffers (now (w .exit)) (now (p .exit)) (now (s .exit)) (now (t .exit)) (now (r .exit)) (now (q .exit))) (runIn (now (run .exit))) ⌝ }
 {
-    let counts = going.counts;
-    let opened = counts.records;
+    let opened = run[RECORDS];
     let last = get16(p, 2 * (level.np - 1));
-    let top = highest(w, plan.n, last);
-    let mut at = first_cursor(w, plan.n, last, opened, top);
-    let mut cur = going;
+    let top = highest(w, plan[SIZE], last);
+    let mut at = first_cursor(w, plan[SIZE], last, opened, top);
     while at != 0 {
         let here = at;
-        at = next_cursor(w, r, plan.n, last, opened, top, here);
-        if reached_then(w, r, q, plan.n, here, opened) {
-            cur = spend(cur);
-            if plan.limit < cur.energy {
-                return cur;
+        at = next_cursor(w, r, plan[SIZE], last, opened, top, here);
+        if reached_then(w, r, q, plan[SIZE], here, opened) {
+            spend(run);
+            if plan[LIMIT] < run[ENERGY] {
+                return;
             }
-            cur = parent(code, w, p, s, t, r, q, plan, start, level, here, cur);
-            if cur.code != 0 {
-                return cur;
+            parent(code, w, p, s, t, r, q, plan, start, level, here, run);
+            if run[CODE] != 0 {
+                return;
             }
         }
     }
-    cur
 }
 
 // A parent of a level: what is done with it, and the level that it may open.
@@ -93,28 +104,26 @@ fn parent(
     t: &mut [u8],
     r: &mut [u8],
     q: &mut [u8],
-    plan: Plan,
+    plan: &[usize; PLAN],
     start: usize,
     outer: Level,
     at: usize,
-    going: Run,
-) -> Run
-    requires { ⌜ Entering (now code) plan start outer at (buffers (now w) (now p) (now s) (now t) (now r) (now q)) going ⌝ }
-    ensures { λ d. ⌜ Tried (now (code .entry)) plan start outer at
-        (buffers (now (w .entry)) (now (p .entry)) (now (s .entry)) (now (t .entry)) (now (r .entry)) (now (q .entry))) going
-        (buffers (now (w .exit)) (now (p .exit)) (now (s .exit)) (now (t .exit)) (now (r .exit)) (now (q .exit))) d ⌝ }
+    run: &mut [usize; RUN],
+)
+    requires { ⌜ Entering (now code) (planIn (now plan)) start outer at (buffers (now w) (now p) (now s) (now t) (now r) (now q)) (runIn (now run)) ⌝ }
+    ensures { λ _. ⌜ Tried (now (code .entry)) (planIn (now (plan .entry))) start outer at
+        (buffers (now (w .entry)) (now (p .entry)) (now (s .entry)) (now (t .entry)) (now (r .entry)) (now (q .entry))) (runIn (now (run .entry)))
+        (buffers (now (w .exit)) (now (p .exit)) (now (s .exit)) (now (t .exit)) (now (r .exit)) (now (q .exit))) (runIn (now (run .exit))) ⌝ }
 {
-    let opening = enter(code, w, p, s, t, r, q, plan, start, outer, at, going);
-    let here = opening.run;
+    let opening = enter(code, w, p, s, t, r, q, plan, start, outer, at, run);
     if !opening.opens {
-        return here;
+        return;
     }
     let deeper = opening.level;
-    count(w, plan.n, p, outer.np, deeper.np);
-    let d = level(code, w, p, s, t, r, q, plan, start, deeper, here);
-    if d.code != 0 {
-        return d;
+    count(w, plan[SIZE], p, outer.np, deeper.np);
+    level(code, w, p, s, t, r, q, plan, start, deeper, run);
+    if run[CODE] != 0 {
+        return;
     }
-    uncount(w, plan.n, p, outer.np, deeper.np);
-    d
+    uncount(w, plan[SIZE], p, outer.np, deeper.np);
 }

@@ -29,7 +29,7 @@ use Rattle.parents.proofs.Goals.{Goes, run-goes}
 use Rattle.parents.proofs.Chains.{parents-prefix, takers-prefix, Shape, takes-none, takes-one, shape}
 
 -- all of it depends on the rows alone
-pub known-prefix : {mode : ℕ} {code w : List ℕ} {head : ℕ} (v : List ℕ) → SameRows (length code) v w → Known mode code w head → Known mode code v head
+pub known-prefix : {mode : ℕ} {code w : List ℕ} {many : ℕ} (v : List ℕ) → SameRows (length code) v w → Known mode code w many → Known mode code v many
 known-prefix {mode} {code} {w} v e k =
     let n : ℕ = length code in
     record {

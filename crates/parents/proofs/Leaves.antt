@@ -21,9 +21,9 @@ use Rattle.state.specs.declared.sym.StackSym.{StackSym}
 use Rattle.state.specs.declared.sym.StackSym.the-variants.{Before, Constant, Jumpdest, Other}
 use Rattle.exec.specs.declared.run.Goes.the-variants.{To, Nowhere}
 use Rattle.exec.specs.declared.run.Own.{Own}
-use Rattle.parents.specs.Writes.{link, linkSides, takeTurn, staticType, place, goesAt}
+use Rattle.parents.specs.Writes.{link, linkSides, takeTurn, staticType, makeStatic, place, goesAt}
 use Rattle.state.proofs.States.{own-walked}
-use Rattle.parents.specs.Contracts.{Sides, LinkRoom, Wrote, Settles, Ran, Settled, Placed, Number}
+use Rattle.parents.specs.Contracts.{Sides, LinkRoom, Wrote, Settles, TurnRoom, Ran, Settled, Placed, Number}
 
 pub number-is : {k at r : ℕ} {w : List ℕ} → Holds k w at r → Number r (numAt k w at) k
 number-is h = record { is = h .is; small = h .small }
@@ -98,10 +98,10 @@ module _ (w : List ℕ) (t link : ℕ) {x y : ℕ} (h : Holds 2 w (rowPlace (lin
 
 -- ---- a turn
 
-pub turn-wrote : (a p head : ℕ) {w w₁ w₂ : List ℕ} → Stored 4 w (rowPlace a + POSITION) (little 4 p) w₁ → Stored 2 w₁ (rowPlace a + TAKER) (little 2 head) w₂
-    → Wrote w w₂ (takeTurn w a p head)
+pub turn-wrote : (a p many : ℕ) {w w₁ w₂ : List ℕ} → Stored 4 w (rowPlace a + POSITION) (little 4 p) w₁ → Stored 2 w₁ (rowPlace many + TAKER) (little 2 a) w₂
+    → Wrote w w₂ (takeTurn w a p many)
 unfolding takeTurn
-turn-wrote a x head p q = record { is = q .is ∙ rw (p .is); kept = q .kept ∙ p .kept }
+turn-wrote a x many p q = record { is = q .is ∙ rw (p .is); kept = q .kept ∙ p .kept }
 
 -- ---- a static type
 
@@ -111,35 +111,38 @@ static-jump t to e = sym (if-true _ _ _ (eq-eqb _ _ e))
 pub static-jumpi : (t : BlockType) (to : ℕ) → (t .kind ≡ 5 → ⊥) → typed 4 to (t .other) ≡ staticType t to
 static-jumpi t to e = sym (if-false _ _ _ (ne-eqb _ _ e))
 
+pub static-wrote : (a : ℕ) (t : BlockType) (to : ℕ) {last : ℕ} {k : BlockType} {w w′ : List ℕ} → Holds 2 w (rowPlace a + END) last → k ≡ staticType t to → Put w a last k w′
+    → Wrote w w′ (makeStatic w a t to)
+static-wrote a t to h q p = record { is = p .stored .is ∙ rw (q, h .is); kept = p .stored .kept }
+
 -- ---- what a run settles
 
-module _ {w : List ℕ} {a : ℕ} {t : BlockType} (head : ℕ) where
-  pub place-jumpdest : (x : StackSym) {to last : ℕ} {k : BlockType} {w′ : List ℕ} → x ≡ Jumpdest to → Holds 2 w (rowPlace a + END) last → k ≡ staticType t to → Put w a last k w′
-      → Placed w a t (some (symOf x)) head w′ head
+module _ {w : List ℕ} {a : ℕ} {t : BlockType} (many : ℕ) where
+  pub place-jumpdest : (x : StackSym) {to : ℕ} {w′ : List ℕ} → x ≡ Jumpdest to → Wrote w w′ (makeStatic w a t to) → Placed w a t (some (symOf x)) many w′ many
   unfolding place
-  place-jumpdest x e h q p = rw e (record { is = p .stored .is ∙ rw (q, h .is); first = refl; kept = p .stored .kept })
+  place-jumpdest x e p = rw e (record { is = p .is; count = refl; kept = p .kept })
 
-  pub place-before : (x : StackSym) {p : ℕ} {w′ : List ℕ} → x ≡ Before p → Wrote w w′ (takeTurn w a p head) → Placed w a t (some (symOf x)) head w′ (a + 1)
+  pub place-before : (x : StackSym) {p : ℕ} {w′ : List ℕ} → x ≡ Before p → Wrote w w′ (takeTurn w a p many) → Placed w a t (some (symOf x)) many w′ (many + 1)
   unfolding place
-  place-before x e p = rw e (record { is = p .is; first = refl; kept = p .kept })
+  place-before x e p = rw e (record { is = p .is; count = refl; kept = p .kept })
 
-  pub place-constant : (x : StackSym) {v : ℕ} → x ≡ Constant v → Placed w a t (some (symOf x)) head w head
+  pub place-constant : (x : StackSym) {v : ℕ} → x ≡ Constant v → Placed w a t (some (symOf x)) many w many
   unfolding place
-  place-constant x e = rw e (record { is = refl; first = refl; kept = refl })
+  place-constant x e = rw e (record { is = refl; count = refl; kept = refl })
 
-  pub place-other : (x : StackSym) {pc : ℕ} → x ≡ Other pc → Placed w a t (some (symOf x)) head w head
+  pub place-other : (x : StackSym) {pc : ℕ} → x ≡ Other pc → Placed w a t (some (symOf x)) many w many
   unfolding place
-  place-other x e = rw e (record { is = refl; first = refl; kept = refl })
+  place-other x e = rw e (record { is = refl; count = refl; kept = refl })
 
-module _ {code w : List ℕ} {end a : ℕ} (s : Settles code w end a) {t : BlockType} (y : TypeIs w a t) where
+module _ {code w : List ℕ} {end a many : ℕ} (s : Settles code w end a many) {t : BlockType} (y : TypeIs w a t) where
   tag-is : t .kind ≡ tagAt w a
   tag-is = ap (λ (b : BlockType). b .kind) (y .is)
 
-  pub settle-static : {mode : ℕ} (head : ℕ) → t .kind < 5 → Settled mode code w end a head w head
+  pub settle-static : {mode : ℕ} → t .kind < 5 → Settled mode code w end a many w many
   unfolding goesAt place
-  settle-static {mode} head h =
+  settle-static {mode} h =
       let e = if-true (ltb (tagAt w a) 5) none (run (in-mode mode) code (instructions code) a .goes) (lt-ltb (tagAt w a) 5 (omega (arith, tag-is))) in
-      record { after = w; ran = record { front = refl; back = refl; kept = refl }; is = rw e; first = rw e; kept = refl }
+      record { after = w; ran = record { front = refl; back = refl; kept = refl }; is = rw e; count = rw e; kept = refl }
 
   pub settle-runs : 5 ≤ t .kind → Runs code w end
   settle-runs h = record { short = s .short; inside = s .inside; room = omega (arith, s .room) }
@@ -153,17 +156,24 @@ module _ {code w : List ℕ} {end a : ℕ} (s : Settles code w end a) {t : Block
           kept = d .inside .kept;
         }
 
+    pub settle-room : TurnRoom w₁ a many
+    settle-room =
+        record {
+          own = omega (arith, s .row, s .room, s .inside, d .inside .kept);
+          next = omega (arith, s .few, s .room, s .inside, d .inside .kept);
+        }
+
     goes-is : goesAt mode code w a ≡ goesOf (o .goes)
     unfolding goesAt
     goes-is = if-false _ _ _ (le-ltb (tagAt w a) 5 (omega (arith, tag-is))) ∙ sym (ap (λ (r : Run-of). r .goes) (own-walked mode code a (s .stands (omega (arith, tag-is))))) ∙ sym (d .goes)
 
-    pub settle-nowhere : (head : ℕ) → o .goes ≡ Nowhere → Settled mode code w end a head w₁ head
+    pub settle-nowhere : o .goes ≡ Nowhere → Settled mode code w end a many w₁ many
     unfolding place
-    settle-nowhere head e =
+    settle-nowhere e =
         let g : goesAt mode code w a ≡ none = goes-is ∙ ap goesOf e in
-        record { after = w₁; ran = ran-in; is = rw g; first = rw g; kept = d .inside .kept }
+        record { after = w₁; ran = ran-in; is = rw g; count = rw g; kept = d .inside .kept }
 
-    pub settle-placed : (head : ℕ) {x : StackSym} {w₂ : List ℕ} {r : ℕ} → o .goes ≡ To x → Placed w₁ a t (some (symOf x)) head w₂ r → Settled mode code w end a head w₂ r
-    settle-placed head {x} e p =
+    pub settle-placed : {x : StackSym} {w₂ : List ℕ} {r : ℕ} → o .goes ≡ To x → Placed w₁ a t (some (symOf x)) many w₂ r → Settled mode code w end a many w₂ r
+    settle-placed {x} e p =
         let g : goesAt mode code w a ≡ some (symOf x) = goes-is ∙ ap goesOf e in
-        record { after = w₁; ran = ran-in; is = rw (g, ← y .is) (p .is); first = rw g (p .first); kept = p .kept ∙ d .inside .kept }
+        record { after = w₁; ran = ran-in; is = rw (g, ← y .is) (p .is); count = rw g (p .count); kept = p .kept ∙ d .inside .kept }

@@ -4,5 +4,4 @@ pub mod Goals
 pub mod Slots
 pub mod Chains
 pub mod Knows
-pub mod Rises
 pub mod Once

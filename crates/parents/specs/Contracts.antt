@@ -18,7 +18,7 @@ use Rattle.initial.specs.Rows.{blocksAt, Laid}
 use Rattle.exec.specs.Owns.{roomOf}
 use Rattle.parents.specs.Links.{Parents, turnOf, Takers, directTo, fromOf}
 use Rattle.parents.specs.Rows.{rowFor}
-use Rattle.parents.specs.Writes.{linkSides, place, headPast, goesAt}
+use Rattle.parents.specs.Writes.{linkSides, place, manyPast, goesAt}
 
 -- ---- what is lent: the rows as `initial_blocks` leaves them, and past them a part for the runs, which ends at `end`
 
@@ -54,12 +54,18 @@ pub record Wrote (w w′ v : List ℕ) : Type 0 where
 
 -- ---- the first stage of one block
 
-pub record Settles (code w : List ℕ) (end a : ℕ) : Type 0 where
+pub record Settles (code w : List ℕ) (end a many : ℕ) : Type 0 where
   pub stands : 5 ≤ tagAt w a → from a (instructions code) ≡ walk (drop a code) a 0
   pub short : length code ≤ longest
   pub row : a ≤ length code
+  pub few : many ≤ length code
   pub room : rowsEnd (length code) + roomOf code ≤ end
   pub inside : end ≤ length w
+
+-- the rows that are written where the block at a is to take turns: its own, and that of its entry
+pub record TurnRoom (w : List ℕ) (a many : ℕ) : Type 0 where
+  pub own : rowPlace a + ROW ≤ length w
+  pub next : rowPlace many + ROW ≤ length w
 
 -- the run changed its part alone
 pub record Ran (code w : List ℕ) (end : ℕ) (w′ : List ℕ) : Type 0 where
@@ -67,41 +73,41 @@ pub record Ran (code w : List ℕ) (end : ℕ) (w′ : List ℕ) : Type 0 where
   pub back : drop end w′ ≡ drop end w
   pub kept : length w′ ≡ length w
 
-pub record Settled (mode : ℕ) (code w : List ℕ) (end a head : ℕ) (w′ : List ℕ) (r : ℕ) : Type 0 where
+pub record Settled (mode : ℕ) (code w : List ℕ) (end a many : ℕ) (w′ : List ℕ) (r : ℕ) : Type 0 where
   pub after : List ℕ
   pub ran : Ran code w end after
-  pub is : w′ ≡ place after a (typeAt w a) (goesAt mode code w a) head
-  pub first : r ≡ headPast a (goesAt mode code w a) head
+  pub is : w′ ≡ place after a (typeAt w a) (goesAt mode code w a) many
+  pub count : r ≡ manyPast (goesAt mode code w a) many
   pub kept : length w′ ≡ length w
 
-pub record Placed (w : List ℕ) (a : ℕ) (t : BlockType) (goes : Option Sym) (head : ℕ) (w′ : List ℕ) (r : ℕ) : Type 0 where
-  pub is : w′ ≡ place w a t goes head
-  pub first : r ≡ headPast a goes head
+pub record Placed (w : List ℕ) (a : ℕ) (t : BlockType) (goes : Option Sym) (many : ℕ) (w′ : List ℕ) (r : ℕ) : Type 0 where
+  pub is : w′ ≡ place w a t goes many
+  pub count : r ≡ manyPast goes many
   pub kept : length w′ ≡ length w
 
 -- ---- both stages of one row
 
 -- whatever the first stage leaves, the sides lie in the rows
-pub record PreparesRow (mode : ℕ) (code w : List ℕ) (end a head : ℕ) : Type 0 where
-  pub settles : Settles code w end a
-  pub sides : (v : List ℕ) (r : ℕ) → Settled mode code w end a head v r → Sides v a
+pub record PreparesRow (mode : ℕ) (code w : List ℕ) (end a many : ℕ) : Type 0 where
+  pub settles : Settles code w end a many
+  pub sides : (v : List ℕ) (r : ℕ) → Settled mode code w end a many v r → Sides v a
 
 -- the row is settled, and then its sides are linked
-pub record PreparedRow (mode : ℕ) (code w : List ℕ) (end a head : ℕ) (w′ : List ℕ) (r : ℕ) : Type 0 where
+pub record PreparedRow (mode : ℕ) (code w : List ℕ) (end a many : ℕ) (w′ : List ℕ) (r : ℕ) : Type 0 where
   pub between : List ℕ
-  pub settled : Settled mode code w end a head between r
+  pub settled : Settled mode code w end a many between r
   pub linked : Wrote between w′ (linkSides between a (typeAt between a))
   pub kept : length w′ ≡ length w
 
 -- ---- the whole
 
--- what the rows say of the code: its blocks after the first stage, those that take turns, from the link `head` on, and the direct parents of each address
-pub record Known (mode : ℕ) (code w : List ℕ) (head : ℕ) : Type 0 where
+-- what the rows say of the code: its blocks after the first stage, the `many` that take turns, and the direct parents of each address
+pub record Known (mode : ℕ) (code w : List ℕ) (many : ℕ) : Type 0 where
   pub blocks : blocksAt w (length code) ≡ map (λ (x : Node). x .block) (prepared (in-mode mode) code)
-  pub takers : Takers w (length code) head (map turnOf (takers (prepared (in-mode mode) code)))
+  pub takers : Takers w (length code) many (map turnOf (takers (prepared (in-mode mode) code)))
   pub parents : (t : ℕ) → t ≤ length code → Parents w (length code) t (firstAt w t) (map fromOf (directTo t (prepared (in-mode mode) code)))
 
--- the blocks of the code are prepared for the search: every byte of the rows, and what they say; r is the link to the first block that takes turns
+-- the blocks of the code are prepared for the search: every byte of the rows, and what they say; r is how many blocks take turns
 pub record Prepared (mode : ℕ) (code w : List ℕ) (end : ℕ) (w′ : List ℕ) (r : ℕ) : Type 0 where
   pub row : (a : ℕ) → a ≤ length code → take ROW (drop (rowPlace a) w′) ≡ rowFor mode code w a
   pub known : Known mode code w′ r

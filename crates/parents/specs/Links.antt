@@ -1,5 +1,5 @@
--- The lists that are linked through the rows of W: the blocks that take turns, and the direct parents of each address. A link is 0 where nothing follows.
--- Assumes nothing.
+-- The lists in the rows of W: the direct parents of each address, linked, and the blocks that take turns, one after the other. A link is 0 where nothing
+-- follows. Assumes nothing.
 use mathlib.Core.Path.{_≡_}
 use mathlib.Core.List.{List, [], _∷_}
 use Prim.Native.Nat.{ℕ, _+_, _≤_}
@@ -30,10 +30,10 @@ turn a p = record { start = a; position = p }
 abbrev pub turnOf : Taker → Turn
 turnOf k = turn (k .start) (k .position)
 
--- the blocks that take turns, from a link on
+-- the blocks that take turns, of which so many are left: entry i stands in row i, and the first block has the last entry
 pub data Takers (w : List ℕ) (n : ℕ) : ℕ → List Turn → Type 0 where
   no-taker : Takers w n 0 []
-  next-taker : {a : ℕ} {ks : List Turn} → a ≤ n → Takers w n (takerAt w a) ks → Takers w n (a + 1) (turn a (positionAt w a) ∷ ks)
+  next-taker : {i : ℕ} {ks : List Turn} → i ≤ n → takerAt w i ≤ n → Takers w n i ks → Takers w n (i + 1) (turn (takerAt w i) (positionAt w (takerAt w i)) ∷ ks)
 
 -- ---- what they hold: "Direct parents ... in address order"
 

@@ -12,13 +12,13 @@ use Rattle.layout.specs.Rows.{FIRST, LINKS, headOf}
 use Rattle.layout.specs.declared.row.BlockType.{BlockType}
 use Rattle.initial.specs.Rows.{typeOf, rowBlocks, blocksFrom}
 
--- ---- the parts of a row: twelve bytes of the block and its turn, the link to the first parent, and six bytes of further links
+-- ---- the parts of a row: twelve bytes of the block and its turn, the link to the first parent, four bytes of further links, and an entry of the takers
 
 abbrev pub ownBytes : ℕ → BlockType → ℕ → List ℕ
 ownBytes end t position = headOf end t ++ little 4 position
 
-abbrev pub linkBytes : ℕ → ℕ → ℕ → List ℕ
-linkBytes to other taker = little 2 to ++ (little 2 other ++ little 2 taker)
+abbrev pub linkBytes : ℕ → ℕ → List ℕ
+linkBytes to other = little 2 to ++ little 2 other
 
 -- ---- turns: a block takes them or not
 
@@ -29,15 +29,10 @@ abbrev pub positioned : List Taker → ℕ
 positioned [] = 0
 positioned (k ∷ ks) = k .position
 
--- the link to the first of some takers
-abbrev pub firstTaker : List Taker → ℕ
-firstTaker [] = 0
-firstTaker (k ∷ ks) = k .start + 1
-
--- the link of a block that takes turns to the next
-abbrev pub takerPast : List Taker → List Node → ℕ
-takerPast [] rs = 0
-takerPast (k ∷ ks) rs = firstTaker (takers rs)
+-- entry x of some takers, the last of which has entry 0; past them 0
+unfoldable pub takerIn : ℕ → List Taker → ℕ
+takerIn x [] = 0
+takerIn x (k ∷ ks) = if (eqb x (length ks)) (k .start) (takerIn x ks)
 
 -- ---- parents: the link to t that a block's sides give, or the one that there is already
 
@@ -76,7 +71,7 @@ ownOf (r ∷ rs) = ownBytes (r .block .end) (typeOf (r .block .kind)) (positione
 
 abbrev pub linksOf : List Node → List Node → List ℕ
 linksOf [] later = replicate LINKS 0
-linksOf (r ∷ rs) later = linkBytes (toPast (r .block .kind) later) (otherPast (r .block .kind) later) (takerPast (turnsOf r) later)
+linksOf (r ∷ rs) later = linkBytes (toPast (r .block .kind) later) (otherPast (r .block .kind) later)
 
 -- the blocks of W's rows, each with its own run: at an address, and from one on
 abbrev pub nodesHere : ℕ → List ℕ → List ℕ → ℕ → List Node
@@ -86,4 +81,6 @@ abbrev pub nodesFrom : ℕ → List ℕ → List ℕ → ℕ → List Node
 nodesFrom mode code w a = nodes (in-mode mode) code (instructions code) (blocksFrom w a (suc (length code) - a))
 
 unfoldable pub rowFor : ℕ → List ℕ → List ℕ → ℕ → List ℕ
-rowFor mode code w a = ownOf (nodesHere mode code w a) ++ (little 2 (firstTo a (nodesFrom mode code w 0)) ++ linksOf (nodesHere mode code w a) (nodesFrom mode code w (suc a)))
+rowFor mode code w a =
+    let all = nodesFrom mode code w 0 in
+    ownOf (nodesHere mode code w a) ++ (little 2 (firstTo a all) ++ (linksOf (nodesHere mode code w a) (nodesFrom mode code w (suc a)) ++ little 2 (takerIn a (takers all))))

@@ -27,28 +27,32 @@ linkSides w a t =
 
 -- ---- the first stage
 
--- the block at a takes turns, for a position, in front of those from `head` on
+-- the block at a takes turns, for a position, and is put behind the `many` that there are
 unfoldable pub takeTurn : List ℕ → ℕ → ℕ → ℕ → List ℕ
-takeTurn w a p head = patch (patch w (rowPlace a + POSITION) (little 4 p)) (rowPlace a + TAKER) (little 2 head)
+takeTurn w a p many = patch (patch w (rowPlace a + POSITION) (little 4 p)) (rowPlace many + TAKER) (little 2 a)
 
--- "each dynamic block whose own run ends in Jumpdest becomes static"
+-- the static type of a dynamic block
 abbrev pub staticType : BlockType → ℕ → BlockType
 staticType t to = if (eqb (t .kind) 5) (typed 3 to 0) (typed 4 to (t .other))
 
+-- "each dynamic block whose own run ends in Jumpdest becomes static, with no test that a block starts there"
+abbrev pub makeStatic : List ℕ → ℕ → BlockType → ℕ → List ℕ
+makeStatic w a t to = patch w (rowPlace a) (headOf (numAt 2 w (rowPlace a + END)) (staticType t to))
+
 -- the block at a, of type t, is settled by the symbol that its run goes to
 unfoldable pub place : List ℕ → ℕ → BlockType → Option Sym → ℕ → List ℕ
-place w a t none head = w
-place w a t (some (before p)) head = takeTurn w a p head
-place w a t (some (constant v)) head = w
-place w a t (some (jumpdest to)) head = patch w (rowPlace a) (headOf (numAt 2 w (rowPlace a + END)) (staticType t to))
-place w a t (some (other pc)) head = w
+place w a t none many = w
+place w a t (some (before p)) many = takeTurn w a p many
+place w a t (some (constant v)) many = w
+place w a t (some (jumpdest to)) many = makeStatic w a t to
+place w a t (some (other pc)) many = w
 
-abbrev pub headPast : ℕ → Option Sym → ℕ → ℕ
-headPast a none head = head
-headPast a (some (before p)) head = a + 1
-headPast a (some (constant v)) head = head
-headPast a (some (jumpdest to)) head = head
-headPast a (some (other pc)) head = head
+abbrev pub manyPast : Option Sym → ℕ → ℕ
+manyPast none many = many
+manyPast (some (before p)) many = many + 1
+manyPast (some (constant v)) many = many
+manyPast (some (jumpdest to)) many = many
+manyPast (some (other pc)) many = many
 
 -- where the run of a dynamic block goes; others are not run
 unfoldable pub goesAt : ℕ → List ℕ → List ℕ → ℕ → Option Sym

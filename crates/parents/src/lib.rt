@@ -12,18 +12,18 @@ use lent::get8;
 ghost use Rattle.exec.specs.Modes.{modeOf};
 ghost use Rattle.parents.specs.Contracts.{Lent, Prepared, PreparesRow, PreparedRow};
 
-// Prepares every block, in a mode, from the last to the first, so that each list comes out in address order; gives the link to the first block that takes turns.
+// Prepares every block, in a mode, from the last to the first, so that each list comes out in address order; gives how many take turns.
 pub fn prepare(mode: Mode, code: &[u8], w: &mut [u8], end: usize) -> usize
     requires { ⌜ Lent (now code) (now w) end ⌝ }
     ensures { λ r. ⌜ Prepared (modeOf mode) (now (code .entry)) (now (w .entry)) end (now (w .exit)) r ⌝ }
 {
     let mut start = code.len() + 1;
-    let mut head = 0;
+    let mut many = 0;
     while start != 0 {
         start -= 1;
-        head = prepare_row(mode, code, w, end, start, head);
+        many = prepare_row(mode, code, w, end, start, many);
     }
-    head
+    many
 }
 
 // Prepares the block that starts at an address, if one does; most rows have none, and that is read first.
@@ -33,15 +33,15 @@ fn prepare_row(
     w: &mut [u8],
     end: usize,
     start: usize,
-    head: usize,
+    many: usize,
 ) -> usize
-    requires { ⌜ PreparesRow (modeOf mode) (now code) (now w) end start head ⌝ }
-    ensures { λ r. ⌜ PreparedRow (modeOf mode) (now (code .entry)) (now (w .entry)) end start head (now (w .exit)) r ⌝ }
+    requires { ⌜ PreparesRow (modeOf mode) (now code) (now w) end start many ⌝ }
+    ensures { λ r. ⌜ PreparedRow (modeOf mode) (now (code .entry)) (now (w .entry)) end start many (now (w .exit)) r ⌝ }
 {
     if get8(w, ROW * start) == 0 {
-        return head;
+        return many;
     }
-    let first = settle(mode, code, w, end, start, head);
+    let taken = settle(mode, code, w, end, start, many);
     link_sides(w, start);
-    first
+    taken
 }

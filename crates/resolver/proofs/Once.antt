@@ -28,10 +28,10 @@ use Rattle.enter.proofs.Once.{marked-too}
 use Rattle.resolver.specs.Turns.{last-since, plan, Searched}
 
 -- what two results share where the number is 0
-pub record OneSearch (mode : Mode) (code : List ℕ) (limit head : ℕ) (m m′ m″ : Mem) (d e : Run) : Type 0 where
+pub record OneSearch (mode : Mode) (code : List ℕ) (limit many : ℕ) (m m′ m″ : Mem) (d e : Run) : Type 0 where
   pub run : d ≡ e
-  pub recs : recsIn (plan mode code limit head m) m′ (d .counts) ≡ recsIn (plan mode code limit head m) m″ (d .counts)
-  pub tables : OneTables (length code) (plan mode code limit head m .buckets) (plan mode code limit head m .rooms) (d .counts) (tabled m′) (tabled m″)
+  pub recs : recsIn (plan mode code limit many m) m′ (d .counts) ≡ recsIn (plan mode code limit many m) m″ (d .counts)
+  pub tables : OneTables (length code) (plan mode code limit many m .buckets) (plan mode code limit many m .rooms) (d .counts) (tabled m′) (tabled m″)
   pub rows : SameRows (length code) (m″ .w) (m′ .w)
   pub counts : (a : ℕ) → a ≤ length code → Same (m′ .w) (m″ .w) (fieldsPlace (length code) a + COUNT) 4
   pub highest : (a : ℕ) → a ≤ length code → Same (m′ .w) (m″ .w) (fieldsPlace (length code) a + HIGHEST) 2
@@ -39,7 +39,7 @@ pub record OneSearch (mode : Mode) (code : List ℕ) (limit head : ℕ) (m m′ 
   pub flags : (x : ℕ) → mem x (flagged (m′ .w) (length code)) ≡ mem x (flagged (m″ .w) (length code))
   pub reached : (a : ℕ) → a ≤ length code → markedBy (m′ .w) (length code) a (d .counts .records + 1) ≡ markedBy (m″ .w) (length code) a (d .counts .records + 1)
 
-module _ {mode : Mode} {code : List ℕ} {limit head : ℕ} {m m′ m″ : Mem} {d e : Run} (f : Searched mode code limit head m m′ d) (g : Searched mode code limit head m m″ e) where
+module _ {mode : Mode} {code : List ℕ} {limit many : ℕ} {m m′ m″ : Mem} {d e : Run} (f : Searched mode code limit many m m′ d) (g : Searched mode code limit many m m″ e) where
   pub one-code : d .code ≡ e .code
   one-code =
       let l : Lent = record { w = 0; p = length (m .p); s = length (m .s); t = length (m .t); r = length (m .r); q = length (m .q); out = 0 } in
@@ -49,14 +49,14 @@ module _ {mode : Mode} {code : List ℕ} {limit head : ℕ} {m m′ m″ : Mem} 
     other : e .code ≡ 0
     other = sym one-code ∙ z
 
-    found-recs : recsIn (plan mode code limit head m) m′ (d .counts) ≡ recsIn (plan mode code limit head m) m″ (e .counts)
+    found-recs : recsIn (plan mode code limit many m) m′ (d .counts) ≡ recsIn (plan mode code limit many m) m″ (e .counts)
     found-recs = f .recs z ∙ sym (g .recs other)
 
     one-counts : d .counts ≡ e .counts
     one-counts =
         let p = f .between z .idle in
         let q = g .between other .idle in
-        let room = plan mode code limit head m .rooms .s in
+        let room = plan mode code limit many m .rooms .s in
         let records : d .counts .records ≡ e .counts .records =
         sym (recs-length (m′ .r) (m′ .q) (m′ .s) room (d .counts .records)) ∙ ap length found-recs ∙ recs-length (m″ .r) (m″ .q) (m″ .s) room (e .counts .records) in
         let addresses : d .counts .addresses ≡ e .counts .addresses =
@@ -69,8 +69,8 @@ module _ {mode : Mode} {code : List ℕ} {limit head : ℕ} {m m′ m″ : Mem} 
         let rows = p .rowless ∙ sym (q .rowless) in
         λ i. record { records = records i; addresses = addresses i; kept = cells i; used = used i; rows = rows i }
 
-    same-recs : recsIn (plan mode code limit head m) m′ (d .counts) ≡ recsIn (plan mode code limit head m) m″ (d .counts)
-    same-recs = found-recs ∙ ap (recsIn (plan mode code limit head m) m″) (sym one-counts)
+    same-recs : recsIn (plan mode code limit many m) m′ (d .counts) ≡ recsIn (plan mode code limit many m) m″ (d .counts)
+    same-recs = found-recs ∙ ap (recsIn (plan mode code limit many m) m″) (sym one-counts)
 
     one-run : d ≡ e
     one-run =
@@ -95,11 +95,11 @@ module _ {mode : Mode} {code : List ℕ} {limit head : ℕ} {m m′ m″ : Mem} 
 
     -- so the same addresses are marked, and the highest parents are the same
     few : (a : ℕ) → a ≤ length code → markAt (m′ .w) (length code) a ≤ d .counts .records + 1
-    few a h = omega (arith, f .between z .idle .marks .most a h, recs-length (m′ .r) (m′ .q) (m′ .s) (plan mode code limit head m .rooms .s) (d .counts .records))
+    few a h = omega (arith, f .between z .idle .marks .most a h, recs-length (m′ .r) (m′ .q) (m′ .s) (plan mode code limit many m .rooms .s) (d .counts .records))
 
     few-other : (a : ℕ) → a ≤ length code → markAt (m″ .w) (length code) a ≤ d .counts .records + 1
     few-other a h =
-        omega (arith, ap (λ (c : Counts). c .records) one-counts, g .between other .idle .marks .most a h, recs-length (m″ .r) (m″ .q) (m″ .s) (plan mode code limit head m .rooms .s) (e .counts .records))
+        omega (arith, ap (λ (c : Counts). c .records) one-counts, g .between other .idle .marks .most a h, recs-length (m″ .r) (m″ .q) (m″ .s) (plan mode code limit many m .rooms .s) (e .counts .records))
 
     one-highest : (a : ℕ) → a ≤ length code → highAt (m′ .w) (length code) a ≡ highAt (m″ .w) (length code) a
     one-highest =
@@ -108,7 +108,7 @@ module _ {mode : Mode} {code : List ℕ} {limit head : ℕ} {m m′ m″ : Mem} 
         (f .between z .idle .marks .high) (g .between other .idle .marks .high)
 
     -- a slice keeps its length, and holds bytes
-    pub one-searched : AllBytes (tabled m′) → AllBytes (tabled m″) → AllLong (tabled m′) (tabled m″) → OneSearch mode code limit head m m′ m″ d e
+    pub one-searched : AllBytes (tabled m′) → AllBytes (tabled m″) → AllLong (tabled m′) (tabled m″) → OneSearch mode code limit many m m′ m″ d e
     one-searched a b long =
         record {
           run = one-run;

@@ -5,7 +5,7 @@ use Prim.Native.Nat.{ℕ}
 use Rattle.spec.specs.Search.{St}
 use Rattle.layout.specs.Buffers.{Mem}
 use Rattle.steps.specs.Runs.{stOf, Did}
-use Rattle.steps.specs.declared.Plan.{Plan}
+use Rattle.steps.specs.Plans.{Plan}
 use Rattle.steps.specs.declared.Run.{Run}
 use Rattle.resolver.specs.Turns.{Passed}
 

@@ -35,7 +35,7 @@ use Rattle.steps.specs.Paths.{OnPath, Counted}
 use Rattle.steps.specs.Sound.{SoundRecs}
 use Rattle.steps.specs.Lands.{Marks}
 use Rattle.steps.specs.Runs.{tabled, recsIn, stOf, Did}
-use Rattle.steps.specs.declared.Plan.{Plan}
+use Rattle.steps.specs.Plans.{Plan}
 use Rattle.steps.specs.declared.Level.{Level}
 use Rattle.steps.specs.declared.Run.{Run}
 use Rattle.enter.specs.Fits.{Planned, preparedIn}
@@ -47,7 +47,7 @@ pub record Idle (code : List ℕ) (k : Plan) (reached : List ℕ) (since : ℕ) 
   pub planned : Planned code k m
   pub tables : Tables (k .n) (k .buckets) (k .rooms) (tabled m) (o .counts)
   pub remembers : Remembers (k .shelves) (k .rooms) (m .t) (m .s) (o .counts)
-  pub known : Known (modeOf (k .mode)) code (m .w) (k .head)
+  pub known : Known (k .mode) code (m .w) (k .many)
   pub began : since ≤ o .counts .records
   pub marks : Marks (k .n) (m .w) reached since (recsIn k m (o .counts))
   pub sound : SoundRecs (k .n) (recsIn k m (o .counts))
@@ -181,44 +181,48 @@ pub record Rounds (code : List ℕ) (k : Plan) (m : Mem) (o : Run) (m′ : Mem) 
 abbrev pub roomsOf : List ℕ → List ℕ → List ℕ → List ℕ → List ℕ → Rooms
 roomsOf p s t r q = record { p = units (length p) 2; s = units (length s) 9; t = units (length t) 32; r = units (length r) 32; q = units (length q) 2 }
 
+-- how many buckets the records have: no more than R has rows, and one, of those that W's part holds
+abbrev pub bucketsFor : ℕ → ℕ → ℕ
+bucketsFor n rows = min (bucketsOf n) (rows + 1)
+
 abbrev pub planOf : Mode → ℕ → ℕ → ℕ → Rooms → Plan
-planOf mode n limit head rooms =
+planOf mode n limit many rooms =
     record {
       n = n;
       end = work-need n;
-      head = head;
-      buckets = bucketsOf n;
+      many = many;
+      buckets = bucketsFor n (rooms .r);
       shelves = min (rooms .t) 0x10000;
       limit = limit;
       rooms = rooms;
-      mode = mode;
+      mode = modeOf mode;
     }
 
 abbrev pub plan : Mode → List ℕ → ℕ → ℕ → Mem → Plan
-plan mode code limit head m = planOf mode (length code) limit head (roomsOf (m .p) (m .s) (m .t) (m .r) (m .q))
+plan mode code limit many m = planOf mode (length code) limit many (roomsOf (m .p) (m .s) (m .t) (m .r) (m .q))
 
 abbrev pub begunRun : Run
 begunRun = record { code = 0; energy = 0; counts = record { records = 0; addresses = 0; kept = 0; used = 0; rows = 0 } }
 
 -- the rows are prepared, and W is not short
-pub record SearchAsks (mode : Mode) (code w : List ℕ) (limit head : ℕ) : Type 0 where
+pub record SearchAsks (mode : Mode) (code w : List ℕ) (limit many : ℕ) : Type 0 where
   pub short : length code ≤ longest
   pub limited : limit ≤ 500000
   pub lent : work-need (length code) ≤ length w
-  pub known : Known (modeOf mode) code w head
+  pub known : Known (modeOf mode) code w many
 
 -- The code is the number of the first shortage of document 01's search, 0 if there is none. Where it is 0, the records, with their paths, destinations,
 -- states and order, the energy and the addresses marked as reached are those of document 01's search, nothing but the records is in use, and W's rows and
 -- the bytes that a search does not need stay.
-pub record Searched (mode : Mode) (code : List ℕ) (limit head : ℕ) (m m′ : Mem) (d : Run) : Type 0 where
+pub record Searched (mode : Mode) (code : List ℕ) (limit many : ℕ) (m m′ : Mem) (d : Run) : Type 0 where
   pub short : (l : Lent) → l .p ≡ length (m .p) → l .s ≡ length (m .s) → l .t ≡ length (m .t) → l .r ≡ length (m .r) → l .q ≡ length (m .q)
       → d .code ≡ shortage l (search.search limit (prepared (in-mode (modeOf mode)) code) .needs)
-  pub recs : d .code ≡ 0 → recsIn (plan mode code limit head m) m′ (d .counts) ≡ search.search limit (prepared (in-mode (modeOf mode)) code) .recs
+  pub recs : d .code ≡ 0 → recsIn (plan mode code limit many m) m′ (d .counts) ≡ search.search limit (prepared (in-mode (modeOf mode)) code) .recs
   pub energy : d .code ≡ 0 → d .energy ≡ search.search limit (prepared (in-mode (modeOf mode)) code) .energy
   pub energy-most : d .code ≡ 0 → d .energy ≤ limit + 256
-  pub between : d .code ≡ 0 → Between code (plan mode code limit head m) (last-since 128 limit (prepared (in-mode (modeOf mode)) code) 0 begin) m′ d
+  pub between : d .code ≡ 0 → Between code (plan mode code limit many m) (last-since 128 limit (prepared (in-mode (modeOf mode)) code) 0 begin) m′ d
   pub rows : d .code ≡ 0 → SameRows (length code) (m .w) (m′ .w)
   pub beyond : d .code ≡ 0 → drop (work-need (length code)) (m′ .w) ≡ drop (work-need (length code)) (m .w)
   pub reached : d .code ≡ 0
       → Reached (prepared (in-mode (modeOf mode)) code) (length code) (m′ .w) (last-since 128 limit (prepared (in-mode (modeOf mode)) code) 0 begin) (d .counts .records)
-      (recsIn (plan mode code limit head m) m′ (d .counts))
+      (recsIn (plan mode code limit many m) m′ (d .counts))

@@ -3,21 +3,28 @@
 use enter::enter::SHORT_P;
 use enter::enter::refused;
 use exec::run::Own;
-use exec::run::run;
 use lent::copy;
 use lent::put16;
 use levels::level;
 use parents::taker::position_at;
 use steps::Level;
-use steps::Plan;
 use steps::Run;
+use steps::going::numbers_of;
+use steps::going::run_of;
 use steps::path::count;
 use steps::path::uncount;
+use steps::plan::PLAN;
+use steps::plan::ROOM_P;
+use steps::plan::ROOM_S;
+use steps::plan::SHELVES;
+use steps::plan::SIZE;
+use steps::plan::run_block;
 use tables::Counts;
 use tables::met::forget;
 ghost use mathlib.Core.Path.{_≡_};
 ghost use Rattle.layout.specs.Buffers.{buffers};
 ghost use Rattle.resolver.specs.Turns.{begunWith, endedWith, Places, Placed, TurnAsks, Turned};
+ghost use Rattle.steps.specs.Plans.{planIn};
 
 // The number of a refusal where S is short.
 const SHORT_S: usize = 5;
@@ -56,16 +63,16 @@ fn first_level(
     w: &mut [u8],
     p: &mut [u8],
     s: &mut [u8],
-    plan: Plan,
+    plan: &[usize; PLAN],
     start: usize,
     own: Own,
 ) -> Level
-    requires { ⌜ Places (now w) (now p) (now s) plan start own ⌝ }
-    ensures { λ l. ⌜ Placed (now (w .entry)) (now (p .entry)) (now (s .entry)) plan start own (now (w .exit)) (now (p .exit)) (now (s .exit)) l ⌝ }
+    requires { ⌜ Places (now w) (now p) (now s) (planIn (now plan)) start own ⌝ }
+    ensures { λ l. ⌜ Placed (now (w .entry)) (now (p .entry)) (now (s .entry)) (planIn (now (plan .entry))) start own (now (w .exit)) (now (p .exit)) (now (s .exit)) l ⌝ }
 {
     copy(s, 0, w, own.at, 9 * own.n);
     put16(p, 0, start);
-    count(w, plan.n, p, 0, 1);
+    count(w, plan[SIZE], p, 0, 1);
     Level {
         np: 1,
         position: position_at(w, start),
@@ -84,44 +91,32 @@ pub fn turn(
     t: &mut [u8],
     r: &mut [u8],
     q: &mut [u8],
-    plan: Plan,
+    plan: &[usize; PLAN],
     start: usize,
     going: Run,
 ) -> Run
-    requires { ⌜ TurnAsks (now code) plan start (buffers (now w) (now p) (now s) (now t) (now r) (now q)) going ⌝ }
-    ensures { λ d. ⌜ Turned (now (code .entry)) plan start
+    requires { ⌜ TurnAsks (now code) (planIn (now plan)) start (buffers (now w) (now p) (now s) (now t) (now r) (now q)) going ⌝ }
+    ensures { λ d. ⌜ Turned (now (code .entry)) (planIn (now (plan .entry))) start
         (buffers (now (w .entry)) (now (p .entry)) (now (s .entry)) (now (t .entry)) (now (r .entry)) (now (q .entry))) going
         (buffers (now (w .exit)) (now (p .exit)) (now (s .exit)) (now (t .exit)) (now (r .exit)) (now (q .exit))) d ⌝ }
 {
-    let rooms = plan.rooms;
-    if rooms.p == 0 {
+    if plan[ROOM_P] == 0 {
         return refused(going, SHORT_P);
     }
-    let mode = plan.mode;
-    let own = run(mode, code, start, w, plan.end);
+    let own = run_block(code, w, plan, start);
     let counts = going.counts;
-    if rooms.s < counts.kept + own.n {
+    if plan[ROOM_S] < counts.kept + own.n {
         return refused(going, SHORT_S);
     }
     let first = first_level(w, p, s, plan, start, own);
-    let d = level(
-        code,
-        w,
-        p,
-        s,
-        t,
-        r,
-        q,
-        plan,
-        start,
-        first,
-        begun(going, own.n),
-    );
+    let mut run = numbers_of(begun(going, own.n));
+    level(code, w, p, s, t, r, q, plan, start, first, &mut run);
+    let d = run_of(&run);
     if d.code != 0 {
         return d;
     }
-    uncount(w, plan.n, p, 0, 1);
+    uncount(w, plan[SIZE], p, 0, 1);
     let more = d.counts;
-    forget(t, plan.shelves, more.rows);
+    forget(t, plan[SHELVES], more.rows);
     ended(d)
 }

@@ -133,7 +133,7 @@ all-found mode code {w} {r} {q} {s} {n} {k = k} {c = c} t b inside opened most =
     rw (t .parents .firsts b inside) (following-left r q s (k .s) b opened mode code w n (c .records) (omega (arith, t .few)) most 0 (omega arith))
 
 -- a direct parent's block has the address among its sides
-module _ {mode : ℕ} {code w : List ℕ} {head : ℕ} (known : Known mode code w head) where
+module _ {mode : ℕ} {code w : List ℕ} {many : ℕ} (known : Known mode code w many) where
   parent-side : {p : Parent} → In p (direct (prepared (in-mode mode) code)) → DirectParent code w (length code) (p .to) (fromOf p)
   parent-side {p} i =
       let all : rowEdges w (length code) ≡ edges (prepared (in-mode mode) code) = node-edges w (length code) (prepared (in-mode mode) code) (known .blocks) in
@@ -151,7 +151,7 @@ module _ {mode : ℕ} {code w : List ℕ} {head : ℕ} (known : Known mode code 
       subst (λ (t : ℕ). DirectParent code w (length code) t a) (sym (eqb-true b (g .0 .to) (k .0)))
       (subst (λ (x : ℕ). DirectParent code w (length code) (g .0 .to) x) (sym (g .2)) (parent-side (k .1)))
 
-pub first-left : {mode : ℕ} {code w r q s : List ℕ} {head buckets : ℕ} {k : Rooms} {c : Counts} → Tables (length code) buckets k (tables.mem w r q s) c → Known mode code w head
+pub first-left : {mode : ℕ} {code w r q s : List ℕ} {many buckets : ℕ} {k : Rooms} {c : Counts} → Tables (length code) buckets k (tables.mem w r q s) c → Known mode code w many
     → (b : ℕ) → b ≤ length code → (opened : ℕ) → c .records ≡ opened
     → (high : ℕ) → LeftUpTo mode code w (length code) b (recs k (tables.mem w r q s) c) high (firstCursor w (length code) b opened high)
     (directTo b (prepared (in-mode mode) code) ++ foundTo b (recs k (tables.mem w r q s) c))

@@ -41,7 +41,7 @@ use Rattle.tables.proofs.Counted.{recs-length}
 use Rattle.tables.proofs.Uses.{tables-kept}
 use Rattle.tables.proofs.Noted.{new-nowhere, new-at, recorded-more}
 use Rattle.steps.specs.Lands.{Marks, Lands, remarked, heightened, FoundMarked, Grows, Noted}
-use Rattle.steps.specs.declared.Plan.{Plan}
+use Rattle.steps.specs.Plans.{Plan}
 
 -- ---- the mark of an address, with a record more
 

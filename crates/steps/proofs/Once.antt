@@ -31,7 +31,10 @@ use Rattle.steps.specs.Lands.{remarked, heightened, Noted}
 use Rattle.steps.specs.Meets.{Met}
 use Rattle.steps.specs.Paths.{Grown, Counted}
 use Rattle.steps.specs.States.{Took}
-use Rattle.steps.specs.declared.Plan.{Plan}
+use Rattle.exec.specs.Owns.{Owned}
+use Rattle.exec.specs.declared.run.Own.{Own}
+use Rattle.exec.proofs.Once.{OneRun, one-owned}
+use Rattle.steps.specs.Plans.{Plan, RunsIn}
 use Rattle.steps.specs.declared.Level.{Level}
 use Rattle.steps.specs.declared.meet.Meeting.{Meeting}
 use Rattle.steps.specs.declared.state_of.Taken.{Taken}
@@ -168,3 +171,9 @@ module _ {code w s w′ w″ s′ s″ : List ℕ} {k : Plan} {c : Counts} {l : 
         took-s,
         same-outside (k .end) front (f .back ∙ sym (g .back)) (omega arith) (f .longW ∙ sym (g .longW)),
       )
+
+-- ---- the run of a block
+
+pub one-run-block : {code w v u : List ℕ} {k : Plan} {start : ℕ} {r s : Own} → RunsIn code w k → Owned (k .mode) code start w (k .end) v r
+    → Owned (k .mode) code start w (k .end) u s → OneRun code (k .end) v u r s
+one-run-block a p q = one-owned (a .runs) p q

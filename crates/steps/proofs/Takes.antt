@@ -15,12 +15,11 @@ use Rattle.lent.specs.Bytes.{Holds}
 use Rattle.lent.proofs.Stored.{kept-take, kept-drop}
 use Rattle.layout.specs.Records.{recordPlace, R-KEPT, keptOf}
 use Rattle.layout.specs.Rows.{startOf}
-use Rattle.exec.specs.Modes.{modeOf}
 use Rattle.state.specs.Symbols.{symOf}
 use Rattle.state.specs.Cells.{stackAt, State, reach}
 use Rattle.state.specs.Stored.{Readable}
 use Rattle.state.specs.Composed.{Composes, ComposesKept, Composed}
-use Rattle.exec.specs.Owns.{Runs, Inside, Owned}
+use Rattle.exec.specs.Owns.{Inside, Owned}
 use Rattle.state.specs.declared.sym.StackSym.{StackSym}
 use Rattle.exec.specs.declared.run.Own.{Own}
 use Rattle.state.proofs.States.{state-lies, lies-count, own-walked}
@@ -30,7 +29,7 @@ use Rattle.tables.specs.declared.Rooms.{Rooms}
 use Rattle.tables.specs.declared.Counts.{Counts}
 use Rattle.steps.specs.Cursors.{stackCursor}
 use Rattle.steps.specs.States.{Composing, Took}
-use Rattle.steps.specs.declared.Plan.{Plan}
+use Rattle.steps.specs.Plans.{Plan, RunsIn}
 use Rattle.steps.specs.declared.Level.{Level}
 
 -- ---- the kept cells of the records before one
@@ -72,7 +71,7 @@ module _ {code w s r : List ℕ} {k : Plan} {c : Counts} {l : Level} {at : ℕ} 
   C = stackAt s (9 * l .from) (l .cells)
 
   P : Stack
-  P = stackCursor (modeOf (k .mode)) code r s (k .rooms .s) at
+  P = stackCursor (k .mode) code r s (k .rooms .s) at
 
   -- ---- either parent, which lies in b from `from` on, in n cells
 
@@ -141,14 +140,14 @@ module _ {code w s r : List ℕ} {k : Plan} {c : Counts} {l : Level} {at : ℕ} 
   -- ---- a block's own state, which is run into W
 
   module _ (h : at < 0x10000) {start : ℕ} (a : start ≡ startOf at) where
-    pub direct-runs : Runs code w (k .end)
-    direct-runs = record { short = q .short; inside = q .inW; room = q .scratch }
+    pub direct-runs : RunsIn code w k
+    direct-runs = record { runs = record { short = q .short; inside = q .inW; room = q .scratch }; moded = q .moded }
 
-    module _ {w′ : List ℕ} {x : Own} (o : Owned (modeOf (k .mode)) code start w (k .end) w′ x) where
+    module _ {w′ : List ℕ} {x : Own} (o : Owned (k .mode) code start w (k .end) w′ x) where
       own-is : P ≡ stackAt w′ (x .at) (x .n)
       unfolding P
-      own-is = cursor-own (modeOf (k .mode)) code r s (k .rooms .s) at h ∙ ap (λ (i : ℕ). run (in-mode (modeOf (k .mode))) code (instructions code) i .stack) (sym a)
-          ∙ ap (λ (x : Ran). x .stack) (sym (own-walked (modeOf (k .mode)) code start (rw a (q .direct h)))) ∙ sym (o .lies .is)
+      own-is = cursor-own (k .mode) code r s (k .rooms .s) at h ∙ ap (λ (i : ℕ). run (in-mode (k .mode)) code (instructions code) i .stack) (sym a)
+          ∙ ap (λ (x : Ran). x .stack) (sym (own-walked (k .mode) code start (rw a (q .direct h)))) ∙ sym (o .lies .is)
 
       pub direct-readable : Readable w′ (x .at) (x .n) (l .position)
       direct-readable = readable own-is (o .lies .state)
@@ -159,13 +158,13 @@ module _ {code w s r : List ℕ} {k : Plan} {c : Counts} {l : Level} {at : ℕ} 
 
         module _ {y : StackSym} (z : symOf y ≡ read (stackAt w′ (x .at) (x .n)) (l .position)) where
           pub direct-short : k .rooms .s < c .kept + c .used + m
-              → Took code w s k c l (stackCursor (modeOf (k .mode)) code r s (k .rooms .s) at) w′ s (record { code = 5; cells = m; symbol = y })
+              → Took code w s k c l (stackCursor (k .mode) code r s (k .rooms .s) at) w′ s (record { code = 5; cells = m; symbol = y })
           unfolding P
           direct-short = took-short own-is (o .lies .state) f g (o .inside) z
 
           pub direct-took : {s′ : List ℕ} {v : ℕ} → c .kept + c .used + m ≤ k .rooms .s
               → Composed s (9 * c .used) (compose (stackAt s (9 * l .from) (l .cells)) (stackAt w′ (x .at) (x .n))) s′ v
-              → Took code w s k c l (stackCursor (modeOf (k .mode)) code r s (k .rooms .s) at) w′ s′ (record { code = 0; cells = v; symbol = y })
+              → Took code w s k c l (stackCursor (k .mode) code r s (k .rooms .s) at) w′ s′ (record { code = 0; cells = v; symbol = y })
           unfolding C P
           direct-took = took-all own-is (o .lies .state) f g (o .inside) z
 
@@ -188,7 +187,7 @@ module _ {code w s r : List ℕ} {k : Plan} {c : Counts} {l : Level} {at : ℕ} 
 
       found-is : P ≡ stackAt s (9 * (k .rooms .s - kept)) (kept - before)
       unfolding P
-      found-is = rw (kept-is, b) (cursor-kept (modeOf (k .mode)) code r s (k .rooms .s) at h)
+      found-is = rw (kept-is, b) (cursor-kept (k .mode) code r s (k .rooms .s) at h)
 
       pub found-rises : before ≤ kept
       found-rises = omega (arith, found-state .some)
@@ -208,12 +207,12 @@ module _ {code w s r : List ℕ} {k : Plan} {c : Counts} {l : Level} {at : ℕ} 
 
         module _ {y : StackSym} (z : symOf y ≡ read (stackAt s (9 * (k .rooms .s - kept)) (kept - before)) (l .position)) where
           pub found-short : k .rooms .s < c .kept + c .used + m
-              → Took code w s k c l (stackCursor (modeOf (k .mode)) code r s (k .rooms .s) at) w s (record { code = 5; cells = m; symbol = y })
+              → Took code w s k c l (stackCursor (k .mode) code r s (k .rooms .s) at) w s (record { code = 5; cells = m; symbol = y })
           unfolding P
           found-short = took-short found-is found-state f g same z
 
           pub found-took : {s′ : List ℕ} {v : ℕ} → c .kept + c .used + m ≤ k .rooms .s
               → Composed s (9 * c .used) (compose (stackAt s (9 * l .from) (l .cells)) (stackAt s (9 * (k .rooms .s - kept)) (kept - before))) s′ v
-              → Took code w s k c l (stackCursor (modeOf (k .mode)) code r s (k .rooms .s) at) w s′ (record { code = 0; cells = v; symbol = y })
+              → Took code w s k c l (stackCursor (k .mode) code r s (k .rooms .s) at) w s′ (record { code = 0; cells = v; symbol = y })
           unfolding C P
           found-took = took-all found-is found-state f g same z

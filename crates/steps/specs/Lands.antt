@@ -23,7 +23,7 @@ use Rattle.tables.specs.declared.Reply.{Reply}
 use Rattle.reachable.specs.Marks.{markedBy}
 use Rattle.reachable.specs.Edges.{sidesAt}
 use Rattle.reachable.specs.Contracts.{Room, SidesWithin, Marked, Highest, raised, Raised}
-use Rattle.steps.specs.declared.Plan.{Plan}
+use Rattle.steps.specs.Plans.{Plan}
 
 -- An address counts as reached, for a level that opens with j records, if the round began with it reached or one of those records leads there. That holds
 -- from the `since` records on with which the round began. And each address has its highest direct parent that is marked.

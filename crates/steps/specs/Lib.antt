@@ -1,3 +1,5 @@
+pub mod Plans
+pub mod Goings
 pub mod Cursors
 pub mod Paths
 pub mod Sound

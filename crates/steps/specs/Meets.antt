@@ -9,7 +9,7 @@ use Rattle.tables.specs.Mets.{Remembers, Fresh, Memorized}
 use Rattle.tables.specs.declared.Counts.{Counts}
 use Rattle.tables.specs.declared.Reply.{Reply}
 use Rattle.tables.specs.declared.row.Seen.{Seen}
-use Rattle.steps.specs.declared.Plan.{Plan}
+use Rattle.steps.specs.Plans.{Plan}
 use Rattle.steps.specs.declared.meet.Meeting.{Meeting}
 
 pub record Meets (t s : List ℕ) (k : Plan) (c : Counts) (x : Seen) : Type 0 where

@@ -12,7 +12,7 @@ use Rattle.tables.specs.Recording.{Lends}
 use Rattle.tables.specs.Rows.{metOf}
 use Rattle.tables.specs.declared.Rooms.{Rooms}
 use Rattle.tables.specs.declared.Counts.{Counts}
-use Rattle.steps.specs.declared.Plan.{Plan}
+use Rattle.steps.specs.Plans.{Plan}
 use Rattle.steps.specs.declared.Run.{Run}
 
 -- those that hold the records

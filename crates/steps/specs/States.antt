@@ -8,7 +8,6 @@ use Rattle.spec.specs.Search.{S}
 use Rattle.spec.specs.Rooms.{longest}
 use Rattle.layout.specs.Records.{RECORD, recordPlace, keptOf}
 use Rattle.layout.specs.Rows.{startOf}
-use Rattle.exec.specs.Modes.{modeOf}
 use Rattle.state.specs.Symbols.{symOf}
 use Rattle.state.specs.Cells.{stackAt, State, Lies, reach}
 use Rattle.exec.specs.Owns.{roomOf}
@@ -16,7 +15,7 @@ use Rattle.tables.specs.Recording.{shortOf}
 use Rattle.tables.specs.declared.Counts.{Counts}
 use Rattle.parents.specs.Links.{Comes}
 use Rattle.steps.specs.Cursors.{stackCursor}
-use Rattle.steps.specs.declared.Plan.{Plan}
+use Rattle.steps.specs.Plans.{Plan}
 use Rattle.steps.specs.declared.Level.{Level}
 use Rattle.steps.specs.declared.state_of.Taken.{Taken}
 
@@ -36,8 +35,9 @@ pub record Composing (code w s r : List ℕ) (k : Plan) (c : Counts) (l : Level)
   pub kept : 0x10000 ≤ at → keptOf r (suc (at - 0x10000)) ≤ c .kept
   pub parent : 0x10000 ≤ at → State s (9 * (k .rooms .s - keptOf r (suc (at - 0x10000)))) (keptOf r (suc (at - 0x10000)) - keptOf r (at - 0x10000))
   pub deep : reach (stackAt s (9 * l .from) (l .cells)) ≤ 2 ^ 50
-  pub deeper : reach (stackCursor (modeOf (k .mode)) code r s (k .rooms .s) at) ≤ 2 ^ 50
+  pub deeper : reach (stackCursor (k .mode) code r s (k .rooms .s) at) ≤ 2 ^ 50
   pub near : l .position ≤ 2 ^ 50
+  pub moded : k .mode ≤ 1
 
 -- The code is the shortage of S; where it is 0, the new state lies right after the cells in use. All else of S stays, the kept cells at its top among it, and
 -- of W all but its part for runs.

@@ -1,26 +1,13 @@
 // The steps of the search that open no level: a block's parents one after the other, the path in hand, a parent's state, what was met, what is found.
 pub mod cursor;
+pub mod going;
 pub mod land;
 pub mod meet;
 pub mod path;
+pub mod plan;
 pub mod state_of;
 
-use exec::mode::Mode;
 use tables::Counts;
-use tables::Rooms;
-
-// What is fixed in a search: the code's length, the end of W's part for runs, the link to the first block that takes turns, the buckets of records and
-// of remembered rows, the energy limit and the rooms.
-pub struct Plan {
-    pub n: usize,
-    pub end: usize,
-    pub head: usize,
-    pub buckets: usize,
-    pub shelves: usize,
-    pub limit: usize,
-    pub rooms: Rooms,
-    pub mode: Mode,
-}
 
 // A level: the addresses of its path in P, the stack position that it asks for, the place and the length in S, in cells, of the path's state, and 256 less
 // the path's weight.

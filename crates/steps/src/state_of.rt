@@ -1,9 +1,10 @@
 // A parent's state: the symbol that it has at a position, and its state behind the level's.
 // "The parent's symbol at the level's position is read, and the new state, the path's state composed with the parent's, is formed (room S)."
 use crate::Level;
-use crate::Plan;
 use crate::cursor::FOUND;
-use exec::run::run;
+use crate::plan::PLAN;
+use crate::plan::ROOM_S;
+use crate::plan::run_block;
 use layout::record::KEPT;
 use layout::record::RECORD;
 use lent::get32;
@@ -19,9 +20,9 @@ ghost use mathlib.Core.Path.{_≡_};
 ghost use Prim.Native.Nat.{_*_, _≤_, _<_};
 ghost use lib.ListN.{length};
 ghost use Rattle.layout.specs.Records.{recordPlace, keptOf};
-ghost use Rattle.exec.specs.Modes.{modeOf};
 ghost use Rattle.steps.specs.Cursors.{stackCursor};
 ghost use Rattle.steps.specs.States.{Composing, Took};
+ghost use Rattle.steps.specs.Plans.{planIn};
 
 // 0 or 5 where S is short, how many cells the new state has, right after those in use, and the symbol.
 pub struct Taken {
@@ -36,22 +37,21 @@ fn take_direct(
     w: &mut [u8],
     s: &mut [u8],
     r: &[u8],
-    plan: Plan,
+    plan: &[usize; PLAN],
     counts: Counts,
     level: Level,
     at: usize,
 ) -> Taken
-    requires { ⌜ Composing (now code) (now w) (now s) (now r) plan counts level at ⌝ }
+    requires { ⌜ Composing (now code) (now w) (now s) (now r) (planIn (now plan)) counts level at ⌝ }
     requires { ⌜ at < 0x10000 ⌝ }
-    ensures { λ x. ⌜ Took (now (code .entry)) (now (w .entry)) (now (s .entry)) plan counts level (stackCursor (modeOf (plan .mode)) (now (code .entry)) (now (r .entry)) (now (s .entry)) (plan .rooms .s) at)
+    ensures { λ x. ⌜ Took (now (code .entry)) (now (w .entry)) (now (s .entry)) (planIn (now (plan .entry))) counts level (stackCursor (planIn (now (plan .entry)) .mode) (now (code .entry)) (now (r .entry)) (now (s .entry)) (planIn (now (plan .entry)) .rooms .s) at)
         (now (w .exit)) (now (s .exit)) x ⌝ }
 {
-    let mode = plan.mode;
-    let own = run(mode, code, parent_start(at), w, plan.end);
+    let own = run_block(code, w, plan, parent_start(at));
     let symbol = symbol_at(w, own.at, own.n, level.position);
     let cells = composed_len(level.cells, base_at(s, 9 * level.from, level.cells), own.n);
-    let rooms = plan.rooms;
-    if rooms.s < counts.kept + counts.used + cells {
+    let room = plan[ROOM_S];
+    if room < counts.kept + counts.used + cells {
         return Taken {
             code: 5,
             cells,
@@ -80,23 +80,23 @@ fn take_found(
     w: &mut [u8],
     s: &mut [u8],
     r: &[u8],
-    plan: Plan,
+    plan: &[usize; PLAN],
     counts: Counts,
     level: Level,
     at: usize,
 ) -> Taken
-    requires { ⌜ Composing (now code) (now w) (now s) (now r) plan counts level at ⌝ }
+    requires { ⌜ Composing (now code) (now w) (now s) (now r) (planIn (now plan)) counts level at ⌝ }
     requires { ⌜ 0x10000 ≤ at ⌝ }
-    ensures { λ x. ⌜ Took (now (code .entry)) (now (w .entry)) (now (s .entry)) plan counts level (stackCursor (modeOf (plan .mode)) (now (code .entry)) (now (r .entry)) (now (s .entry)) (plan .rooms .s) at)
+    ensures { λ x. ⌜ Took (now (code .entry)) (now (w .entry)) (now (s .entry)) (planIn (now (plan .entry))) counts level (stackCursor (planIn (now (plan .entry)) .mode) (now (code .entry)) (now (r .entry)) (now (s .entry)) (planIn (now (plan .entry)) .rooms .s) at)
         (now (w .exit)) (now (s .exit)) x ⌝ }
 {
-    let rooms = plan.rooms;
+    let room = plan[ROOM_S];
     let kept = get32(r, RECORD * (at - FOUND) + KEPT);
     let theirs = kept - kept_before(r, at - FOUND);
-    let from = 9 * (rooms.s - kept);
+    let from = 9 * (room - kept);
     let symbol = symbol_at(s, from, theirs, level.position);
     let cells = composed_len(level.cells, base_at(s, 9 * level.from, level.cells), theirs);
-    if rooms.s < counts.kept + counts.used + cells {
+    if room < counts.kept + counts.used + cells {
         return Taken {
             code: 5,
             cells,
@@ -135,13 +135,13 @@ pub fn take_state(
     w: &mut [u8],
     s: &mut [u8],
     r: &[u8],
-    plan: Plan,
+    plan: &[usize; PLAN],
     counts: Counts,
     level: Level,
     at: usize,
 ) -> Taken
-    requires { ⌜ Composing (now code) (now w) (now s) (now r) plan counts level at ⌝ }
-    ensures { λ x. ⌜ Took (now (code .entry)) (now (w .entry)) (now (s .entry)) plan counts level (stackCursor (modeOf (plan .mode)) (now (code .entry)) (now (r .entry)) (now (s .entry)) (plan .rooms .s) at)
+    requires { ⌜ Composing (now code) (now w) (now s) (now r) (planIn (now plan)) counts level at ⌝ }
+    ensures { λ x. ⌜ Took (now (code .entry)) (now (w .entry)) (now (s .entry)) (planIn (now (plan .entry))) counts level (stackCursor (planIn (now (plan .entry)) .mode) (now (code .entry)) (now (r .entry)) (now (s .entry)) (planIn (now (plan .entry)) .rooms .s) at)
         (now (w .exit)) (now (s .exit)) x ⌝ }
 {
     if at < FOUND {

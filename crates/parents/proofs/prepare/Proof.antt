@@ -9,10 +9,10 @@ use Rattle.parents.proofs.prepare.Statement.{statement}
 use Rattle.parents.proofs.prepare.Tie as tie
 
 abbrev Inv-loop : tie.InvT-loop
-Inv-loop mode code w₀ end a₀ head₀ w a head = Pass (modeOf mode) code w₀ end w a head
+Inv-loop mode code w₀ end a₀ many₀ w a many = Pass (modeOf mode) code w₀ end w a many
 
 abbrev μ-loop : tie.MeasureT-loop
-μ-loop mode code w₀ end a₀ head₀ w a head = a
+μ-loop mode code w₀ end a₀ many₀ w a many = a
 
 loop-holds : tie.Need-loop-holds Inv-loop μ-loop
 loop-holds c = search pass-none

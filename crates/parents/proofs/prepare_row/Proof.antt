@@ -14,28 +14,28 @@ use Rattle.parents.specs.Contracts.{Sides, Wrote, Settled, PreparesRow, 
 use Rattle.parents.proofs.prepare_row.Statement.{statement}
 use Rattle.parents.proofs.prepare_row.Tie as tie
 
-module _ {mode : ℕ} {code w : List ℕ} {end a head : ℕ} (p : PreparesRow mode code w end a head) where
+module _ {mode : ℕ} {code w : List ℕ} {end a many : ℕ} (p : PreparesRow mode code w end a many) where
   row-inside : rowPlace a + 1 ≤ length w
   row-inside = omega (arith, p .settles .row, p .settles .room, p .settles .inside)
 
   row-low : a ≤ 49152
   row-low = omega (arith, p .settles .row, p .settles .short)
 
-  row-sides : {v : List ℕ} {r : ℕ} → Settled mode code w end a head v r → Sides v a
+  row-sides : {v : List ℕ} {r : ℕ} → Settled mode code w end a many v r → Sides v a
   row-sides {v} {r} s = p .sides v r s
 
-  row-none : {kind : ℕ} → Holds 1 w (rowPlace a) kind → kind ≡ 0 → PreparedRow mode code w end a head w head
+  row-none : {kind : ℕ} → Holds 1 w (rowPlace a) kind → kind ≡ 0 → PreparedRow mode code w end a many w many
   unfolding linkSides place goesAt if
   row-none h z =
       let e : tagAt w a ≡ 0 = sym (h .is) ∙ z in
       record {
         between = w;
-        settled = record { after = w; ran = record { front = refl; back = refl; kept = refl }; is = rw e; first = rw e; kept = refl };
+        settled = record { after = w; ran = record { front = refl; back = refl; kept = refl }; is = rw e; count = rw e; kept = refl };
         linked = record { is = rw e; kept = refl };
         kept = refl;
       }
 
-  row-both : {v w′ : List ℕ} {r : ℕ} → Settled mode code w end a head v r → Wrote v w′ (linkSides v a (typeAt v a)) → PreparedRow mode code w end a head w′ r
+  row-both : {v w′ : List ℕ} {r : ℕ} → Settled mode code w end a many v r → Wrote v w′ (linkSides v a (typeAt v a)) → PreparedRow mode code w end a many w′ r
   row-both {v} s d = record { between = v; settled = s; linked = d; kept = d .kept ∙ s .kept }
 
 mul-get8 : tie.Need-mul-get8

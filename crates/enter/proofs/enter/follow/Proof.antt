@@ -3,8 +3,9 @@ mod StepsFourToSix
 mod FollowWays
 use StepsFourToSix.{follow-composing}
 use FollowWays.{followed-short, followed-met, followed-full, follow-sees, follow-meets, follow-arriving, followed-arrived}
-use mathlib.Core.Path.{_∙_}
+use mathlib.Core.Path.{ap, _∙_}
 use borrow.Author.Needs.{needs}
+use Rattle.enter.specs.Enters.{openingOf}
 use Rattle.enter.proofs.enter.follow.Statement.{statement}
 use Rattle.enter.proofs.enter.follow.Tie as tie
 
@@ -39,21 +40,24 @@ to-if2 c = search
 abbrev to-after : tie.After-struct-known2 → tie.After-after
 to-after c = c .before
 
-abbrev to-if3 : tie.After-arrive-arg4 → tie.Else3
+abbrev to-if3 : tie.After-arrive-arg5 → tie.Else3
 to-if3 c = search
 
 abbrev to-arrive : tie.After-slice-known12 → tie.After-arrive
 to-arrive c = search
+
+abbrev to-then1 : tie.After-refuse → tie.Then1
+to-then1 c = search
 
 take-state-requires : tie.Need-take-state-requires
 take-state-requires c κs = follow-composing (to-entry c .pre)
 
 returns : tie.Need-returns
 returns c =
-    let at-refused = c .before in
-    let at-if1 = at-refused .before in
+    let at-refuse = c .before in
+    let at-if1 = to-then1 at-refuse in
     let at-take-state = to-take-state (at-if1 .before) in
-    followed-short (to-entry (at-take-state .before) .pre) (at-take-state .take-state .ensures) (at-if1 .if1 .taken) (at-refused .refused .ensures) (c .shut .ensures)
+    followed-short (to-entry (at-take-state .before) .pre) (at-take-state .take-state .ensures) (at-if1 .if1 .taken) (at-refuse .refuse .ensures) (ap (openingOf _) (c .shut .ensures))
 
 seen-requires : tie.Need-seen-requires
 seen-requires c κs =
@@ -77,7 +81,7 @@ returns-2 c =
     let at-seen = to-seen (at-meet .before) in
     let at-if1 = at-seen .before in
     let at-take-state = to-take-state (at-if1 .before) in
-    followed-met (to-entry (at-take-state .before) .pre) (at-take-state .take-state .ensures) (at-seen .seen .ensures) (at-if1 .if1 .left) (at-meet .meet .ensures) (at-if2 .if2 .taken) (c .shut2 .ensures)
+    followed-met (to-entry (at-take-state .before) .pre) (at-take-state .take-state .ensures) (at-seen .seen .ensures) (at-if1 .if1 .left) (at-meet .meet .ensures) (at-if2 .if2 .taken) (ap (openingOf _) (c .shut2 .ensures))
 
 same-length-8 : tie.Need-same-length-8
 same-length-8 c = to-take-state (to-if1 c .before) .take-state .ensures .longW
@@ -94,7 +98,7 @@ returns-3 c =
     let at-seen = to-seen (at-meet .before) in
     let at-if1 = at-seen .before in
     let at-take-state = to-take-state (at-if1 .before) in
-    followed-full (to-entry (at-take-state .before) .pre) (at-take-state .take-state .ensures) (at-seen .seen .ensures) (at-if1 .if1 .left) (at-meet .meet .ensures) (at-if2 .if2 .left) (at-if3 .if3 .taken) (at-after .after .ensures) (c .shut3 .ensures)
+    followed-full (to-entry (at-take-state .before) .pre) (at-take-state .take-state .ensures) (at-seen .seen .ensures) (at-if1 .if1 .left) (at-meet .meet .ensures) (at-if2 .if2 .left) (at-if3 .if3 .taken) (at-after .after .ensures) (ap (openingOf _) (c .shut3 .ensures))
 
 arrive-requires : tie.Need-arrive-requires
 arrive-requires c κs =
@@ -133,6 +137,11 @@ pub follow-spec : {M : Type 1} → statement M
 follow-spec =
     tie.close
     (tie.spec
+    (λ c. search needs)
+    (λ c. search needs)
+    (λ c. search needs)
+    (λ c. search needs)
+    (λ c. search needs)
     take-state-requires
     (λ c κs. search needs)
     (λ c κs. search needs)

@@ -1,39 +1,31 @@
--- `evm::walk::argument_at` meets its contract: the bytes passed so far are spelt. The measure is what is left of n. Assumes nothing.
-mod ArgumentLoop
-use ArgumentLoop.{Spells, spells-none, spells-more, spelled}
-use Prim.Native.Nat.{_-_}
+-- `evm::walk::argument_at` meets its contract: one byte or two at once, or by the loop. Assumes nothing.
 use borrow.Author.Needs.{needs}
+use Rattle.evm.proofs.Spelling.{spelled-one, spelled-two}
 use Rattle.evm.proofs.walk.argument_at.Statement.{statement}
 use Rattle.evm.proofs.walk.argument_at.Tie as tie
 
-abbrev Inv-loop : tie.InvT-loop
-Inv-loop code pc n v₀ i₀ v i = Spells code pc n i v
+returns : tie.Need-returns
+returns c = search spelled-one
 
-abbrev μ-loop : tie.MeasureT-loop
-μ-loop code pc n v₀ i₀ v i = n - i
-
-loop-holds : tie.Need-loop-holds Inv-loop μ-loop
-loop-holds c = search spells-none
-
-loop-again : tie.Need-loop-again Inv-loop μ-loop
-loop-again c = search spells-more
-
-returns : tie.Need-returns Inv-loop μ-loop
-returns c = search spelled
+returns-2 : tie.Need-returns-2
+returns-2 c = search spelled-two
 
 pub argument-at-spec : {M : Type 1} → statement M
 argument-at-spec =
     tie.close
     (tie.spec
-    Inv-loop
-    μ-loop
-    loop-holds
     (λ c. search needs)
     (λ c. search needs)
+    (λ c κs. search needs)
+    returns
     (λ c. search needs)
     (λ c. search needs)
     (λ c κs. search needs)
     (λ c. search needs)
     (λ c. search needs)
-    loop-again
-    returns)
+    (λ c. search needs)
+    (λ c κs. search needs)
+    (λ c. search needs)
+    returns-2
+    (λ c κs. search needs)
+    (λ c. search needs))

@@ -21,6 +21,7 @@ step-at-spec =
     (λ c. search needs)
     (λ c κs. search needs)
     (λ c. search needs)
+    (λ c κs. search needs)
     (λ c. search needs)
     returns-2
     returns-3)

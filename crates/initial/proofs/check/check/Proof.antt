@@ -1,8 +1,8 @@
--- `check` meets its contract: the rows before a are checked, the others are as they were. The measure is the rows left. Assumes nothing.
+-- `check` meets its contract: the rows before a are checked, the others are as they were, and none is passed over that holds a block. The measure is the rows left. Assumes nothing.
 use Prim.Native.Nat.{_+_, _-_}
 use lib.ListN.{length}
 use borrow.Author.Needs.{needs}
-use Rattle.initial.proofs.Checking.{check-none, check-rows, check-more, check-done, Checking}
+use Rattle.initial.proofs.Checking.{check-none, check-rows, check-fits, check-less, check-more, check-done, Checking}
 use Rattle.initial.proofs.check.check.Statement.{statement}
 use Rattle.initial.proofs.check.check.Tie as tie
 
@@ -18,6 +18,12 @@ loop-holds c = search check-none
 check-row-requires : tie.Need-check-row-requires Inv-loop μ-loop
 check-row-requires c κs = (search check-rows, search needs)
 
+add-start : tie.Need-add-start Inv-loop μ-loop
+add-start c = search check-fits
+
+loop-less : tie.Need-loop-less Inv-loop μ-loop
+loop-less c = search check-less
+
 loop-again : tie.Need-loop-again Inv-loop μ-loop
 loop-again c = search check-more
 
@@ -32,8 +38,8 @@ check-spec =
     μ-loop
     loop-holds
     check-row-requires
-    (λ c. search needs)
-    (λ c. search needs)
+    add-start
+    loop-less
     loop-again
     (λ c. search needs)
     returns)

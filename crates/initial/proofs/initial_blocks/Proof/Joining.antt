@@ -11,9 +11,11 @@ use Rattle.spec.specs.Opcodes.{row}
 use Rattle.spec.specs.Walk.{instructions}
 use Rattle.spec.specs.Blocks.{Kind, terminate, jump, jumpi, dynamic-jump, dynamic-jumpi, Block, with-kind, lands, checked, starts, check-all, blocks}
 use Rattle.laws.proofs.Branch.{if-false}
+use Rattle.theorems.proofs.Counts.{lawful}
+use Rattle.theorems.proofs.Cutting.{Ordered, then, ordered}
 use Rattle.initial.specs.Rows.{blocksAt}
 use Rattle.initial.specs.Turn.{clip, clipped}
-use Rattle.initial.specs.Contracts.{Lent, Written, cutting, Initial}
+use Rattle.initial.specs.Contracts.{Lent, Written, Apart, no-more, one-more, cutting, Initial}
 use Rattle.initial.proofs.Rows.{start-inside}
 use Rattle.initial.proofs.Writing.{beyond-more}
 
@@ -63,6 +65,17 @@ blocks-checked : (code : List ℕ) → check-all code (cutting code) ≡ blocks 
 unfolding cutting blocks
 blocks-checked [] = refl
 blocks-checked (b ∷ code) = refl
+
+-- the cutting's blocks are apart as the document's are, of which only kinds differ
+spaced : (code : List ℕ) (f g : Kind → Kind) (bs : List Block) {lo : ℕ} → Ordered row code lo (map (λ (b : Block). with-kind (f (b .kind)) b) bs)
+    → Apart (length code) lo (map (λ (b : Block). with-kind (g (b .kind)) b) bs)
+spaced code f g [] o = no-more
+spaced code f g (b ∷ bs) (then l m h o) = one-more l (m .forward) (omega (arith, m .end-inside)) (spaced code f g bs o)
+
+pub cut-apart : (code : List ℕ) {w v : List ℕ} → Written (length code) (map clipped (cutting code)) w v → Apart (length code) 0 (blocksAt v (length code))
+cut-apart code c =
+    let o : Ordered row code 0 (check-all code (cutting code)) = rw (blocks-checked code) (ordered lawful code) in
+    rw (c .blocks) (spaced code _ clip (cutting code) o)
 
 pub joined : {code w v u : List ℕ} → Lent code w → Written (length code) (map clipped (cutting code)) w v
     → Written (length code) (check-all code (blocksAt v (length code))) v u → Initial code w u

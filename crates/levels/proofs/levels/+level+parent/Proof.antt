@@ -22,6 +22,8 @@ use Rattle.levels.proofs.levels.parent.Kinds as parent-kinds
 use Rattle.levels.proofs.levels.+level+parent.Lts-parent as parent-lts
 use Rattle.lent.proofs.get16.Reads as get16-reads
 use Rattle.layout.specs.Buffers.{buffers}
+use Rattle.steps.specs.Plans.{planIn}
+use Rattle.steps.specs.Goings.{runIn}
 use Rattle.reachable.proofs.highest.Reads as highest-reads
 use Rattle.steps.proofs.cursor.first_cursor.Reads as first-cursor-reads
 use Rattle.steps.proofs.cursor.next_cursor.Reads as next-cursor-reads
@@ -33,30 +35,30 @@ use Rattle.steps.proofs.path.uncount.Reads as uncount-reads
 use Rattle.levels.proofs.levels.+level+parent.{statement}
 use Rattle.levels.proofs.levels.+level+parent.Tie.{close}
 
-abbrev μ-level : Measures 7 level-kinds.ps ℕ
+abbrev μ-level : Measures 9 level-kinds.ps ℕ
 μ-level κs a = 2 * a .1 .1 .1 .1 .1 .1 .1 .1 .1 .0 .left + 1
 
-abbrev μ-parent : Measures 7 parent-kinds.ps ℕ
+abbrev μ-parent : Measures 9 parent-kinds.ps ℕ
 μ-parent κs a = 2 * a .1 .1 .1 .1 .1 .1 .1 .1 .1 .0 .left
 
-abbrev level-at : ℕ → In 7 level-kinds.ps
-level-at t = and 7 level-kinds.ps (is 7 level-kinds.ps μ-level t) level.Pre
+abbrev level-at : ℕ → In 9 level-kinds.ps
+level-at t = and 9 level-kinds.ps (is 9 level-kinds.ps μ-level t) level.Pre
 
-abbrev level-below : ℕ → In 7 level-kinds.ps
-level-below t = and 7 level-kinds.ps (falls 7 level-kinds.ps _<_ μ-level t) level.Pre
+abbrev level-below : ℕ → In 9 level-kinds.ps
+level-below t = and 9 level-kinds.ps (falls 9 level-kinds.ps _<_ μ-level t) level.Pre
 
-abbrev parent-at : ℕ → In 7 parent-kinds.ps
-parent-at t = and 7 parent-kinds.ps (is 7 parent-kinds.ps μ-parent t) parent.Pre
+abbrev parent-at : ℕ → In 9 parent-kinds.ps
+parent-at t = and 9 parent-kinds.ps (is 9 parent-kinds.ps μ-parent t) parent.Pre
 
-abbrev parent-below : ℕ → In 7 parent-kinds.ps
-parent-below t = and 7 parent-kinds.ps (falls 7 parent-kinds.ps _<_ μ-parent t) parent.Pre
+abbrev parent-below : ℕ → In 9 parent-kinds.ps
+parent-below t = and 9 parent-kinds.ps (falls 9 parent-kinds.ps _<_ μ-parent t) parent.Pre
 
 abbrev level-Inv-loop : level-lts.InvT-loop
-level-Inv-loop code w₀ p₀ s₀ t₀ r₀ q₀ k start l opened b top at₀ cur₀ w p s t r q at cur =
-    Going code k start l (buffers w₀ p₀ s₀ t₀ r₀ q₀) cur₀ b top (buffers w p s t r q) cur at
+level-Inv-loop code w₀ p₀ s₀ t₀ r₀ q₀ k start l run₀ opened b top at₀ w p s t r q run at =
+    Going code (planIn k) start l (buffers w₀ p₀ s₀ t₀ r₀ q₀) (runIn run₀) b top (buffers w p s t r q) (runIn run) at
 
 abbrev level-μ-loop : level-lts.MeasureT-loop
-level-μ-loop code w₀ p₀ s₀ t₀ r₀ q₀ k start l opened b top at₀ cur₀ w p s t r q at cur = fuel at
+level-μ-loop code w₀ p₀ s₀ t₀ r₀ q₀ k start l run₀ opened b top at₀ w p s t r q run at = fuel at
 
 abbrev level-cs : ℕ → level-lts.Claims
 level-cs t = (get16-reads.Asked, get16-reads.Learnt, highest-reads.Asked, highest-reads.Learnt, first-cursor-reads.Asked, first-cursor-reads.Learnt, next-cursor-reads.Asked, next-cursor-reads.Learnt, reached-then-reads.Asked, reached-then-reads.Learnt, spend-reads.Asked, spend-reads.Learnt, parent-below t, parent.Post)
@@ -68,25 +70,25 @@ parent-cs t = (enter-reads.Asked, enter-reads.Learnt, count-reads.Asked, count-r
 abbrev level-to-entry-from-struct-known : (t : ℕ) → level-lts.After-struct-known (level-cs t) (level-at t) level.Post level-Inv-loop level-μ-loop → level-lts.Start (level-cs t) (level-at t) level.Post level-Inv-loop level-μ-loop
 level-to-entry-from-struct-known t c = search
 
-abbrev level-to-entry-from-first-cursor-arg : (t : ℕ) → level-lts.After-first-cursor-arg (level-cs t) (level-at t) level.Post level-Inv-loop level-μ-loop → level-lts.Start (level-cs t) (level-at t) level.Post level-Inv-loop level-μ-loop
+abbrev level-to-entry-from-first-cursor-arg : (t : ℕ) → level-lts.After-first-cursor-arg2 (level-cs t) (level-at t) level.Post level-Inv-loop level-μ-loop → level-lts.Start (level-cs t) (level-at t) level.Post level-Inv-loop level-μ-loop
 level-to-entry-from-first-cursor-arg t c = search
 
-abbrev level-to-entry-from-highest-arg : (t : ℕ) → level-lts.After-highest-arg (level-cs t) (level-at t) level.Post level-Inv-loop level-μ-loop → level-lts.Start (level-cs t) (level-at t) level.Post level-Inv-loop level-μ-loop
+abbrev level-to-entry-from-highest-arg : (t : ℕ) → level-lts.After-highest-arg2 (level-cs t) (level-at t) level.Post level-Inv-loop level-μ-loop → level-lts.Start (level-cs t) (level-at t) level.Post level-Inv-loop level-μ-loop
 level-to-entry-from-highest-arg t c = search
 
 abbrev level-to-entry : (t : ℕ) → level-lts.At-loop (level-cs t) (level-at t) level.Post level-Inv-loop level-μ-loop → level-lts.Start (level-cs t) (level-at t) level.Post level-Inv-loop level-μ-loop
 level-to-entry t c = search
 
-abbrev level-to-loop : (t : ℕ) → level-lts.After-reached-then-arg3 (level-cs t) (level-at t) level.Post level-Inv-loop level-μ-loop → level-lts.At-loop (level-cs t) (level-at t) level.Post level-Inv-loop level-μ-loop
+abbrev level-to-loop : (t : ℕ) → level-lts.After-reached-then-arg4 (level-cs t) (level-at t) level.Post level-Inv-loop level-μ-loop → level-lts.At-loop (level-cs t) (level-at t) level.Post level-Inv-loop level-μ-loop
 level-to-loop t c = search
 
-abbrev level-to-loop-from-then1 : (t : ℕ) → level-lts.Then1 (level-cs t) (level-at t) level.Post level-Inv-loop level-μ-loop → level-lts.At-loop (level-cs t) (level-at t) level.Post level-Inv-loop level-μ-loop
-level-to-loop-from-then1 t c = search
+abbrev level-to-loop-from-spend-arg : (t : ℕ) → level-lts.After-spend-arg (level-cs t) (level-at t) level.Post level-Inv-loop level-μ-loop → level-lts.At-loop (level-cs t) (level-at t) level.Post level-Inv-loop level-μ-loop
+level-to-loop-from-spend-arg t c = search
 
 abbrev level-to-loop-from-then2 : (t : ℕ) → level-lts.Then2 (level-cs t) (level-at t) level.Post level-Inv-loop level-μ-loop → level-lts.At-loop (level-cs t) (level-at t) level.Post level-Inv-loop level-μ-loop
 level-to-loop-from-then2 t c = search
 
-abbrev level-to-loop-test : (t : ℕ) → level-lts.After-next-cursor-arg2 (level-cs t) (level-at t) level.Post level-Inv-loop level-μ-loop → level-lts.In-loop (level-cs t) (level-at t) level.Post level-Inv-loop level-μ-loop
+abbrev level-to-loop-test : (t : ℕ) → level-lts.After-next-cursor-arg3 (level-cs t) (level-at t) level.Post level-Inv-loop level-μ-loop → level-lts.In-loop (level-cs t) (level-at t) level.Post level-Inv-loop level-μ-loop
 level-to-loop-test t c = search
 
 abbrev level-to-loop-test-from-spend : (t : ℕ) → level-lts.After-spend (level-cs t) (level-at t) level.Post level-Inv-loop level-μ-loop → level-lts.In-loop (level-cs t) (level-at t) level.Post level-Inv-loop level-μ-loop
@@ -101,34 +103,40 @@ level-to-reached-then t c = search
 abbrev level-to-loop-from-parent : (t : ℕ) → level-lts.After-parent (level-cs t) (level-at t) level.Post level-Inv-loop level-μ-loop → level-lts.At-loop (level-cs t) (level-at t) level.Post level-Inv-loop level-μ-loop
 level-to-loop-from-parent t c = level-to-loop t (level-to-reached-then t c .before)
 
-abbrev level-to-spend : (t : ℕ) → level-lts.After-struct-known3 (level-cs t) (level-at t) level.Post level-Inv-loop level-μ-loop → level-lts.After-spend (level-cs t) (level-at t) level.Post level-Inv-loop level-μ-loop
+abbrev level-to-spend : (t : ℕ) → level-lts.After-if23 (level-cs t) (level-at t) level.Post level-Inv-loop level-μ-loop → level-lts.After-spend (level-cs t) (level-at t) level.Post level-Inv-loop level-μ-loop
 level-to-spend t c = search
 
-abbrev level-to-if2 : (t : ℕ) → level-lts.After-parent-arg6 (level-cs t) (level-at t) level.Post level-Inv-loop level-μ-loop → level-lts.Else2 (level-cs t) (level-at t) level.Post level-Inv-loop level-μ-loop
+abbrev level-to-then1 : (t : ℕ) → level-lts.After-spend (level-cs t) (level-at t) level.Post level-Inv-loop level-μ-loop → level-lts.Then1 (level-cs t) (level-at t) level.Post level-Inv-loop level-μ-loop
+level-to-then1 t c = search
+
+abbrev level-to-get16 : (t : ℕ) → level-lts.After-highest-arg2 (level-cs t) (level-at t) level.Post level-Inv-loop level-μ-loop → level-lts.After-get16 (level-cs t) (level-at t) level.Post level-Inv-loop level-μ-loop
+level-to-get16 t c = search
+
+abbrev level-to-if2 : (t : ℕ) → level-lts.After-parent-arg7 (level-cs t) (level-at t) level.Post level-Inv-loop level-μ-loop → level-lts.Else2 (level-cs t) (level-at t) level.Post level-Inv-loop level-μ-loop
 level-to-if2 t c = search
 
-abbrev level-to-parent : (t : ℕ) → level-lts.After-struct-known4 (level-cs t) (level-at t) level.Post level-Inv-loop level-μ-loop → level-lts.After-parent (level-cs t) (level-at t) level.Post level-Inv-loop level-μ-loop
+abbrev level-to-parent : (t : ℕ) → level-lts.After-if32 (level-cs t) (level-at t) level.Post level-Inv-loop level-μ-loop → level-lts.After-parent (level-cs t) (level-at t) level.Post level-Inv-loop level-μ-loop
 level-to-parent t c = search
 
-abbrev parent-to-entry : (t : ℕ) → parent-lts.After-enter-arg6 (parent-cs t) (parent-at t) parent.Post → parent-lts.Start (parent-cs t) (parent-at t) parent.Post
+abbrev parent-to-entry : (t : ℕ) → parent-lts.After-enter-arg7 (parent-cs t) (parent-at t) parent.Post → parent-lts.Start (parent-cs t) (parent-at t) parent.Post
 parent-to-entry t c = search
 
 abbrev parent-to-enter : (t : ℕ) → parent-lts.After-struct-known (parent-cs t) (parent-at t) parent.Post → parent-lts.After-enter (parent-cs t) (parent-at t) parent.Post
 parent-to-enter t c = search
 
-abbrev parent-to-if1 : (t : ℕ) → parent-lts.After-count-arg2 (parent-cs t) (parent-at t) parent.Post → parent-lts.Else1 (parent-cs t) (parent-at t) parent.Post
+abbrev parent-to-if1 : (t : ℕ) → parent-lts.After-count-arg3 (parent-cs t) (parent-at t) parent.Post → parent-lts.Else1 (parent-cs t) (parent-at t) parent.Post
 parent-to-if1 t c = search
 
-abbrev parent-to-count : (t : ℕ) → parent-lts.After-level-arg6 (parent-cs t) (parent-at t) parent.Post → parent-lts.After-count (parent-cs t) (parent-at t) parent.Post
+abbrev parent-to-count : (t : ℕ) → parent-lts.After-level-arg7 (parent-cs t) (parent-at t) parent.Post → parent-lts.After-count (parent-cs t) (parent-at t) parent.Post
 parent-to-count t c = search
 
 abbrev parent-to-enter-from-level : (t : ℕ) → parent-lts.After-level (parent-cs t) (parent-at t) parent.Post → parent-lts.After-enter (parent-cs t) (parent-at t) parent.Post
 parent-to-enter-from-level t c = parent-to-enter t (parent-to-if1 t (parent-to-count t (c .before) .before) .before)
 
-abbrev parent-to-level : (t : ℕ) → parent-lts.After-struct-known2 (parent-cs t) (parent-at t) parent.Post → parent-lts.After-level (parent-cs t) (parent-at t) parent.Post
+abbrev parent-to-level : (t : ℕ) → parent-lts.After-if22 (parent-cs t) (parent-at t) parent.Post → parent-lts.After-level (parent-cs t) (parent-at t) parent.Post
 parent-to-level t c = search
 
-abbrev parent-to-if2 : (t : ℕ) → parent-lts.After-uncount-arg2 (parent-cs t) (parent-at t) parent.Post → parent-lts.Else2 (parent-cs t) (parent-at t) parent.Post
+abbrev parent-to-if2 : (t : ℕ) → parent-lts.After-uncount-arg3 (parent-cs t) (parent-at t) parent.Post → parent-lts.Else2 (parent-cs t) (parent-at t) parent.Post
 parent-to-if2 t c = search
 
 abbrev parent-to-uncount : (t : ℕ) → parent-lts.After-slice-known20 (parent-cs t) (parent-at t) parent.Post → parent-lts.After-uncount (parent-cs t) (parent-at t) parent.Post
@@ -153,7 +161,7 @@ level-get16-requires t c κs =
     omega (arith, at-entry .pre .1 .stands .some, at-entry .pre .1 .stands .room, at-entry .pre .1 .fits .planned .lentP)
 
 level-highest-requires : (t : ℕ) → level-lts.Need-highest-requires (level-cs t) (level-at t) level.Post level-Inv-loop level-μ-loop
-level-highest-requires t c κs = let pre = level-to-entry-from-highest-arg t c .pre .1 in level-address pre (c .before .get16 .ensures)
+level-highest-requires t c κs = let pre = level-to-entry-from-highest-arg t c .pre .1 in level-address pre (level-to-get16 t c .get16 .ensures)
 
 level-first-cursor-requires : (t : ℕ) → level-lts.Need-first-cursor-requires (level-cs t) (level-at t) level.Post level-Inv-loop level-μ-loop
 level-first-cursor-requires t c κs = let pre = level-to-entry-from-first-cursor-arg t c .pre .1 in search (level-at-block pre)
@@ -176,7 +184,7 @@ level-reached-then-requires t c κs =
 
 level-spend-requires : (t : ℕ) → level-lts.Need-spend-requires (level-cs t) (level-at t) level.Post level-Inv-loop level-μ-loop
 level-spend-requires t c κs =
-    let at-loop = level-to-loop-from-then1 t c in
+    let at-loop = level-to-loop-from-spend-arg t c in
     going-spend (level-to-entry t at-loop .pre .1) (at-loop .loop .inv)
 
 level-same-length : (t : ℕ) → level-lts.Need-same-length (level-cs t) (level-at t) level.Post level-Inv-loop level-μ-loop
@@ -200,7 +208,7 @@ level-same-length-6 t c = level-to-loop-from-then2 t c .loop .inv .long .q
 level-returns : (t : ℕ) → level-lts.Need-returns (level-cs t) (level-at t) level.Post level-Inv-loop level-μ-loop
 level-returns t c =
     let at-spend = level-to-spend t (c .before) in
-    let at-if1 = at-spend .before in
+    let at-if1 = level-to-then1 t at-spend in
     let at-reached-then = at-if1 .before in
     let at-loop-test = level-to-loop-test t (level-to-next-cursor t at-reached-then .before) in
     let at-loop = at-loop-test .before in
@@ -250,7 +258,7 @@ level-returns-2 t c =
     let at-parent = level-to-parent t (c .before) in
     let at-if2 = level-to-if2 t (at-parent .before) in
     let at-spend = level-to-spend t (at-if2 .before) in
-    let at-if1 = at-spend .before in
+    let at-if1 = level-to-then1 t at-spend in
     let at-reached-then = at-if1 .before in
     let at-loop-test = level-to-loop-test t (level-to-next-cursor t at-reached-then .before) in
     let at-loop = at-loop-test .before in
@@ -268,7 +276,7 @@ level-loop-again t c =
     let at-parent = level-to-parent t (c .before) in
     let at-if2 = level-to-if2 t (at-parent .before) in
     let at-spend = level-to-spend t (at-if2 .before) in
-    let at-if1 = at-spend .before in
+    let at-if1 = level-to-then1 t at-spend in
     let at-reached-then = at-if1 .before in
     let at-next-cursor = level-to-next-cursor t at-reached-then in
     let at-loop-test = level-to-loop-test t (at-next-cursor .before) in
@@ -333,7 +341,9 @@ parent-same-length-6 : (t : ℕ) → parent-lts.Need-same-length-6 (parent-cs t)
 parent-same-length-6 t c = search needs
 
 parent-returns : (t : ℕ) → parent-lts.Need-returns (parent-cs t) (parent-at t) parent.Post
-parent-returns t c = let pre = parent-to-entry t (parent-to-enter t (c .before) .before) .pre .1 in search (parent-shut pre)
+parent-returns t c =
+    let at-enter = parent-to-enter t (c .before) in
+    parent-shut (parent-to-entry t (at-enter .before) .pre .1) (at-enter .enter .ensures) (c .if1 .taken)
 
 parent-count-requires : (t : ℕ) → parent-lts.Need-count-requires (parent-cs t) (parent-at t) parent.Post
 parent-count-requires t c κs =
@@ -444,15 +454,22 @@ pub +level+parent-spec : {M : Type 1} → statement M
     level.Post
     level-Inv-loop
     level-μ-loop
+    (λ c. search needs)
     (level-sub-get16 t)
     (level-mul-get16 t)
     (level-get16-requires t)
+    (λ c. search needs)
     (level-highest-requires t)
+    (λ c. search needs)
     (level-first-cursor-requires t)
     (level-loop-holds t)
+    (λ c. search needs)
     (level-next-cursor-requires t)
+    (λ c. search needs)
     (level-reached-then-requires t)
     (level-spend-requires t)
+    (λ c. search needs)
+    (λ c. search needs)
     (level-same-length t)
     (level-same-length-2 t)
     (level-same-length-3 t)
@@ -461,6 +478,7 @@ pub +level+parent-spec : {M : Type 1} → statement M
     (level-same-length-6 t)
     (level-returns t)
     (level-parent-requires t)
+    (λ c. search needs)
     (level-same-length-7 t)
     (level-same-length-8 t)
     (level-same-length-9 t)
@@ -489,8 +507,10 @@ pub +level+parent-spec : {M : Type 1} → statement M
     (parent-same-length-5 t)
     (parent-same-length-6 t)
     (parent-returns t)
+    (λ c. search needs)
     (parent-count-requires t)
     (parent-level-requires t)
+    (λ c. search needs)
     (parent-same-length-7 t)
     (parent-same-length-8 t)
     (parent-same-length-9 t)
@@ -498,6 +518,7 @@ pub +level+parent-spec : {M : Type 1} → statement M
     (parent-same-length-11 t)
     (parent-same-length-12 t)
     (parent-returns-2 t)
+    (λ c. search needs)
     (parent-uncount-requires t)
     (parent-same-length-13 t)
     (parent-same-length-14 t)

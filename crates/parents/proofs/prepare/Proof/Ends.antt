@@ -25,23 +25,28 @@ use Rattle.theorems.proofs.Sides.{node-within}
 use Rattle.initial.proofs.Types.{kind-type}
 use Rattle.initial.proofs.Rows.{here-empty, here-block}
 use Rattle.parents.specs.Links.{turnOf, Parents, no-parent, Takers, no-taker, directTo, fromOf}
-use Rattle.parents.specs.Rows.{firstTaker, takerPast, turnsOf, firstTo, ownOf, linksOf, nodesHere, nodesFrom, rowFor}
+use Rattle.parents.specs.Rows.{turnsOf, firstTo, ownOf, linksOf, nodesHere, nodesFrom, rowFor}
 use Rattle.parents.specs.Contracts.{Lent, Prepared}
 use Rattle.parents.proofs.Goals.{Goes, run-goes}
-use Rattle.parents.proofs.Slots.{own, first, links, first-is, own-tag, own-end, own-type}
+use Rattle.parents.proofs.Slots.{own, first, links, entry, slot-is, own-tag, own-end, own-type}
 use Rattle.parents.proofs.prepare.Proof.PrepareLoop.{Pass, nodeAt, block-of, nodes-split, nodes-end, good-within}
-use Rattle.parents.proofs.Chains.{small-parents, shape, more-takers, more-parents}
+use Rattle.parents.proofs.Chains.{small-parents, shape, Entered, entered-later, more-takers, more-parents}
 
-row-parts : (w : List ℕ) (a : ℕ) → take ROW (drop (rowPlace a) w) ≡ own w a ++ (first w a ++ links w a)
+-- a part of the row, and the part behind it
+row-more : (w : List ℕ) (a o k m : ℕ) → take (k + m) (drop (rowPlace a + o) w) ≡ take k (drop (rowPlace a + o) w) ++ take m (drop (rowPlace a + (o + k)) w)
+row-more w a o k m =
+    let e : rowPlace a + o + k ≡ rowPlace a + (o + k) = omega arith in
+    take-add k m (drop (rowPlace a + o) w) ∙ rw (drop-drop, e)
+
+row-parts : (w : List ℕ) (a : ℕ) → take ROW (drop (rowPlace a) w) ≡ own w a ++ (first w a ++ (links w a ++ entry w a))
 row-parts w a =
-    let e : drop 2 (drop (rowPlace a + FIRST) w) ≡ drop (rowPlace a + NEXT) w = drop-drop 2 (rowPlace a + FIRST) w ∙ ap (λ (i : ℕ). drop i w) (let q : rowPlace a + FIRST + 2 ≡ rowPlace a + NEXT = omega arith in q) in
-    let f : take 8 (drop (rowPlace a + FIRST) w) ≡ first w a ++ links w a = take-add 2 LINKS (drop (rowPlace a + FIRST) w) ∙ ap (λ (l : List ℕ). first w a ++ take LINKS l) e in
-    take-add FIRST 8 (drop (rowPlace a) w) ∙ ap (λ (l : List ℕ). own w a ++ l) (rw drop-drop f)
+    let z : rowPlace a + 0 ≡ rowPlace a = omega arith in
+    rw z at (row-more w a 0 FIRST 8) ∙ ap (λ (l : List ℕ). own w a ++ l) (row-more w a FIRST 2 6 ∙ ap (λ (l : List ℕ). first w a ++ l) (row-more w a NEXT LINKS 2))
 
 goes-small : (n : ℕ) (g : Option Sym) → n ≤ longest → Goes (17 * n + 17) g → (p : ℕ) → g ≡ some (before p) → p < 4294967296
 goes-small n g s h p e = let f : p < 17 * n + 17 = rw e at h in omega arith
 
-module _ {mode : ℕ} {code w₀ : List ℕ} {end : ℕ} (l : Lent code w₀ end) {w : List ℕ} {head : ℕ} (p : Pass mode code w₀ end w 0 head) where
+module _ {mode : ℕ} {code w₀ : List ℕ} {end : ℕ} (l : Lent code w₀ end) {w : List ℕ} {many : ℕ} (p : Pass mode code w₀ end w 0 many) where
   all-rows : nodes (in-mode mode) code (instructions code) (blocksAt w₀ (length code)) ≡ prepared (in-mode mode) code
   unfolding prepared
   all-rows = ap (nodes (in-mode mode) code (instructions code)) (l .same)
@@ -60,7 +65,7 @@ module _ {mode : ℕ} {code w₀ : List ℕ} {end : ℕ} (l : Lent code w₀ end
 
     row-is : take ROW (drop (rowPlace a) w) ≡ rowFor mode code w₀ a
     unfolding rowFor
-    row-is = row-parts w a ∙ rw (own-row, p .firsts a h, links-row)
+    row-is = row-parts w a ∙ rw (own-row, p .firsts a h, links-row, p .entries a h)
 
     module _ (there : tagAt w₀ a ≡ 0 → ⊥) where
       own-there : own w a ≡ ownOf (nodeAt mode code w₀ a ∷ [])
@@ -103,40 +108,50 @@ module _ {mode : ℕ} {code w₀ : List ℕ} {end : ℕ} (l : Lent code w₀ end
       ∙ sym (map-append (λ (x : Node). x .block) (nodesHere mode code w₀ a) _) ∙ ap (map (λ (x : Node). x .block)) (sym (map-append _ (rowBlocks w₀ a) (blocksFrom w₀ (suc a) m)))
 
   abbrev Chained : List Node → Type 0
-  Chained rs = Takers w (length code) (firstTaker (takers rs)) (map turnOf (takers rs)) × ((t : ℕ) → Parents w (length code) t (firstTo t rs) (map fromOf (directTo t rs)))
+  Chained rs = Takers w (length code) (length (takers rs)) (map turnOf (takers rs)) × ((t : ℕ) → Parents w (length code) t (firstTo t rs) (map fromOf (directTo t rs)))
 
-  chained : (k a : ℕ) → a + k ≡ suc (length code) → Chained (nodesFrom mode code w₀ a)
+  -- the entries are those of all takers, so those of the ones from an address on too
+  entered : Entered w (length code) (takers (nodesFrom mode code w₀ 0))
+  entered x h =
+      let low : x ≤ length code = omega (arith, p .few, p .counts) in
+      (low, p .entries x low)
+
+  chained : (k a : ℕ) → a + k ≡ suc (length code) → Entered w (length code) (takers (nodesFrom mode code w₀ a)) → Chained (nodesFrom mode code w₀ a)
   unfolding firstTo
-  chained zero a e = let z : a ≡ suc (length code) = omega arith in rw (z, nodes-end mode code w₀) (no-taker, λ t. no-parent)
-  chained (suc k) a e = rw (nodes-split mode code w₀ a (omega arith)) (go (ℕ-discrete (tagAt w₀ a) 0) (chained k (suc a) (omega arith)))
+  chained zero a e i = let z : a ≡ suc (length code) = omega arith in rw (z, nodes-end mode code w₀) (no-taker, λ t. no-parent)
+  chained (suc k) a e i = rw (nodes-split mode code w₀ a (omega arith)) (go (ℕ-discrete (tagAt w₀ a) 0) (rw (nodes-split mode code w₀ a (omega arith)) at i) (chained k (suc a) (omega arith)))
     where
-      go : Dec (tagAt w₀ a ≡ 0) → Chained (nodesFrom mode code w₀ (suc a)) → Chained (nodesHere mode code w₀ a ++ nodesFrom mode code w₀ (suc a))
-      go (yes z) more = rw (here-empty w₀ a z) more
-      go (no n) more =
+      go : Dec (tagAt w₀ a ≡ 0) → Entered w (length code) (takers (nodesHere mode code w₀ a ++ nodesFrom mode code w₀ (suc a)))
+          → (Entered w (length code) (takers (nodesFrom mode code w₀ (suc a))) → Chained (nodesFrom mode code w₀ (suc a)))
+          → Chained (nodesHere mode code w₀ a ++ nodesFrom mode code w₀ (suc a))
+      go (yes z) j later = rw (here-empty w₀ a z) (later (rw (here-empty w₀ a z) at j))
+      go (no n) j rest =
           let h : a ≤ length code = omega arith in
           let r : Node = nodeAt mode code w₀ a in
           let later : List Node = nodesFrom mode code w₀ (suc a) in
+          let there : Entered w (length code) (turnsOf r ++ takers later) = rw (here-block w₀ a n) at j in
+          let more = rest (entered-later w (length code) (turnsOf r) (takers later) there) in
           rw (here-block w₀ a n) (
             more-takers w (length code) (l .short) r h later (shape r (r .block .kind)) (goes-small (length code) _ (l .short) (run-goes mode code (r .block .start)))
-                (typeOf (r .block .kind)) _ _ _ (own-there a h n) (links-there a h n) (more .0),
-            more-parents w (length code) (l .short) a (takerPast (turnsOf r) later) h (r .own .stack) later (more .1) (r .block .kind) (node-within (in-mode mode) lawful code (block-of l a h n))
+                (typeOf (r .block .kind)) _ (own-there a h n) there (more .0),
+            more-parents w (length code) (l .short) a h (r .own .stack) later (more .1) (r .block .kind) (node-within (in-mode mode) lawful code (block-of l a h n))
                 (ap (λ (b : BlockType). b .to) (type-there a h n)) (links-there a h n),
           )
 
-  prepared-rows : Prepared mode code w₀ end w head
+  prepared-rows : Prepared mode code w₀ end w many
   prepared-rows =
-      let c = chained (suc (length code)) 0 (omega arith) in
+      let c = chained (suc (length code)) 0 (omega arith) entered in
       record {
         row = row-is;
         known = record {
           blocks = from-blocks 0 (suc (length code)) (omega arith) ∙ ap (map (λ (x : Node). x .block)) all-rows;
-          takers = rw (p .heads, all-nodes) (rw all-nodes at (c .0));
+          takers = rw (p .counts, all-nodes) (rw all-nodes at (c .0));
           parents =
-              λ t h. rw (first-is w t (firstTo t (nodesFrom mode code w₀ 0)) (omega (arith, small-parents (c .1 t), l .short)) (p .firsts t h) ∙ ap (firstTo t) all-nodes)
+              λ t h. rw (slot-is FIRST w t (firstTo t (nodesFrom mode code w₀ 0)) (omega (arith, small-parents (c .1 t), l .short)) (p .firsts t h) ∙ ap (firstTo t) all-nodes)
               (rw all-nodes at (c .1 t));
         };
         beside = p .beside;
       }
 
-pub prepared-all : {mode : ℕ} {code w₀ : List ℕ} {end : ℕ} → Lent code w₀ end → {w : List ℕ} {i head : ℕ} → Pass mode code w₀ end w i head → i ≡ 0 → Prepared mode code w₀ end w head
+pub prepared-all : {mode : ℕ} {code w₀ : List ℕ} {end : ℕ} → Lent code w₀ end → {w : List ℕ} {i many : ℕ} → Pass mode code w₀ end w i many → i ≡ 0 → Prepared mode code w₀ end w many
 prepared-all l p z = prepared-rows l (rw z at p)

@@ -1,7 +1,7 @@
 -- The pass over the rows, from the last to the first: those from an address on are prepared, and the others hold their blocks as they did. Assumes nothing.
 use mathlib.Core.Path.{_≡_, refl, ap, _∙_, subst}
 use mathlib.Core.Bool.{true, false}
-use mathlib.Core.Option.{Option}
+use mathlib.Core.Option.{Option, none, some}
 use mathlib.Core.List.{List, [], _∷_, _++_, map-append}
 use Prim.Native.Nat.{ℕ, zero, suc, _+_, _-_, _≤_, _<_}
 use native.Mathlib.Omega.{arith}
@@ -13,7 +13,7 @@ use Rattle.spec.specs.Opcodes.{row, in-mode}
 use Rattle.spec.specs.Lists.{if, little}
 use Rattle.spec.specs.Walk.{instructions}
 use Rattle.spec.specs.Blocks.{Kind, terminate, jump, jumpi, dynamic-jump, dynamic-jumpi, Block, block, blocks}
-use Rattle.spec.specs.Stacks.{Sym, run}
+use Rattle.spec.specs.Stacks.{Sym, before, constant, jumpdest, other, run}
 use Rattle.spec.specs.Search.{Node, settled, node, nodes, takers}
 use Rattle.spec.specs.Rooms.{longest}
 use Rattle.lent.specs.Bytes.{numAt}
@@ -23,17 +23,17 @@ use Rattle.laws.proofs.Members.{In}
 use Rattle.theorems.proofs.Counts.{lawful}
 use Rattle.theorems.proofs.Cutting.{made, block-afresh}
 use Rattle.layout.specs.Parts.{rowPlace}
-use Rattle.layout.specs.Rows.{END, FIRST, typed, tagAt, typeAt}
+use Rattle.layout.specs.Rows.{END, FIRST, TAKER, typed, tagAt, typeAt}
 use Rattle.layout.specs.declared.row.BlockType.{BlockType}
 use Rattle.initial.specs.Rows.{typeOf, kindAt, blockAt, rowBlocks, blocksFrom}
 use Rattle.theorems.proofs.Sides.{Within, block-within, node-within}
 use Rattle.initial.proofs.Types.{Good, good}
 use Rattle.initial.proofs.Rows.{here-empty, here-block, by-row, from-one, block-in}
-use Rattle.parents.specs.Rows.{ownBytes, linkBytes, turnsOf, firstTaker, takerPast, edgeTo, firstTo, ownOf, linksOf, nodesHere, nodesFrom}
-use Rattle.parents.specs.Writes.{linkSides, place, goesAt}
+use Rattle.parents.specs.Rows.{ownBytes, linkBytes, takerIn, edgeTo, firstTo, ownOf, linksOf, nodesHere, nodesFrom}
+use Rattle.parents.specs.Writes.{linkSides, place, manyPast, goesAt}
 use Rattle.parents.specs.Contracts.{Lent, Beside, Sides, Wrote, Settles, Settled, PreparesRow, PreparedRow}
-use Rattle.parents.proofs.Slots.{own, first, links, own-type, Rows, rows-ran, rows-sides, rows-placed}
-use Rattle.parents.proofs.prepare.Proof.Settling.{none-own, none-links, first-zero, block-own, block-links, looks, settles}
+use Rattle.parents.proofs.Slots.{own, first, links, entry, own-type, Rows, rows-ran, rows-as, rows-sides, rows-placed}
+use Rattle.parents.proofs.prepare.Proof.Settling.{none-own, none-links, slot-zero, no-first, no-entry, block-own, block-links, looks, settles}
 
 -- the block that starts at an address, with its own run
 abbrev pub nodeAt : ℕ → List ℕ → List ℕ → ℕ → Node
@@ -101,18 +101,20 @@ module _ (n : ℕ) where
 
 -- ---- the pass
 
-pub record Pass (mode : ℕ) (code w₀ : List ℕ) (end : ℕ) (w : List ℕ) (a head : ℕ) : Type 0 where
+pub record Pass (mode : ℕ) (code w₀ : List ℕ) (end : ℕ) (w : List ℕ) (a many : ℕ) : Type 0 where
   pub own-ahead : (x : ℕ) → x < a → own w x ≡ own w₀ x
   pub links-ahead : (x : ℕ) → x < a → links w x ≡ links w₀ x
   pub own-done : (x : ℕ) → a ≤ x → x ≤ length code → own w x ≡ ownOf (nodesHere mode code w₀ x)
   pub links-done : (x : ℕ) → a ≤ x → x ≤ length code → links w x ≡ linksOf (nodesHere mode code w₀ x) (nodesFrom mode code w₀ (suc x))
   pub firsts : (x : ℕ) → x ≤ length code → first w x ≡ little 2 (firstTo x (nodesFrom mode code w₀ a))
-  pub heads : head ≡ firstTaker (takers (nodesFrom mode code w₀ a))
+  pub entries : (x : ℕ) → x ≤ length code → entry w x ≡ little 2 (takerIn x (takers (nodesFrom mode code w₀ a)))
+  pub counts : many ≡ length (takers (nodesFrom mode code w₀ a))
+  pub few : many + a ≤ suc (length code)
   pub beside : Beside code w₀ end w
   pub inside : a ≤ suc (length code)
 
 pub pass-none : {mode : ℕ} {code w : List ℕ} {end : ℕ} → Lent code w end → Pass mode code w end w (length code + 1) 0
-unfolding firstTo
+unfolding firstTo takerIn
 pass-none {mode} {code} {w} l =
     let e : length code + 1 ≡ suc (length code) = omega arith in
     let z = nodes-end mode code w in
@@ -121,11 +123,20 @@ pass-none {mode} {code} {w} l =
       links-ahead = λ x h. refl;
       own-done = λ x h g. absurd (omega arith);
       links-done = λ x h g. absurd (omega arith);
-      firsts = λ x h. rw (e, z) (first-zero (l .laid) x h);
-      heads = rw (e, z);
+      firsts = λ x h. rw (e, z) (slot-zero (l .laid) x h FIRST (omega arith) no-first);
+      entries = λ x h. rw (e, z) (slot-zero (l .laid) x h TAKER (omega arith) no-entry);
+      counts = rw (e, z);
+      few = omega arith;
       beside = record { between = refl; past = refl; kept = refl };
       inside = omega arith;
     }
+
+one-more : (many : ℕ) (g : Option Sym) → manyPast g many ≤ many + 1
+one-more many none = omega arith
+one-more many (some (before p)) = omega arith
+one-more many (some (constant v)) = omega arith
+one-more many (some (jumpdest to)) = omega arith
+one-more many (some (other pc)) = omega arith
 
 -- ---- one row
 
@@ -133,7 +144,7 @@ pass-none {mode} {code} {w} l =
 pub block-of : {code w : List ℕ} {end : ℕ} → Lent code w end → (a : ℕ) → a ≤ length code → (tagAt w a ≡ 0 → ⊥) → In (blockAt w a) (blocks row code (instructions code))
 block-of {code} {w} l a g h = rw (← l .same) (block-in w (length code) a g h)
 
-module _ {mode : ℕ} {code w₀ : List ℕ} {end : ℕ} (l : Lent code w₀ end) {w : List ℕ} {a head : ℕ} (p : Pass mode code w₀ end w (suc a) head) where
+module _ {mode : ℕ} {code w₀ : List ℕ} {end : ℕ} (l : Lent code w₀ end) {w : List ℕ} {a many : ℕ} (p : Pass mode code w₀ end w (suc a) many) where
   here : a ≤ length code
   here = omega (arith, p .inside)
 
@@ -143,28 +154,29 @@ module _ {mode : ℕ} {code w₀ : List ℕ} {end : ℕ} (l : Lent code w₀ end
   block-there : (tagAt w₀ a ≡ 0 → ⊥) → In (blockAt w₀ a) (blocks row code (instructions code))
   block-there h = block-of l a here h
 
-  settles-row : Settles code w end a
+  settles-row : Settles code w end a many
   settles-row =
       record {
         stands = λ h. block-afresh lawful code (block-there (λ z. omega (arith, tag-same)));
         short = l .short;
         row = here;
+        few = omega (arith, p .few);
         room = l .room;
         inside = omega (arith, l .inside, p .beside .kept);
       }
 
-  module _ {w₁ : List ℕ} {r : ℕ} (s : Settled mode code w end a head w₁ r) where
-    ran : Rows code w₀ end a w (s .after) (own w a) (links w a) (λ x. firstTo x (nodesFrom mode code w₀ (suc a)))
-    ran = rows-ran (l .room) (l .inside) here (p .beside) (p .firsts) (s .ran)
+  module _ {w₁ : List ℕ} {r : ℕ} (s : Settled mode code w end a many w₁ r) where
+    ran : Rows code w₀ end a w (s .after) (own w a) (links w a) (λ x. firstTo x (nodesFrom mode code w₀ (suc a))) (λ x. takerIn x (takers (nodesFrom mode code w₀ (suc a))))
+    ran = rows-ran (l .room) (l .inside) here (p .beside) (p .firsts) (p .entries) (s .ran)
 
-    -- after the first stage: the row's type, whose sides lie in the code
-    record Half (o k : List ℕ) (t : BlockType) : Type 0 where
-      rows : Rows code w₀ end a w w₁ o k (λ x. firstTo x (nodesFrom mode code w₀ (suc a)))
+    -- after the first stage, with these blocks at a: the row's type, whose sides lie in the code
+    record Half (hs : List Node) (t : BlockType) : Type 0 where
+      rows : Rows code w₀ end a w w₁ (ownOf hs) (linkBytes 0 0) (λ x. firstTo x (nodesFrom mode code w₀ (suc a))) (λ x. takerIn x (takers (hs ++ nodesFrom mode code w₀ (suc a))))
       type : typeAt w₁ a ≡ t
       to : t .to ≤ length code
       other : t .other ≤ length code
 
-    half-sides : {o k : List ℕ} {t : BlockType} → Half o k t → Sides w₁ a
+    half-sides : {hs : List Node} {t : BlockType} → Half hs t → Sides w₁ a
     half-sides h =
         record {
           own = omega (arith, here, l .inside, l .room, h .rows .beside .kept);
@@ -174,19 +186,19 @@ module _ {mode : ℕ} {code w₀ : List ℕ} {end : ℕ} (l : Lent code w₀ end
 
     -- where no block starts
     module _ (none-there : tagAt w₀ a ≡ 0) where
-      half-none : Half (replicate FIRST 0) (linkBytes 0 0 0) (typed 0 0 0)
+      half-none : Half [] (typed 0 0 0)
       unfolding place goesAt if
       half-none =
           let e : rowBlocks w₀ a ≡ [] = here-empty w₀ a none-there in
           let o : own w a ≡ replicate FIRST 0 = p .own-ahead a (omega arith) ∙ none-own (l .laid) a here e in
-          let k : links w a ≡ linkBytes 0 0 0 = p .links-ahead a (omega arith) ∙ none-links (l .laid) a here e in
+          let k : links w a ≡ linkBytes 0 0 = p .links-ahead a (omega arith) ∙ none-links (l .laid) a here e in
           let q : w₁ ≡ s .after = s .is ∙ rw (tag-same, none-there) in
-          let d : Rows code w₀ end a w w₁ (replicate FIRST 0) (linkBytes 0 0 0) (λ x. firstTo x (nodesFrom mode code w₀ (suc a))) = rw (q, ← o, ← k) ran in
+          let d : Rows code w₀ end a w w₁ (replicate FIRST 0) (linkBytes 0 0) (λ x. firstTo x (nodesFrom mode code w₀ (suc a))) (λ x. takerIn x (takers (nodesFrom mode code w₀ (suc a)))) = rw (q, ← o, ← k) ran in
           record { rows = d; type = own-type w₁ a (typed 0 0 0) 0 0 (d .own-here) (omega arith) (omega arith) (omega arith); to = omega arith; other = omega arith }
 
-      head-none : r ≡ firstTaker (takers (nodesFrom mode code w₀ (suc a)))
+      count-none : r ≡ length (takers (nodesFrom mode code w₀ (suc a)))
       unfolding goesAt if
-      head-none = s .first ∙ rw (tag-same, none-there) (p .heads)
+      count-none = s .count ∙ rw (tag-same, none-there) (p .counts)
 
     -- where a block starts
     module _ (there : tagAt w₀ a ≡ 0 → ⊥) where
@@ -199,7 +211,7 @@ module _ {mode : ℕ} {code w₀ : List ℕ} {end : ℕ} (l : Lent code w₀ end
       row-own : own w a ≡ ownBytes (lastAt w₀ a) (typeOf (kindAt w₀ a)) 0
       row-own = p .own-ahead a (omega arith) ∙ block-own (l .laid) a here (here-block w₀ a there)
 
-      row-links : links w a ≡ linkBytes 0 0 0
+      row-links : links w a ≡ linkBytes 0 0
       row-links = p .links-ahead a (omega arith) ∙ block-links (l .laid) a here (here-block w₀ a there)
 
       row-type : typeAt w a ≡ typeOf (kindAt w₀ a)
@@ -211,12 +223,14 @@ module _ {mode : ℕ} {code w₀ : List ℕ} {end : ℕ} (l : Lent code w₀ end
       unfolding goesAt
       goes-looks = rw (ap (λ (t : BlockType). t .kind) row-type)
 
-      half-block : Half (ownOf (nodeAt mode code w₀ a ∷ [])) (linkBytes 0 0 (takerPast (turnsOf (nodeAt mode code w₀ a)) (nodesFrom mode code w₀ (suc a)))) (typeOf (nodeAt mode code w₀ a .block .kind))
+      half-block : Half (nodeAt mode code w₀ a ∷ []) (typeOf (nodeAt mode code w₀ a .block .kind))
       half-block =
           let x = settles a (lastAt w₀ a) (run (in-mode mode) code (instructions code) a .stack) (nodesFrom mode code w₀ (suc a)) (kindAt w₀ a) (goesFrom mode code a) in
-          let q : w₁ ≡ place (s .after) a (typeOf (kindAt w₀ a)) (looks (kindAt w₀ a) (goesFrom mode code a)) (firstTaker (takers (nodesFrom mode code w₀ (suc a)))) = s .is ∙ rw (row-type, goes-looks, p .heads) in
-          let d = rows-placed (l .room) (l .inside) here (typeOf (kindAt w₀ a)) (lastAt w₀ a) (firstTaker (takers (nodesFrom mode code w₀ (suc a)))) small (rw (row-own, row-links) at ran) (looks (kindAt w₀ a) (goesFrom mode code a)) q in
-          let f : Rows code w₀ end a w w₁ (ownOf (nodeAt mode code w₀ a ∷ [])) (linkBytes 0 0 (takerPast (turnsOf (nodeAt mode code w₀ a)) (nodesFrom mode code w₀ (suc a)))) (λ y. firstTo y (nodesFrom mode code w₀ (suc a))) = rw (x .own-is, x .links-are) at d in
+          let q : w₁ ≡ place (s .after) a (typeOf (kindAt w₀ a)) (looks (kindAt w₀ a) (goesFrom mode code a)) (length (takers (nodesFrom mode code w₀ (suc a)))) = s .is ∙ rw (row-type, goes-looks, p .counts) in
+          let low : length (takers (nodesFrom mode code w₀ (suc a))) ≤ length code = omega (arith, p .few, p .counts) in
+          let d = rows-placed (l .room) (l .inside) here (typeOf (kindAt w₀ a)) (lastAt w₀ a) (length (takers (nodesFrom mode code w₀ (suc a)))) small low (rw (row-own, row-links) at ran) (looks (kindAt w₀ a) (goesFrom mode code a)) q in
+          let f : Rows code w₀ end a w w₁ (ownOf (nodeAt mode code w₀ a ∷ [])) (linkBytes 0 0) (λ y. firstTo y (nodesFrom mode code w₀ (suc a))) (λ y. takerIn y (takers (nodeAt mode code w₀ a ∷ nodesFrom mode code w₀ (suc a)))) =
+          rows-as (l .room) (l .inside) here (rw (x .own-is) at d) _ _ (λ y. refl) (x .entries-are) in
           let v = node-within (in-mode mode) lawful code (block-there there) in
           let g = good-within (length code) (l .short) (nodeAt mode code w₀ a .block .kind) v in
           record {
@@ -226,10 +240,10 @@ module _ {mode : ℕ} {code w₀ : List ℕ} {end : ℕ} (l : Lent code w₀ end
             other = type-other (length code) (nodeAt mode code w₀ a .block .kind) v;
           }
 
-      head-block : r ≡ firstTaker (takers (nodeAt mode code w₀ a ∷ nodesFrom mode code w₀ (suc a)))
-      head-block =
+      count-block : r ≡ length (takers (nodeAt mode code w₀ a ∷ nodesFrom mode code w₀ (suc a)))
+      count-block =
           let x = settles a (lastAt w₀ a) (run (in-mode mode) code (instructions code) a .stack) (nodesFrom mode code w₀ (suc a)) (kindAt w₀ a) (goesFrom mode code a) in
-          s .first ∙ rw (goes-looks, p .heads) (x .head-is)
+          s .count ∙ rw (goes-looks, p .counts) (x .count-is)
 
     settled-sides : Sides w₁ a
     settled-sides = go (ℕ-discrete (tagAt w₀ a) 0)
@@ -242,13 +256,14 @@ module _ {mode : ℕ} {code w₀ : List ℕ} {end : ℕ} (l : Lent code w₀ end
     module _ {w₂ : List ℕ} (d : Wrote w₁ w₂ (linkSides w₁ a (typeAt w₁ a))) where
       record Turned (hs : List Node) : Type 0 where
         rows : Rows code w₀ end a w w₂ (ownOf hs) (linksOf hs (nodesFrom mode code w₀ (suc a))) (λ x. firstTo x (hs ++ nodesFrom mode code w₀ (suc a)))
-        head-is : r ≡ firstTaker (takers (hs ++ nodesFrom mode code w₀ (suc a)))
+            (λ x. takerIn x (takers (hs ++ nodesFrom mode code w₀ (suc a))))
+        count-is : r ≡ length (takers (hs ++ nodesFrom mode code w₀ (suc a)))
 
       turned-none : tagAt w₀ a ≡ 0 → Turned []
       unfolding linkSides if
       turned-none z =
           let h = half-none z in
-          record { rows = rw (d .is ∙ ap (linkSides w₁ a) (h .type)) (h .rows); head-is = head-none z }
+          record { rows = rw (d .is ∙ ap (linkSides w₁ a) (h .type)) (h .rows); count-is = count-none z }
 
       turned-block : (tagAt w₀ a ≡ 0 → ⊥) → Turned (nodeAt mode code w₀ a ∷ [])
       unfolding firstTo
@@ -256,10 +271,10 @@ module _ {mode : ℕ} {code w₀ : List ℕ} {end : ℕ} (l : Lent code w₀ end
           let h = half-block n in
           record {
             rows =
-                rows-sides (l .room) (l .inside) here (nodesFrom mode code w₀ (suc a)) (takerPast (turnsOf (nodeAt mode code w₀ a)) (nodesFrom mode code w₀ (suc a)))
+                rows-sides (l .room) (l .inside) here (nodesFrom mode code w₀ (suc a))
                 (first-small mode code w₀ (l .short) (suc a) (p .inside)) (nodeAt mode code w₀ a .block .kind) (node-within (in-mode mode) lawful code (block-there n)) (h .rows)
                 (d .is ∙ ap (linkSides w₁ a) (h .type));
-            head-is = head-block n;
+            count-is = count-block n;
           }
 
       turned : Turned (nodesHere mode code w₀ a)
@@ -279,7 +294,9 @@ module _ {mode : ℕ} {code w₀ : List ℕ} {end : ℕ} (l : Lent code w₀ end
             own-done = λ x h g. own-at x h g (ℕ-discrete x a);
             links-done = λ x h g. links-at x h g (ℕ-discrete x a);
             firsts = λ x h. rw e (t .rows .firsts x h);
-            heads = rw e (t .head-is);
+            entries = λ x h. rw e (t .rows .entries x h);
+            counts = rw e (t .count-is);
+            few = omega (arith, p .few, s .count, one-more many (goesAt mode code w a));
             beside = t .rows .beside;
             inside = omega (arith, here);
           }
@@ -294,12 +311,12 @@ module _ {mode : ℕ} {code w₀ : List ℕ} {end : ℕ} (l : Lent code w₀ end
 
 -- ---- as the loop has it: the address before is next
 
-module _ {mode : ℕ} {code w₀ : List ℕ} {end : ℕ} (l : Lent code w₀ end) {w : List ℕ} {i head : ℕ} (p : Pass mode code w₀ end w i head) (some-left : i ≡ 0 → ⊥) where
-  back : Pass mode code w₀ end w (suc (i - 1)) head
-  back = let e : i ≡ suc (i - 1) = omega arith in subst (λ (j : ℕ). Pass mode code w₀ end w j head) e p
+module _ {mode : ℕ} {code w₀ : List ℕ} {end : ℕ} (l : Lent code w₀ end) {w : List ℕ} {i many : ℕ} (p : Pass mode code w₀ end w i many) (some-left : i ≡ 0 → ⊥) where
+  back : Pass mode code w₀ end w (suc (i - 1)) many
+  back = let e : i ≡ suc (i - 1) = omega arith in subst (λ (j : ℕ). Pass mode code w₀ end w j many) e p
 
-  pub pass-row : PreparesRow mode code w end (i - 1) head
+  pub pass-row : PreparesRow mode code w end (i - 1) many
   pass-row = record { settles = settles-row l back; sides = λ v r s. settled-sides l back s }
 
-  pub pass-more : {w₂ : List ℕ} {r : ℕ} → PreparedRow mode code w end (i - 1) head w₂ r → Pass mode code w₀ end w₂ (i - 1) r
+  pub pass-more : {w₂ : List ℕ} {r : ℕ} → PreparedRow mode code w end (i - 1) many w₂ r → Pass mode code w₀ end w₂ (i - 1) r
   pass-more d = passed l back (d .settled) (d .linked)

@@ -1,4 +1,4 @@
-use Rattle.parents.proofs.Leaves.{settle-static, settle-runs, settle-nowhere, settle-placed}
+use Rattle.parents.proofs.Leaves.{settle-static, settle-runs, settle-room, settle-nowhere, settle-placed}
 use borrow.Author.Needs.{needs}
 use Rattle.parents.proofs.settle.settle.Statement.{statement}
 use Rattle.parents.proofs.settle.settle.Tie as tie
@@ -8,6 +8,9 @@ returns c = search settle-static
 
 run-requires : tie.Need-run-requires
 run-requires c κs = search settle-runs
+
+place-requires : tie.Need-place-requires
+place-requires c κs = search settle-room
 
 returns-2 : tie.Need-returns-2
 returns-2 c = search settle-nowhere
@@ -25,7 +28,7 @@ settle-spec =
     run-requires
     (λ c. search needs)
     (λ c. search needs)
-    (λ c κs. search needs)
+    place-requires
     (λ c. search needs)
     returns-2
     (λ c. search needs)

@@ -6,12 +6,13 @@ use mathlib.Core.Path.{_∙_}
 use native.Mathlib.Omega.{arith}
 use borrow.Author.Needs.{needs}
 use Rattle.layout.specs.Buffers.{buffers}
+use Rattle.steps.specs.Plans.{planIn}
 use Rattle.resolver.proofs.rounds.rounds.Statement.{statement}
 use Rattle.resolver.proofs.rounds.rounds.Tie as tie
 
 abbrev Inv-loop : tie.InvT-loop
 Inv-loop code w₀ p₀ s₀ t₀ r₀ q₀ k cur₀ since₀ left₀ w p s t r q cur since left =
-    RoundsSoFar code k (buffers w₀ p₀ s₀ t₀ r₀ q₀) cur₀ (buffers w p s t r q) cur since left
+    RoundsSoFar code (planIn k) (buffers w₀ p₀ s₀ t₀ r₀ q₀) cur₀ (buffers w p s t r q) cur since left
 
 abbrev μ-loop : tie.MeasureT-loop
 μ-loop code w₀ p₀ s₀ t₀ r₀ q₀ k cur₀ since₀ left₀ w p s t r q cur since left = left
@@ -24,9 +25,6 @@ returns c = search so-far-limit
 
 hand-all-requires : tie.Need-hand-all-requires Inv-loop μ-loop
 hand-all-requires c κs = search so-far-settles
-
-round-requires : tie.Need-round-requires Inv-loop μ-loop
-round-requires c κs = search so-far-asks
 
 -- The moments that the answers cite, from later ones: a far one is found by its type.
 abbrev to-loop : tie.After-hand-all Inv-loop μ-loop → tie.At-loop Inv-loop μ-loop
@@ -41,11 +39,19 @@ to-if1 c = search
 abbrev to-hand-all : tie.After-round Inv-loop μ-loop → tie.After-hand-all Inv-loop μ-loop
 to-hand-all c = search
 
-abbrev to-round : tie.After-struct-known3 Inv-loop μ-loop → tie.After-round Inv-loop μ-loop
+abbrev to-round : tie.After-struct-known2 Inv-loop μ-loop → tie.After-round Inv-loop μ-loop
 to-round c = search
 
-abbrev to-if2 : tie.After-struct-known4 Inv-loop μ-loop → tie.Else2 Inv-loop μ-loop
+abbrev to-if2 : tie.After-struct-known3 Inv-loop μ-loop → tie.Else2 Inv-loop μ-loop
 to-if2 c = search
+
+abbrev to-hand-all-from-round-arg6 : tie.After-round-arg6 Inv-loop μ-loop → tie.After-hand-all Inv-loop μ-loop
+to-hand-all-from-round-arg6 c = search
+
+round-requires : tie.Need-round-requires Inv-loop μ-loop
+round-requires c κs =
+    let at-hand-all = to-hand-all-from-round-arg6 c in
+    so-far-asks (to-loop at-hand-all .loop .inv) (at-hand-all .hand-all .ensures)
 
 same-length-7 : tie.Need-same-length-7 Inv-loop μ-loop
 same-length-7 c =
@@ -157,7 +163,9 @@ rounds-spec =
     (λ c. search needs)
     (λ c. search needs)
     (λ c. search needs)
+    (λ c. search needs)
     returns
+    (λ c. search needs)
     hand-all-requires
     round-requires
     same-length-7

@@ -4,6 +4,7 @@ use mathlib.Core.Path.{ap, _∙_}
 use native.Mathlib.Omega.{arith}
 use borrow.Author.Needs.{needs}
 use Rattle.tables.specs.declared.Rooms.{Rooms}
+use Rattle.steps.specs.Plans.{Plan}
 use SearchBegins.{known-within, search-room, search-heads, search-begins, search-asks, search-done}
 use Rattle.resolver.proofs.rounds.search.Statement.{statement}
 use Rattle.resolver.proofs.rounds.search.Tie as tie
@@ -24,7 +25,7 @@ to-plan-of c = search
 abbrev to-plan-of-from-begin-rows-arg : tie.After-begin-rows-arg → tie.After-plan-of
 to-plan-of-from-begin-rows-arg c = search
 
-abbrev to-reach : tie.After-struct-known → tie.After-reach
+abbrev to-reach : tie.After-wipe-part-arg → tie.After-reach
 to-reach c = search
 
 abbrev to-wipe-part : tie.After-begin-rows → tie.After-wipe-part
@@ -36,7 +37,7 @@ to-wipe-part-from-rounds c = search
 abbrev to-begin-rows : tie.After-begin → tie.After-begin-rows
 to-begin-rows c = search
 
-abbrev to-begin : tie.After-rounds-arg6 → tie.After-begin
+abbrev to-begin : tie.After-plan → tie.After-begin
 to-begin c = search
 
 abbrev to-rounds : tie.After-slice-known15 → tie.After-rounds
@@ -49,15 +50,15 @@ mul-wipe-part : tie.Need-mul-wipe-part
 mul-wipe-part c = record { fits = omega (arith, to-entry (to-rooms-of c) .pre .short) }
 
 mul-wipe-part-2 : tie.Need-mul-wipe-part-2
-mul-wipe-part-2 c = record { fits = omega (arith, search-heads (to-plan-of (to-reach c) .plan-of .ensures) (to-entry (to-rooms-of (c .before)) .pre) .1) }
+mul-wipe-part-2 c = record { fits = omega (arith, search-heads (to-plan-of (to-reach c) .plan-of .ensures) (to-entry (to-rooms-of c) .pre) .1) }
 
 wipe-part-requires : tie.Need-wipe-part-requires
-wipe-part-requires c κs = omega (arith, search-heads (to-plan-of (to-reach c) .plan-of .ensures) (to-entry (to-rooms-of (c .before)) .pre) .0, to-reach c .reach .kept .0)
+wipe-part-requires c κs = omega (arith, search-heads (to-plan-of (to-reach c) .plan-of .ensures) (to-entry (to-rooms-of c) .pre) .0, to-reach c .reach .kept .0)
 
 begin-rows-requires : tie.Need-begin-rows-requires
 begin-rows-requires c κs =
     let at-plan-of = to-plan-of-from-begin-rows-arg c in
-    search-begins _ (at-plan-of .plan-of .ensures) (ap (λ (x : Rooms). x .t) (at-plan-of .before .rooms-of .ensures))
+    search-begins _ (ap (λ (x : Plan). x .shelves) (at-plan-of .plan-of .ensures)) (ap (λ (x : Rooms). x .t) (at-plan-of .before .rooms-of .ensures))
 
 rounds-requires : tie.Need-rounds-requires
 rounds-requires c κs =
@@ -95,8 +96,10 @@ search-spec =
     reach-requires
     add-wipe-part
     mul-wipe-part
+    (λ c. search needs)
     mul-wipe-part-2
     wipe-part-requires
+    (λ c. search needs)
     begin-rows-requires
     (λ c κs. search needs)
     rounds-requires

@@ -11,8 +11,16 @@ copy-requires c κs = search place-copies
 put16-requires : tie.Need-put16-requires
 put16-requires c κs = search place-puts
 
+abbrev to-entry-from-put16 : tie.After-put16 → tie.Start
+to-entry-from-put16 c = search
+
+abbrev to-put16 : tie.After-count-arg3 → tie.After-put16
+to-put16 c = search
+
 count-requires : tie.Need-count-requires
-count-requires c κs = search place-counts
+count-requires c κs =
+    let at-put16 = to-put16 c in
+    place-counts (to-entry-from-put16 at-put16 .pre) (at-put16 .put16 .ensures)
 
 -- The moments that the answers cite, from later ones: a far one is found by its type.
 abbrev to-entry : tie.After-count → tie.Start
@@ -36,6 +44,7 @@ first-level-spec =
     (λ c. search needs)
     copy-requires
     put16-requires
+    (λ c. search needs)
     count-requires
     position-at-requires
     (λ c. search needs)

@@ -1,4 +1,5 @@
 -- `land`: there is no destination, the record is new and its destination is marked, or nothing is. Assumes nothing.
+use mathlib.Core.Path.{_∙_}
 use borrow.Author.Needs.{needs}
 use Rattle.steps.proofs.Lands.{lands-few, lands-address, lands-within, landed-nowhere, landed-new, landed-old}
 use Rattle.steps.proofs.land.land.Statement.{statement}
@@ -52,15 +53,23 @@ pub land-spec : {M : Type 1} → statement M
 land-spec =
     tie.close
     (tie.spec
+    (λ c. search needs)
+    (λ c. search needs)
+    (λ c. search needs)
+    (λ c. search needs)
+    (λ c. search needs)
+    (λ c. search needs)
+    (λ c. search needs)
     (λ c κs. search needs)
     (λ c. search needs)
     (λ c. search needs)
     (λ c. search needs)
     (λ c. search needs)
     returns
+    (λ c. search needs)
     add-mark-found
     mark-found-requires
-    (λ c. search needs)
+    (λ c. to-mark-found c .mark-found .kept .0 ∙ to-record-entry (to-if1 (to-if2 (to-mark-found c .before))) .record-entry .kept .0)
     (λ c. search needs)
     (λ c. search needs)
     (λ c. search needs)

@@ -5,8 +5,8 @@ use Rattle.steps.proofs.Takes.{direct-runs, direct-readable, direct-sho
 use Rattle.steps.proofs.state_of.take_direct.Statement.{statement}
 use Rattle.steps.proofs.state_of.take_direct.Tie as tie
 
-run-requires : tie.Need-run-requires
-run-requires c κs = search direct-runs
+run-block-requires : tie.Need-run-block-requires
+run-block-requires c κs = search direct-runs
 
 symbol-at-requires : tie.Need-symbol-at-requires
 symbol-at-requires c κs = search direct-readable
@@ -18,19 +18,19 @@ returns c = search direct-short
 abbrev to-entry : tie.After-parent-start → tie.Start
 to-entry c = search
 
-abbrev to-parent-start : tie.After-run → tie.After-parent-start
+abbrev to-parent-start : tie.After-run-block → tie.After-parent-start
 to-parent-start c = search
 
-abbrev to-run : tie.After-struct-known4 → tie.After-run
+abbrev to-run : tie.After-struct-known3 → tie.After-run-block
 to-run c = search
 
 abbrev to-composed-len : tie.Else1 → tie.After-composed-len
 to-composed-len c = search
 
-abbrev to-if1 : tie.After-struct-known4 → tie.Else1
+abbrev to-if1 : tie.After-struct-known3 → tie.Else1
 to-if1 c = search
 
-abbrev to-run-from-end : tie.After-slice-known4 → tie.After-run
+abbrev to-run-from-end : tie.After-slice-known4 → tie.After-run-block
 to-run-from-end c = search
 
 mul-compose-own : tie.Need-mul-compose-own
@@ -48,13 +48,13 @@ compose-own-requires c κs =
     let at-run = to-run (c .before) in
     let at-parent-start = to-parent-start at-run in
     let p = to-entry at-parent-start .pre in
-    direct-composes (p .0) (p .1) (at-parent-start .parent-start .ensures) (at-run .run .ensures) (at-composed-len .before .base-at .ensures) (at-composed-len .composed-len .ensures) (at-if1 .if1 .left)
+    direct-composes (p .0) (p .1) (at-parent-start .parent-start .ensures) (at-run .run-block .ensures) (at-composed-len .before .base-at .ensures) (at-composed-len .composed-len .ensures) (at-if1 .if1 .left)
 
 returns-2 : tie.Need-returns-2
 returns-2 c =
     let p = to-entry (to-parent-start (to-run-from-end c)) .pre in
     let a = to-parent-start (to-run-from-end c) .parent-start .ensures in
-    let o = to-run-from-end c .run .ensures in
+    let o = to-run-from-end c .run-block .ensures in
     search direct-took
 
 pub take-direct-spec : {M : Type 1} → statement M
@@ -62,11 +62,12 @@ take-direct-spec =
     tie.close
     (tie.spec
     (λ c κs. search needs)
-    run-requires
+    run-block-requires
     symbol-at-requires
     (λ c. search needs)
     (λ c κs. search needs)
     (λ c κs. search needs)
+    (λ c. search needs)
     (λ c. search needs)
     (λ c. search needs)
     (λ c. search needs)

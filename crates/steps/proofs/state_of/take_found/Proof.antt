@@ -6,13 +6,13 @@ use Rattle.steps.proofs.state_of.take_found.Statement.{statement}
 use Rattle.steps.proofs.state_of.take_found.Tie as tie
 
 -- The moments that the answers cite, from later ones: a far one is found by its type.
-abbrev to-entry : tie.After-rooms → tie.Start
+abbrev to-entry : tie.After-room → tie.Start
 to-entry c = search
 
-abbrev to-rooms : tie.After-kept-before → tie.After-rooms
-to-rooms c = search
+abbrev to-room : tie.After-kept-before → tie.After-room
+to-room c = search
 
-abbrev to-get32 : tie.After-struct-known5 → tie.After-get32
+abbrev to-get32 : tie.After-struct-known3 → tie.After-get32
 to-get32 c = search
 
 abbrev to-kept-before : tie.After-base-at → tie.After-kept-before
@@ -24,7 +24,7 @@ to-base-at c = search
 abbrev to-composed-len : tie.Else1 → tie.After-composed-len
 to-composed-len c = search
 
-abbrev to-if1 : tie.After-struct-known6 → tie.Else1
+abbrev to-if1 : tie.After-struct-known4 → tie.Else1
 to-if1 c = search
 
 mul-get32 : tie.Need-mul-get32
@@ -47,10 +47,17 @@ sub-theirs : tie.Need-sub-theirs
 sub-theirs c = search found-rises
 
 sub-from : tie.Need-sub-from
-sub-from c = search found-inside
+sub-from c =
+    let at-get32 = c .before in
+    let p = to-entry (at-get32 .before) .pre in
+    found-inside (p .0) (p .1) (at-get32 .get32 .ensures)
 
 symbol-at-requires : tie.Need-symbol-at-requires
-symbol-at-requires c κs = search found-readable
+symbol-at-requires c κs =
+    let at-kept-before = c .before in
+    let at-get32 = at-kept-before .before in
+    let p = to-entry (at-get32 .before) .pre in
+    found-readable (p .0) (p .1) (at-get32 .get32 .ensures) (at-kept-before .kept-before .ensures)
 
 returns : tie.Need-returns
 returns c = search found-short
@@ -74,7 +81,7 @@ compose-kept-requires c κs =
 
 returns-2 : tie.Need-returns-2
 returns-2 c =
-    let p = to-entry (to-rooms (to-kept-before (to-base-at c))) .pre in
+    let p = to-entry (to-room (to-kept-before (to-base-at c))) .pre in
     let a = to-kept-before (to-base-at c) .before .get32 .ensures in
     let b = to-kept-before (to-base-at c) .kept-before .ensures in
     search found-took
@@ -83,6 +90,7 @@ pub take-found-spec : {M : Type 1} → statement M
 take-found-spec =
     tie.close
     (tie.spec
+    (λ c. search needs)
     (λ c. search needs)
     mul-get32
     add-get32

@@ -32,17 +32,17 @@ module _ {limit : ℕ} {code w w₁ : List ℕ} (l : Lends limit code w) (i : In
     pub run-lends : parents.Lent code w₁ room
     run-lends = record { short = l .short; same = i .same; laid = i .laid; room = omega arith; inside = omega (arith, l .lent, i .beyond .kept) }
 
-  module _ {room : ℕ} (is : room ≡ work-need (length code)) (mode : Mode) {w₂ : List ℕ} {head : ℕ} (made : Prepared (modeOf mode) code w₁ room w₂ head) where
-    p : Prepared (modeOf mode) code w₁ (work-need (length code)) w₂ head
-    p = subst (λ (k : ℕ). Prepared (modeOf mode) code w₁ k w₂ head) is made
+  module _ {room : ℕ} (is : room ≡ work-need (length code)) (mode : Mode) {w₂ : List ℕ} {many : ℕ} (made : Prepared (modeOf mode) code w₁ room w₂ many) where
+    p : Prepared (modeOf mode) code w₁ (work-need (length code)) w₂ many
+    p = subst (λ (k : ℕ). Prepared (modeOf mode) code w₁ k w₂ many) is made
 
     long-w : length w₂ ≡ length w
     long-w = p .beside .kept ∙ i .beyond .kept
 
-    pub run-asks : SearchAsks mode code w₂ limit head
+    pub run-asks : SearchAsks mode code w₂ limit many
     run-asks = record { short = l .short; limited = l .limited; lent = omega (arith, l .lent, long-w); known = p .known }
 
-    module _ {P S T R Q : List ℕ} {m₃ : Mem} {d : Run} (s : Searched mode code limit head (buffers w₂ P S T R Q) m₃ d) where
+    module _ {P S T R Q : List ℕ} {m₃ : Mem} {d : Run} (s : Searched mode code limit many (buffers w₂ P S T R Q) m₃ d) where
       code-is : (out : List ℕ) → d .code ≡ shortage (lentOf (buffers w P S T R Q) out) (searched (in-mode (modeOf mode)) limit code .needs)
       unfolding searched
       code-is out = s .short (lentOf (buffers w P S T R Q) out) refl refl refl refl refl
@@ -50,17 +50,17 @@ module _ {limit : ℕ} {code w w₁ : List ℕ} (l : Lends limit code w) (i : In
       module _ (long : length (m₃ .w) ≡ length w₂) where
         -- no room was short
         module _ (z : d .code ≡ 0) where
-          run-fits : graph.Fits (modeOf mode) code (m₃ .s) (plan mode code limit head (buffers w₂ P S T R Q) .rooms .s) (length code) (d .counts .records) (m₃ .w) (m₃ .r) (m₃ .q)
+          run-fits : graph.Fits (modeOf mode) code (m₃ .s) (plan mode code limit many (buffers w₂ P S T R Q) .rooms .s) (length code) (d .counts .records) (m₃ .w) (m₃ .r) (m₃ .q)
           unfolding occurs
           run-fits =
               search-fits (modeOf mode) limit code (s .between z .idle .tables) refl (known-prefix (m₃ .w) (sym (s .rows z)) (p .known) .blocks)
               (record { short = l .short; room = omega (arith, l .lent, long, long-w) }) (s .recs z) (s .between z .idle .counts .counts)
 
           pub run-graphs : Graphs (length code) (d .counts .records) (m₃ .w) (m₃ .r) (m₃ .q)
-          run-graphs = record { mode = modeOf mode; code = code; states = m₃ .s; room = plan mode code limit head (buffers w₂ P S T R Q) .rooms .s; fits = run-fits }
+          run-graphs = record { mode = modeOf mode; code = code; states = m₃ .s; room = plan mode code limit many (buffers w₂ P S T R Q) .rooms .s; fits = run-fits }
 
           abbrev found : List Rec
-          found = recsIn (plan mode code limit head (buffers w₂ P S T R Q)) m₃ (d .counts)
+          found = recsIn (plan mode code limit many (buffers w₂ P S T R Q)) m₃ (d .counts)
 
           map-is : (choice : ℕ) → mapOf (modeOf mode) code found (d .energy) choice ≡ mapped (in-mode (modeOf mode)) choice code (searched (in-mode (modeOf mode)) limit code)
           unfolding mapped searched

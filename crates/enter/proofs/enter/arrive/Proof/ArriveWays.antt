@@ -19,11 +19,11 @@ use Rattle.tables.proofs.Noted.{new-nowhere, new-at}
 use Rattle.tables.specs.declared.Reply.{Reply}
 use Rattle.tables.specs.declared.row.Seen.{Seen}
 use Rattle.steps.specs.Lands.{Lands, Noted}
-use Rattle.enter.specs.Enters.{endedWith, openWith, Ended, Ends, at-jumpdest, at-constant, at-other, entryOf, Arriving, Arrived}
-use Rattle.steps.specs.declared.Plan.{Plan}
+use Rattle.enter.specs.Enters.{Opening, openingOf, endedWith, openAt, Ended, Ends, at-jumpdest, at-constant, at-other, entryOf, Arriving, Arrived}
+use Rattle.steps.specs.Plans.{Plan}
 use Rattle.steps.specs.declared.Level.{Level}
 use Rattle.steps.specs.declared.Run.{Run}
-use Rattle.enter.specs.declared.enter.Opening.{Opening}
+use Rattle.enter.specs.declared.enter.Deeper.{Deeper}
 use Rattle.enter.proofs.PathEnds.{ended-with}
 
 -- the tags of what is no Before
@@ -52,9 +52,9 @@ entry-energy start x energy (other pc) = refl
 
 module _ {p : List ℕ} {np start : ℕ} {k : Plan} {m : tables.Mem} {l : Level} {x : Seen} {o : Run} where
   -- a Before has no end
-  pub arrived-before : {n : ℕ} {e : Opening} → x .symbol ≡ Before n → e ≡ openWith o np n x l → Arrived p np k m start l x o m e
+  pub arrived-before : {n : ℕ} {d : Deeper} → x .symbol ≡ Before n → d ≡ openAt np n x l → Arrived p np k m start l x o m (openingOf o d)
   arrived-before {n} g f = record {
-    opens = λ i h. (f ∙ ap (λ (j : ℕ). openWith o np j x l) (ap value (rw g at h)), refl);
+    opens = λ i h. (ap (openingOf o) (f ∙ ap (λ (j : ℕ). openAt np j x l) (ap value (rw g at h))), refl);
     ends = λ y h. absurd (none-there (rw g at h));
   }
     where

@@ -37,11 +37,10 @@ use Rattle.steps.specs.Sound.{SoundRec}
 use Rattle.steps.specs.Lands.{Lands, Noted}
 use Rattle.steps.specs.Runs.{stOf, Did}
 use Rattle.enter.specs.Fits.{Fits, levelOf, held, Stays}
-use Rattle.enter.specs.Enters.{refusedWith, shutWith, endedWith, SkipAsks, skips, going, onward, Ended, Outcome, Entering, Entered, Following, Followed}
-use Rattle.steps.specs.declared.Plan.{Plan}
+use Rattle.enter.specs.Enters.{Opening, refusedWith, shutWith, endedWith, SkipAsks, skips, going, onward, Ended, Outcome, Entering, Entered, Following, Followed}
+use Rattle.steps.specs.Plans.{Plan}
 use Rattle.steps.specs.declared.Level.{Level}
 use Rattle.steps.specs.declared.Run.{Run}
-use Rattle.enter.specs.declared.enter.Opening.{Opening}
 use Rattle.steps.proofs.Founds.{recs-take}
 use Rattle.steps.proofs.Found.{loops-one, loops-found}
 use Rattle.steps.proofs.Splits.{inside-append}

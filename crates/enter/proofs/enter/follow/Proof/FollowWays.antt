@@ -9,7 +9,6 @@ use Rattle.spec.specs.Lists.{lastOf}
 use Rattle.spec.specs.Stacks.{Sym, before, constant, jumpdest, other}
 use Rattle.spec.specs.Search.{Found, nowhere, found, Turn, follow}
 use Rattle.layout.specs.Buffers.{Mem, buffers}
-use Rattle.exec.specs.Modes.{modeOf}
 use Rattle.state.specs.Symbols.{symOf}
 use Rattle.state.specs.Cells.{stackAt}
 use Rattle.tables.specs.Addrs.{addrs}
@@ -23,19 +22,18 @@ use Rattle.steps.specs.States.{Took}
 use Rattle.steps.specs.Meets as meets
 use Rattle.steps.specs.Meets.{Meets}
 use Rattle.enter.specs.Fits.{levelOf, held}
-use Rattle.enter.specs.Enters.{afterWith, refusedWith, shutWith, Ends, at-jumpdest, at-constant, at-other, Arriving, Arrived, Outcome, Saw, Following, Followed}
-use Rattle.steps.specs.declared.Plan.{Plan}
+use Rattle.enter.specs.Enters.{Opening, afterWith, refusedWith, shutWith, Ends, at-jumpdest, at-constant, at-other, Arriving, Arrived, Outcome, Saw, Following, Followed}
+use Rattle.steps.specs.Plans.{Plan}
 use Rattle.steps.specs.declared.Level.{Level}
 use Rattle.steps.specs.declared.Run.{Run}
 use Rattle.steps.specs.declared.state_of.Taken.{Taken}
 use Rattle.steps.specs.declared.meet.Meeting.{Meeting}
-use Rattle.enter.specs.declared.enter.Opening.{Opening}
 use Rattle.steps.proofs.Sound.{sound-read}
 use Rattle.enter.proofs.TurnKept.{fits-within, fits-taken, fits-met}
 use Rattle.enter.proofs.enter.follow.Proof.StepsFourToSix.{last-of, follow-short, follow-met, follow-full, follow-opens, follow-ends}
 
 module _ {code : List ℕ} {k : Plan} {start : ℕ} {l : Level} {at np : ℕ} {w p s t r q : List ℕ} {o : Run} (h : Following code k start l at np (buffers w p s t r q) o)
-    {w′ s′ : List ℕ} {x : Taken} (a : Took code w s k (o .counts) l (stackCursor (modeOf (k .mode)) code r s (k .rooms .s) at) w′ s′ x) where
+    {w′ s′ : List ℕ} {x : Taken} (a : Took code w s k (o .counts) l (stackCursor (k .mode) code r s (k .rooms .s) at) w′ s′ x) where
   abbrev Comes-to : Turn → ℕ → ℕ → Mem → Opening → Type 0
   Comes-to turn since b m′ e =
       Outcome code k turn since start (λ deeper. follow turn deeper (levelOf (buffers w p s t r q) l) (held code k (buffers w p s t r q) b at) (addrs p 0 np)) l

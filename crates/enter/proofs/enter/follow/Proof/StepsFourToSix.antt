@@ -18,7 +18,6 @@ use Rattle.lent.specs.Bytes.{numAt}
 use Rattle.layout.specs.Marks.{NOWHERE}
 use Rattle.layout.specs.Records.{toAt, keptOf}
 use Rattle.layout.specs.Buffers.{Mem, buffers}
-use Rattle.exec.specs.Modes.{modeOf}
 use Rattle.state.specs.Symbols.{symOf}
 use Rattle.state.specs.Cells.{stackAt, State, Lies}
 use Rattle.exec.specs.Owns.{roomOf}
@@ -41,7 +40,7 @@ use Rattle.steps.specs.Lands.{Noted}
 use Rattle.steps.specs.Runs.{recsIn, stOf, Did}
 use Rattle.enter.specs.Fits.{Fits, levelOf, Stands, held, Stays}
 use Rattle.enter.specs.Enters.{refusedWith, shutWith, openWith, Ends, at-jumpdest, at-constant, at-other, Outcome, Following}
-use Rattle.steps.specs.declared.Plan.{Plan}
+use Rattle.steps.specs.Plans.{Plan}
 use Rattle.steps.specs.declared.Level.{Level}
 use Rattle.steps.specs.declared.Run.{Run}
 use Rattle.steps.specs.declared.state_of.Taken.{Taken}
@@ -78,7 +77,7 @@ module _ {code : List ℕ} {k : Plan} {start : ℕ} {l : Level} {at np : ℕ} {w
   M = buffers w p s t r q
 
   abbrev par : Stack
-  par = stackCursor (modeOf (k .mode)) code r s (k .rooms .s) at
+  par = stackCursor (k .mode) code r s (k .rooms .s) at
 
   abbrev child : Stack
   child = stackAt s (9 * l .from) (l .cells)
@@ -114,9 +113,10 @@ module _ {code : List ℕ} {k : Plan} {start : ℕ} {l : Level} {at np : ℕ} {w
         deep = omega (arith, z .sound .deep, z .room, f .planned .mostP);
         deeper = omega (arith, y .sound .deep, more-is, few-more);
         near = omega (arith, z .near, z .room, f .planned .mostP);
+        moded = f .planned .moded;
       }
 
-  module _ {w′ s′ : List ℕ} {x : Taken} (a : Took code w s k (o .counts) l (stackCursor (modeOf (k .mode)) code r s (k .rooms .s) at) w′ s′ x) where
+  module _ {w′ s′ : List ℕ} {x : Taken} (a : Took code w s k (o .counts) l (stackCursor (k .mode) code r s (k .rooms .s) at) w′ s′ x) where
     abbrev new : Stack
     new = compose child par
 

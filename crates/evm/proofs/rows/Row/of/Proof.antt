@@ -8,4 +8,12 @@ returns : tie.Need-returns
 returns c = search row-is
 
 pub of-spec : {M : Type 1} → statement M
-of-spec = tie.close (tie.spec (λ c κs. search needs) (λ c κs. search needs) (λ c. search needs) returns)
+of-spec =
+    tie.close
+    (tie.spec
+    (λ c κs. search needs)
+    (λ c κs. search needs)
+    (λ c. search needs)
+    (λ c. search needs)
+    (λ c. search needs)
+    returns)

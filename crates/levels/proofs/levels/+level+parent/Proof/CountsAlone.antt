@@ -11,7 +11,7 @@ use Rattle.tables.specs.declared.Counts.{Counts}
 use Rattle.tables.proofs.Uses.{tables-kept}
 use Rattle.steps.specs.Paths.{CountsOnly, Counting, Uncounting, OnPath}
 use Rattle.enter.specs.Fits.{Fits, Stands}
-use Rattle.steps.specs.declared.Plan.{Plan}
+use Rattle.steps.specs.Plans.{Plan}
 use Rattle.steps.specs.declared.Level.{Level}
 use Rattle.levels.proofs.WorkKept.{alike-counts, alike-marks}
 
@@ -29,6 +29,7 @@ module _ {code w p s t r q : List ℕ} {k : Plan} {turn : Turn} {since start : �
           lentP = g .lentP;
           mostP = g .mostP;
           shelves = g .shelves;
+          moded = g .moded;
         };
         stored = f .stored;
         started = f .started;

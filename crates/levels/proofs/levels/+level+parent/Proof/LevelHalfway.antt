@@ -17,7 +17,6 @@ use Rattle.layout.specs.Fields.{markAt, highAt}
 use Rattle.reachable.specs.Marks.{markedBy}
 use Rattle.parents.specs.Links.{parentOf}
 use Rattle.parents.proofs.Chains.{parents-prefix}
-use Rattle.exec.specs.Modes.{modeOf}
 use Rattle.tables.specs.Addrs.{addrs}
 use Rattle.tables.proofs.Counted.{recs-length}
 use Rattle.steps.specs.Cursors.{nextCursor, lastCursor, live, DirectParent, Left, none-left, direct-left, found-left}
@@ -25,7 +24,7 @@ use Rattle.steps.specs.Paths.{OnPath}
 use Rattle.steps.specs.Runs.{recsIn, stOf, Did}
 use Rattle.enter.specs.Fits.{Fits, levelOf, Stands, held, Stays}
 use Rattle.levels.specs.Levels.{spentWith, Came, Tried}
-use Rattle.steps.specs.declared.Plan.{Plan}
+use Rattle.steps.specs.Plans.{Plan}
 use Rattle.steps.specs.declared.Level.{Level}
 use Rattle.steps.specs.declared.Run.{Run}
 use Rattle.steps.proofs.Cursors.{direct-rows}
@@ -57,7 +56,7 @@ pub record Halfway (code : List ℕ) (k : Plan) (t : Turn) (since start : ℕ) (
   pub stays : Stays k (l .np) m₀ (o .counts) m (cur .counts)
   pub counts : OnPath (k .n) (m .w) (addrs (m₀ .p) 0 (l .np))
   pub rest : List Parent
-  pub left : Left (modeOf (k .mode)) code (m₀ .w) (k .n) b (recsIn k m₀ (o .counts)) at rest
+  pub left : Left (k .mode) code (m₀ .w) (k .n) b (recsIn k m₀ (o .counts)) at rest
   pub so-far : St → St
   pub did : Did (k .rooms) so-far (stOf k m₀ o) 0 (stOf k m cur)
   pub same : (mid : St) → clear mid ≡ stOf k m₀ o
@@ -74,7 +73,7 @@ left-rows e (found-left h) = found-left h
 -- ---- a direct parent past the highest that is marked was not reached when the level opened
 
 pub unreached : {code : List ℕ} {k : Plan} {t : Turn} {since start : ℕ} {m : Mem} (o : Run) {b high : ℕ} → Fits code k t since start m (o .counts)
-    → high ≡ highAt (m .w) (k .n) b → b ≤ k .n → (a : ℕ) → high ≤ a → DirectParent code (m .w) (k .n) b a → tried? k t m o (parentOf (modeOf (k .mode)) code b a) ≡ false
+    → high ≡ highAt (m .w) (k .n) b → b ≤ k .n → (a : ℕ) → high ≤ a → DirectParent code (m .w) (k .n) b a → tried? k t m o (parentOf (k .mode) code b a) ≡ false
 unreached {k = k} {t} {m = m} o {b} f top inside a past p =
     rw (take-all (o .counts .records) (recsIn k m (o .counts)) (omega (arith, long)))
     at (sym (f .marks .by (o .counts .records) (f .began) (omega (arith, long)) a (p .inside))) ∙ rw unmarked
@@ -99,12 +98,12 @@ did-spend k m cur = record { short = λ l h mid e z. z; made = λ mid e z. rw ad
 module _ {code : List ℕ} {k : Plan} {t : Turn} {since start : ℕ} {l : Level} {m₀ : Mem} {o : Run} {b : ℕ} {m : Mem} {cur : Run} {at : ℕ}
     {high : ℕ} (f : Fits code k t since start m₀ (o .counts)) (stands : Stands k m₀ (o .counts) l) (inside : b ≤ k .n) (top : high ≡ highAt (m₀ .w) (k .n) b)
     (h : Halfway code k t since start l m₀ o b m cur at) (d : at ≡ 0 → ⊥) where
-  pub half-next : NextLeft (modeOf (k .mode)) code (m .w) (m .r) (m .q) (m .s) (k .n) b (o .counts .records) high (k .rooms .s) (cur .counts .records) (recsIn k m₀ (o .counts)) at (h .rest)
+  pub half-next : NextLeft (k .mode) code (m .w) (m .r) (m .q) (m .s) (k .n) b (o .counts .records) high (k .rooms .s) (cur .counts .records) (recsIn k m₀ (o .counts)) at (h .rest)
   half-next =
       next-left (o .counts .records) high (h .fits .planned .lentW .short) inside (omega (arith, h .fits .planned .lentW .room)) (h .fits .tables) (h .stays .rows)
       (sym (h .stays .older)) (h .stays .more) (f .sound) (h .left) d
 
-  half-left : Left (modeOf (k .mode)) code (m₀ .w) (k .n) b (recsIn k m₀ (o .counts)) (nextCursor (m .w) (m .r) (k .n) b (o .counts .records) high at) (half-next .next .rest)
+  half-left : Left (k .mode) code (m₀ .w) (k .n) b (recsIn k m₀ (o .counts)) (nextCursor (m .w) (m .r) (k .n) b (o .counts .records) high at) (half-next .next .rest)
   half-left = left-rows (h .stays .rows) (half-next .next .left)
 
   -- direct parents past the highest that is marked are not tried

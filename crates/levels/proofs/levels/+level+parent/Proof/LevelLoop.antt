@@ -13,14 +13,13 @@ use Rattle.layout.specs.Fields.{highAt}
 use Rattle.reachable.specs.Marks.{markedBy}
 use Rattle.reachable.specs.Contracts.{Address}
 use Rattle.parents.specs.Links.{directTo}
-use Rattle.exec.specs.Modes.{modeOf}
 use Rattle.tables.specs.Addrs.{addrs}
 use Rattle.steps.specs.Cursors.{firstCursor, nextCursor, lastCursor, AtBlock, Cursor, Asks, foundTo, live}
 use Rattle.steps.specs.Runs.{recsIn}
 use Rattle.enter.specs.Fits.{Fits, levelOf, held, preparedIn}
 use Rattle.enter.specs.Enters.{Entering}
 use Rattle.levels.specs.Levels.{spentWith, Opened, Leveled, Tried}
-use Rattle.steps.specs.declared.Plan.{Plan}
+use Rattle.steps.specs.Plans.{Plan}
 use Rattle.steps.specs.declared.Level.{Level}
 use Rattle.steps.specs.declared.Run.{Run}
 use Rattle.steps.proofs.Cursors.{LeftUpTo, level-parents, first-left, end-left, fuel}
@@ -84,14 +83,14 @@ module _ {code : List ℕ} {k : Plan} {start : ℕ} {l : Level} {m₀ : Mem} {o 
                 level-tries (k .limit) t (l .left) (levelOf m₀ l) mid
                 ∙ ap (λ (ps : List Parent). those k t l m₀ ps mid)
                 (ap (λ (a : ℕ). parents t a mid) level-last
-                ∙ level-parents (modeOf (k .mode)) code t b mid (f .stored)
+                ∙ level-parents (k .mode) code t b mid (f .stored)
                 ∙ ap (λ (rs : List Rec). keep (live (t .reached) rs) (directTo b (preparedIn k code) ++ foundTo b rs)) (ap (λ (s : St). s .recs) i)
                 ∙ first .passes (tried? k t m₀ o) (unreached o f top level-block));
           };
     }
       where
         first : {t : Turn} {since : ℕ} → Fits code k t since start m₀ (o .counts)
-            → LeftUpTo (modeOf (k .mode)) code (m₀ .w) (k .n) b (recsIn k m₀ (o .counts)) high at (directTo b (preparedIn k code) ++ foundTo b (recsIn k m₀ (o .counts)))
+            → LeftUpTo (k .mode) code (m₀ .w) (k .n) b (recsIn k m₀ (o .counts)) high at (directTo b (preparedIn k code) ++ foundTo b (recsIn k m₀ (o .counts)))
         first f =
             rw (e, f .planned .is)
             (first-left (rw (f .planned .is) at (f .tables)) (f .known) b (omega (arith, level-block, f .planned .is)) (o .counts .records) refl high)
@@ -126,7 +125,7 @@ module _ {code : List ℕ} {k : Plan} {start : ℕ} {l : Level} {m₀ : Mem} {o 
     }
 
     module _ (d : at ≡ 0 → ⊥) where
-      next : NextLeft (modeOf (k .mode)) code (m .w) (m .r) (m .q) (m .s) (k .n) b (o .counts .records) high (k .rooms .s) (cur .counts .records) (recsIn k m₀ (o .counts)) at (here .rest)
+      next : NextLeft (k .mode) code (m .w) (m .r) (m .q) (m .s) (k .n) b (o .counts .records) high (k .rooms .s) (cur .counts .records) (recsIn k m₀ (o .counts)) at (here .rest)
       next = half-next (pre .fits) (pre .stands) (g .block) (g .top) here d
 
       pub going-cursor : Cursor (m .w) (m .r) (k .n) at

@@ -11,12 +11,11 @@ use Rattle.layout.specs.Buffers.{Mem, buffers}
 use Rattle.steps.specs.Paths.{Counting, Uncounting, Counted}
 use Rattle.steps.specs.Runs.{stOf, Did}
 use Rattle.enter.specs.Fits.{Fits, levelOf, Stands, held, Stays}
-use Rattle.enter.specs.Enters.{onward, Opens, Outcome, Entering, Entered}
+use Rattle.enter.specs.Enters.{Opening, onward, Opens, Outcome, Entering, Entered}
 use Rattle.levels.specs.Levels.{Came, Opened, Leveled, deeperBy, Tried}
-use Rattle.steps.specs.declared.Plan.{Plan}
+use Rattle.steps.specs.Plans.{Plan}
 use Rattle.steps.specs.declared.Level.{Level}
 use Rattle.steps.specs.declared.Run.{Run}
-use Rattle.enter.specs.declared.enter.Opening.{Opening}
 use Rattle.levels.proofs.Sequence.{did-same, did-then}
 use Rattle.levels.proofs.levels.+level+parent.Proof.LevelByParents.{deeper-later}
 use Rattle.enter.proofs.LevelKept.{stays-counts, stays-then, stays-less, path-stays, stands-stay, its-counts}

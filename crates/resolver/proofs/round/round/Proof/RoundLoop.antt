@@ -3,36 +3,32 @@ use mathlib.Core.Path.{_≡_, refl, sym, ap, subst, _∙_}
 use mathlib.Core.Bool.{Bool, true, false, _&&_, _||_}
 use mathlib.Core.List.{List, [], _∷_, map}
 use mathlib.Core.Logic.{_⊎_, inl, inr}
-use Prim.Native.Nat.{ℕ, suc, _+_, _-_, _≤_, _<_}
-use native.Mathlib.Decide.{ℕ-discrete}
+use Prim.Native.Nat.{ℕ, _+_, _-_, _≤_, _<_}
 use native.Mathlib.Omega.{arith}
-use lib.Dec.{eqb, ltb}
+use lib.Dec.{ltb}
 use lib.ListN.{length, take, drop}
 use lib.Seq.{take-all, take-take}
-use borrow.Author.Tests.{lt-ltb, le-ltb, eq-eqb, ne-eqb}
+use borrow.Author.Tests.{lt-ltb, le-ltb}
 use Rattle.spec.specs.Lists.{if, mem}
 use Rattle.spec.specs.Search.{Taker, takers, Parent, direct, dests, St, turn-of, turn, round}
 use Rattle.laws.proofs.Branch.{if-true, if-false, and-false}
 use Rattle.laws.proofs.Members.{In, here, there, and-true}
-use Rattle.laws.proofs.Lists.{Rising, one-more, rising-from}
 use Rattle.theorems.proofs.Carried.{carry-round}
 use Rattle.theorems.proofs.Growth.{Later, later}
 use Rattle.theorems.proofs.Older.{clear}
 use Rattle.layout.specs.Parts.{ROW, rowPlace, SameRows}
 use Rattle.layout.specs.Rows.{takerAt}
 use Rattle.layout.specs.Buffers.{Mem}
-use Rattle.exec.specs.Modes.{modeOf}
 use Rattle.tables.proofs.Counted.{recs-length}
 use Rattle.tables.specs.declared.Rooms.{Rooms}
 use Rattle.parents.specs.Links as links
 use Rattle.parents.specs.Links.{turnOf, Takers}
 use Rattle.parents.specs.Contracts.{Number}
 use Rattle.parents.proofs.Chains.{walk-takers, end-takers, takers-prefix}
-use Rattle.parents.proofs.Rises.{takerStarts, takers-rise}
 use Rattle.reachable.specs.Marks.{flagged, markedBy}
 use Rattle.reachable.specs.Contracts.{Address}
 use Rattle.steps.specs.Runs.{recsIn, stOf, Did}
-use Rattle.steps.specs.declared.Plan.{Plan}
+use Rattle.steps.specs.Plans.{Plan}
 use Rattle.steps.specs.declared.Run.{Run}
 use Rattle.enter.specs.Fits.{preparedIn}
 use Rattle.resolver.specs.Turns.{Idle, Passed, TurnAsks, Turned, RoundAsks, Rounded}
@@ -95,34 +91,28 @@ marked-is {k = k} {reached} {since} {a} {m} {o} idle h =
 -- ---- the loop
 
 -- what the blocks that are left do from here ends where the whole round ends
-pub record Went (code : List ℕ) (k : Plan) (reached : List ℕ) (left : List Taker) (m₀ : Mem) (o₀ : Run) (m : Mem) (o : Run) : Type 0 where
+pub record Went (code : List ℕ) (k : Plan) (reached : List ℕ) (ahead : List Taker) (m₀ : Mem) (o₀ : Run) (m : Mem) (o : Run) : Type 0 where
   pub idle : Idle code k reached (o₀ .counts .records) m o
-  pub rest : (y : ℕ) (b : St) → Did (k .rooms) (round (k .limit) (direct (preparedIn k code)) reached left) (stOf k m o) y b
+  pub rest : (y : ℕ) (b : St) → Did (k .rooms) (round (k .limit) (direct (preparedIn k code)) reached ahead) (stOf k m o) y b
       → Did (k .rooms) (round (k .limit) (direct (preparedIn k code)) reached (takers (preparedIn k code))) (stOf k m₀ o₀) y b
   pub flags : flagged (m .w) (k .n) ≡ flagged (m₀ .w) (k .n)
   pub rows : SameRows (k .n) (m₀ .w) (m .w)
   pub beyond : drop (k .end) (m .w) ≡ drop (k .end) (m₀ .w)
   pub older : take (o₀ .counts .records) (recsIn k m (o .counts)) ≡ recsIn k m₀ (o₀ .counts)
 
-pub record Going (code : List ℕ) (k : Plan) (m₀ : Mem) (o₀ : Run) (by : ℕ) (m : Mem) (o : Run) (link : ℕ) : Type 0 where
-  pub left : List Taker
-  pub chain : Takers (m .w) (length code) link (map turnOf left)
-  pub rises : Rising 0 (takerStarts left)
-  pub among : (x : Taker) → In x left → In x (takers (preparedIn k code))
+pub record Going (code : List ℕ) (k : Plan) (m₀ : Mem) (o₀ : Run) (by : ℕ) (m : Mem) (o : Run) (left : ℕ) : Type 0 where
+  pub ahead : List Taker
+  pub entries : Takers (m .w) (length code) left (map turnOf ahead)
+  pub among : (x : Taker) → In x ahead → In x (takers (preparedIn k code))
   pub long : Long m₀ m
   pub by-is : by ≡ o₀ .counts .records + 1
-  pub went : (reached : List ℕ) → Idle code k reached (o₀ .counts .records) m₀ o₀ → Went code k reached left m₀ o₀ m o
+  pub went : (reached : List ℕ) → Idle code k reached (o₀ .counts .records) m₀ o₀ → Went code k reached ahead m₀ o₀ m o
 
--- falls with each link, and is 0 at the end
-unfoldable pub linksLeft : ℕ → ℕ → ℕ
-linksLeft n link = if (eqb link 0) 0 (n + 2 - link)
-
-pub round-begins : {code : List ℕ} {k : Plan} {m : Mem} {o : Run} {by : ℕ} → RoundAsks code k m o → by ≡ o .counts .records + 1 → Going code k m o by m o (k .head)
+pub round-begins : {code : List ℕ} {k : Plan} {m : Mem} {o : Run} {by : ℕ} → RoundAsks code k m o → by ≡ o .counts .records + 1 → Going code k m o by m o (k .many)
 round-begins {code} {k} {m} {o} a e =
     record {
-      left = takers (preparedIn k code);
-      chain = a .idle .known .takers;
-      rises = takers-rise (modeOf (k .mode)) code;
+      ahead = takers (preparedIn k code);
+      entries = a .idle .known .takers;
       among = λ x i. i;
       long = long-same;
       by-is = e;
@@ -137,62 +127,45 @@ round-begins {code} {k} {m} {o} a e =
     }
 
 -- the next block of those that are left
-record Split (left : List Taker) (a : links.Turn) (rest : List links.Turn) : Type 0 where
+record Split (ahead : List Taker) (a : links.Turn) (rest : List links.Turn) : Type 0 where
   x : Taker
   xs : List Taker
-  is : left ≡ x ∷ xs
+  is : ahead ≡ x ∷ xs
   first : turnOf x ≡ a
   others : map turnOf xs ≡ rest
 
-split : (left : List Taker) {a : links.Turn} {rest : List links.Turn} → map turnOf left ≡ a ∷ rest → Split left a rest
+split : (ahead : List Taker) {a : links.Turn} {rest : List links.Turn} → map turnOf ahead ≡ a ∷ rest → Split ahead a rest
 split [] e = let z : _≡_ {A = ℕ} 0 1 = cc in absurd (omega arith)
 split (x ∷ xs) e = record { x = x; xs = xs; is = refl; first = cc; others = cc }
 
-record Next (code w : List ℕ) (left : List Taker) (link : ℕ) : Type 0 where
+record Next (code w : List ℕ) (ahead : List Taker) (left : ℕ) : Type 0 where
   x : Taker
   xs : List Taker
-  is : left ≡ x ∷ xs
-  start : x .start ≡ link - 1
-  inside : link - 1 ≤ length code
-  chain : Takers w (length code) (takerAt w (link - 1)) (map turnOf xs)
+  is : ahead ≡ x ∷ xs
+  start : x .start ≡ takerAt w (left - 1)
+  row : left - 1 ≤ length code
+  inside : takerAt w (left - 1) ≤ length code
+  entries : Takers w (length code) (left - 1) (map turnOf xs)
 
-next : {code w : List ℕ} (left : List Taker) {link : ℕ} → Takers w (length code) link (map turnOf left) → (link ≡ 0 → ⊥) → Next code w left link
-next {code} {w} left {link} c n =
+next : {code w : List ℕ} (ahead : List Taker) {left : ℕ} → Takers w (length code) left (map turnOf ahead) → (left ≡ 0 → ⊥) → Next code w ahead left
+next ahead c n =
     let g = walk-takers c n in
-    let s = split left (g .is) in
+    let s = split ahead (g .is) in
     record {
       x = s .x;
       xs = s .xs;
       is = s .is;
       start = ap (λ (t : links.Turn). t .start) (s .first);
+      row = g .row;
       inside = g .inside;
-      chain = rw (s .others) (g .later);
+      entries = rw (s .others) (g .later);
     }
-
--- links rise
-later-link : {w : List ℕ} {n link lo : ℕ} (left : List Taker) → Takers w n link (map turnOf left) → Rising lo (takerStarts left) → (link ≡ 0 → ⊥) → (lo ≤ link - 1) × (link - 1 ≤ n)
-later-link {w} {n} {link} left c r h =
-    let g = walk-takers c h in
-    let s = split left (g .is) in
-    (least (s .x) (s .xs) (rw (s .is) at r) (ap (λ (t : links.Turn). t .start) (s .first)), g .inside)
-  where
-    least : {lo a : ℕ} (x : Taker) (xs : List Taker) → Rising lo (takerStarts (x ∷ xs)) → x .start ≡ a → lo ≤ a
-    least x xs (one-more l m) e = omega (arith, l, e)
-
-one-up : {link link′ a : ℕ} → 1 ≤ link → a ≡ link - 1 → suc a ≤ link′ - 1 → link < link′
-one-up p e h = omega arith
-
-below : {link n len : ℕ} → 1 ≤ link → link - 1 ≤ len → n ≡ len → link ≤ n + 1
-below p h e = omega arith
-
-falls : {link link′ : ℕ} (n : ℕ) → link < link′ → link′ ≤ n + 1 → n + 2 - link′ < n + 2 - link
-falls n h l = omega arith
 
 -- ---- a turn of the loop
 
-module _ {code : List ℕ} {k : Plan} {m₀ m : Mem} {o₀ o : Run} {by link : ℕ} (g : Going code k m₀ o₀ by m o link) (some : link ≡ 0 → ⊥) where
-  this : Next code (m .w) (g .left) link
-  this = next (g .left) (g .chain) some
+module _ {code : List ℕ} {k : Plan} {m₀ m : Mem} {o₀ o : Run} {by left : ℕ} (g : Going code k m₀ o₀ by m o left) (some : left ≡ 0 → ⊥) where
+  this : Next code (m .w) (g .ahead) left
+  this = next (g .ahead) (g .entries) some
 
   took : In (this .x) (takers (preparedIn k code))
   took = g .among (this .x) (subst (λ (l : List Taker). In (this .x) l) (sym (this .is)) here)
@@ -200,50 +173,31 @@ module _ {code : List ℕ} {k : Plan} {m₀ m : Mem} {o₀ o : Run} {by link : �
   others : (x : Taker) → In x (this .xs) → In x (takers (preparedIn k code))
   others x i = g .among x (subst (λ (l : List Taker). In x l) (sym (this .is)) (there i))
 
-  rest-rises : Rising (suc (this .x .start)) (takerStarts (this .xs))
-  rest-rises = past (this .x) (this .xs) (rw (this .is) at (g .rises))
-    where
-      past : {lo : ℕ} (x : Taker) (xs : List Taker) → Rising lo (takerStarts (x ∷ xs)) → Rising (suc (x .start)) (takerStarts xs)
-      past x xs (one-more l r) = r
-
   -- what is asked
 
-  pub round-address : RoundAsks code k m₀ o₀ → Address (k .n) (m .w) (link - 1)
-  round-address a =
-      let p = g .went (a .reached) (a .idle) .idle .planned in
-      record { lent = p .lentW; inside = omega (arith, this .inside, p .is) }
+  pub round-row : RoundAsks code k m₀ o₀ → rowPlace (left - 1) + ROW ≤ length (m .w)
+  round-row a = let p = g .went (a .reached) (a .idle) .idle .planned in omega (arith, this .row, p .is, p .lentW .room)
 
-  pub round-row : RoundAsks code k m₀ o₀ → rowPlace (link - 1) + ROW ≤ length (m .w)
-  round-row a = let h = round-address a in omega (arith, h .inside, h .lent .room)
+  module _ {start : ℕ} (at : Number start (takerAt (m .w) (left - 1)) 2) where
+    pub round-address : RoundAsks code k m₀ o₀ → Address (k .n) (m .w) start
+    round-address a =
+        let p = g .went (a .reached) (a .idle) .idle .planned in
+        record { lent = p .lentW; inside = omega (arith, this .inside, p .is, at .is) }
 
-  pub round-turns : RoundAsks code k m₀ o₀ → o .energy < k .limit → TurnAsks code k (link - 1) m o
-  round-turns a h =
-      record {
-        reached = a .reached;
-        since = o₀ .counts .records;
-        idle = g .went (a .reached) (a .idle) .idle;
-        taker = this .x;
-        takes = took;
-        is = this .start;
-        energy = h;
-      }
+    start-is : this .x .start ≡ start
+    start-is = this .start ∙ sym (at .is)
 
-  -- links rise, up to the end
-
-  pub round-less : {link′ : ℕ} → RoundAsks code k m₀ o₀ → Number link′ (takerAt (m .w) (link - 1)) 2 → linksLeft (k .n) link′ < linksLeft (k .n) link
-  unfolding linksLeft
-  round-less {link′} a e =
-      let inside = round-address a .inside in
-      let is = g .went (a .reached) (a .idle) .idle .planned .is in
-      rw (if-false (eqb link 0) 0 (k .n + 2 - link) (ne-eqb link 0 some)) (go inside is (ℕ-discrete link′ 0))
-    where
-      go : link - 1 ≤ k .n → k .n ≡ length code → Dec (link′ ≡ 0) → if (eqb link′ 0) 0 (k .n + 2 - link′) < k .n + 2 - link
-      go inside is (yes z) = rw (if-true (eqb link′ 0) 0 (k .n + 2 - link′) (eq-eqb link′ 0 z)) (omega (arith, inside, some))
-      go inside is (no z) =
-          let c : Takers (m .w) (length code) link′ (map turnOf (this .xs)) = rw (e .is) (this .chain) in
-          let l = later-link (this .xs) c rest-rises z in
-          rw (if-false (eqb link′ 0) 0 (k .n + 2 - link′) (ne-eqb link′ 0 z))
-          (falls (k .n) (one-up (omega (arith, some)) (this .start) (l .0)) (below (omega (arith, z)) (l .1) is))
+    pub round-turns : RoundAsks code k m₀ o₀ → o .energy < k .limit → TurnAsks code k start m o
+    round-turns a h =
+        record {
+          reached = a .reached;
+          since = o₀ .counts .records;
+          idle = g .went (a .reached) (a .idle) .idle;
+          taker = this .x;
+          takes = took;
+          is = start-is;
+          energy = h;
+        }
 
   -- what is marked
 
@@ -251,11 +205,11 @@ module _ {code : List ℕ} {k : Plan} {m₀ m : Mem} {o₀ o : Run} {by link : �
     w : Went code k reached (this .x ∷ this .xs) m₀ o₀ m o
     w = subst (λ (l : List Taker). Went code k reached l m₀ o₀ m o) (this .is) (g .went reached idle)
 
-    reached-is : markedBy (m .w) (k .n) (link - 1) by ≡ mem (this .x .start) reached
-    reached-is =
+    reached-is : {start : ℕ} → Number start (takerAt (m .w) (left - 1)) 2 → markedBy (m .w) (k .n) start by ≡ mem (this .x .start) reached
+    reached-is {start} at =
         let p = w .idle .planned in
-        ap (markedBy (m .w) (k .n) (link - 1)) (g .by-is) ∙ marked-is (w .idle) (omega (arith, this .inside, p .is))
-        ∙ ap (λ (a : ℕ). mem a reached) (sym (this .start))
+        ap (markedBy (m .w) (k .n) start) (g .by-is) ∙ marked-is (w .idle) (omega (arith, this .inside, p .is, at .is))
+        ∙ ap (λ (a : ℕ). mem a reached) (sym (start-is at))
 
     spent : (mid : St) → clear mid ≡ stOf k m o → mid .energy ≡ o .energy
     spent mid e = ap (λ (s : St). s .energy) e
@@ -274,14 +228,12 @@ module _ {code : List ℕ} {k : Plan} {m₀ m : Mem} {o₀ o : Run} {by link : �
 
   -- where it takes no turn
 
-  passes : {link′ : ℕ} → Number link′ (takerAt (m .w) (link - 1)) 2
-      → ((reached : List ℕ) → Idle code k reached (o₀ .counts .records) m₀ o₀ → (mem (this .x .start) reached ≡ false) ⊎ (k .limit ≤ o .energy))
-      → Going code k m₀ o₀ by m o link′
-  passes e h =
+  passes : ((reached : List ℕ) → Idle code k reached (o₀ .counts .records) m₀ o₀ → (mem (this .x .start) reached ≡ false) ⊎ (k .limit ≤ o .energy))
+      → Going code k m₀ o₀ by m o (left - 1)
+  passes h =
       record {
-        left = this .xs;
-        chain = rw (e .is) (this .chain);
-        rises = rising-from (omega arith) rest-rises;
+        ahead = this .xs;
+        entries = this .entries;
         among = others;
         long = g .long;
         by-is = g .by-is;
@@ -290,24 +242,24 @@ module _ {code : List ℕ} {k : Plan} {m₀ m : Mem} {o₀ o : Run} {by link : �
             record { idle = v .idle; rest = λ y b d. v .rest y b (skips idle (h reached idle) d); flags = v .flags; rows = v .rows; beyond = v .beyond; older = v .older };
       }
 
-  pub round-skips : {link′ : ℕ} {b : Bool} → Number link′ (takerAt (m .w) (link - 1)) 2 → b ≡ markedBy (m .w) (k .n) (link - 1) by → b ≡ false
-      → Going code k m₀ o₀ by m o link′
-  round-skips e f z = passes e (λ reached idle. inl (sym (reached-is idle) ∙ sym f ∙ z))
+  pub round-skips : {start : ℕ} {b : Bool} → Number start (takerAt (m .w) (left - 1)) 2 → b ≡ markedBy (m .w) (k .n) start by → b ≡ false
+      → Going code k m₀ o₀ by m o (left - 1)
+  round-skips at f z = passes (λ reached idle. inl (sym (reached-is idle at) ∙ sym f ∙ z))
 
-  pub round-over : {link′ : ℕ} → Number link′ (takerAt (m .w) (link - 1)) 2 → k .limit ≤ o .energy → Going code k m₀ o₀ by m o link′
-  round-over e h = passes e (λ reached idle. inr h)
+  pub round-over : k .limit ≤ o .energy → Going code k m₀ o₀ by m o (left - 1)
+  round-over h = passes (λ reached idle. inr h)
 
   -- where it does
 
-  module _ {b : Bool} {m′ : Mem} {d : Run} (f : b ≡ markedBy (m .w) (k .n) (link - 1) by) (marked : b ≡ true) (left : o .energy < k .limit)
-      (turned : Turned code k (link - 1) m o m′ d) where
+  module _ {start : ℕ} {b : Bool} {m′ : Mem} {d : Run} (at : Number start (takerAt (m .w) (left - 1)) 2) (f : b ≡ markedBy (m .w) (k .n) start by) (marked : b ≡ true)
+      (low : o .energy < k .limit) (turned : Turned code k start m o m′ d) where
     came : {reached : List ℕ} → Idle code k reached (o₀ .counts .records) m₀ o₀
         → Passed code k reached (o₀ .counts .records) (turn (k .limit) (turn-of (direct (preparedIn k code)) reached (this .x)) (this .x .position)) m o m′ d
-    came {reached} idle = turned reached (o₀ .counts .records) (w idle .idle) (this .x) took (this .start)
+    came {reached} idle = turned reached (o₀ .counts .records) (w idle .idle) (this .x) took (start-is at)
 
     takes-it : {reached : List ℕ} (idle : Idle code k reached (o₀ .counts .records) m₀ o₀) (mid : St) → clear mid ≡ stOf k m o
         → mem (this .x .start) reached && ltb (mid .energy) (k .limit) ≡ true
-    takes-it idle = taking-it idle (sym (reached-is idle) ∙ sym f ∙ marked) left
+    takes-it idle = taking-it idle (sym (reached-is idle at) ∙ sym f ∙ marked) low
 
     pub round-refused : (d .code ≡ 0 → ⊥) → Rounded code k m₀ o₀ m′ d
     round-refused n reached idle =
@@ -329,15 +281,14 @@ module _ {code : List ℕ} {k : Plan} {m₀ m : Mem} {o₀ o : Run} {by link : �
             older = sym (take-take (o₀ .counts .records) (o .counts .records) (recsIn k m′ (d .counts)) (v .idle .began)) ∙ ap (take (o₀ .counts .records)) (c .older z) ∙ v .older;
           }
 
-      pub round-goes-on : {link′ : ℕ} → RoundAsks code k m₀ o₀ → Number link′ (takerAt (m .w) (link - 1)) 2 → Long m m′ → Going code k m₀ o₀ by m′ d link′
-      round-goes-on a e long =
+      pub round-goes-on : RoundAsks code k m₀ o₀ → Long m m′ → Going code k m₀ o₀ by m′ d (left - 1)
+      round-goes-on a long =
           let c = came (a .idle) in
           let is = c .idle z .planned .is in
           let same : SameRows (length code) (m′ .w) (m .w) = sym (rw is at (c .rows z)) in
           record {
-            left = this .xs;
-            chain = rw (e .is) (takers-prefix (m .w) (m′ .w) (length code) same (this .chain));
-            rises = rising-from (omega arith) rest-rises;
+            ahead = this .xs;
+            entries = takers-prefix (m .w) (m′ .w) (length code) same (this .entries);
             among = others;
             long = long-then (g .long) long;
             by-is = g .by-is;
@@ -346,12 +297,12 @@ module _ {code : List ℕ} {k : Plan} {m₀ m : Mem} {o₀ o : Run} {by link : �
 
 -- no block is left
 
-pub round-done : {code : List ℕ} {k : Plan} {m₀ m : Mem} {o₀ o : Run} {by link : ℕ} → Going code k m₀ o₀ by m o link → link ≡ 0 → Rounded code k m₀ o₀ m o
+pub round-done : {code : List ℕ} {k : Plan} {m₀ m : Mem} {o₀ o : Run} {by left : ℕ} → Going code k m₀ o₀ by m o left → left ≡ 0 → Rounded code k m₀ o₀ m o
 round-done {code} {k} {m₀} {m} {o₀} {o} g z reached idle =
-    let v = subst (λ (l : List Taker). Went code k reached l m₀ o₀ m o) (none (g .left) (end-takers (g .chain) z)) (g .went reached idle) in
+    let v = subst (λ (l : List Taker). Went code k reached l m₀ o₀ m o) (none (g .ahead) (end-takers (g .entries) z)) (g .went reached idle) in
     let all = v .rest 0 (stOf k m o) (did-none (k .limit) (direct (preparedIn k code)) reached) in
     record { did = rw (v .idle .unrefused) all; idle = λ _. v .idle; flags = λ _. v .flags; rows = λ _. v .rows; beyond = λ _. v .beyond; older = λ _. v .older }
   where
-    none : (left : List Taker) → map turnOf left ≡ [] → left ≡ []
+    none : (ahead : List Taker) → map turnOf ahead ≡ [] → ahead ≡ []
     none [] e = refl
     none (x ∷ xs) e = let c : _≡_ {A = ℕ} 0 1 = cc in absurd (omega arith)

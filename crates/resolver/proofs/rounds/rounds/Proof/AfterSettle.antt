@@ -37,7 +37,7 @@ use Rattle.reachable.proofs.Spreading.{room-but, within-but}
 use Rattle.steps.specs.Runs.{recsIn}
 use Rattle.enter.specs.Fits.{preparedIn}
 use Rattle.resolver.specs.Turns.{Idle, HandsOver, destsFrom, HandedAll}
-use Rattle.steps.specs.declared.Plan.{Plan}
+use Rattle.steps.specs.Plans.{Plan}
 use Rattle.steps.specs.declared.Run.{Run}
 use Rattle.resolver.proofs.Destinations.{destAt, dests-more, dests-split}
 
@@ -198,6 +198,7 @@ module _ {code : List ℕ} {k : Plan} {since : ℕ} {w p s t r q : List ℕ} {cu
         lentP = i .planned .lentP;
         mostP = i .planned .mostP;
         shelves = i .planned .shelves;
+        moded = i .planned .moded;
       };
       tables = tables-kept (i .tables) w′ s links-kept refl refl (cur .counts .used) (cur .counts .rows) (i .tables .within .fitsS);
       remembers = i .remembers;

@@ -20,7 +20,7 @@ use Rattle.tables.proofs.Counted.{recs-length}
 use Rattle.steps.specs.Runs.{recsIn, stOf, Did}
 use Rattle.enter.specs.Fits.{preparedIn}
 use Rattle.resolver.specs.Turns.{Idle, Passed, Between, RoundAsks, Rounded, HandsOver, HandedAll, last-since, Rounds}
-use Rattle.steps.specs.declared.Plan.{Plan}
+use Rattle.steps.specs.Plans.{Plan}
 use Rattle.steps.specs.declared.Run.{Run}
 use Rattle.resolver.proofs.rounds.rounds.Proof.AfterSettle.{renew-settles, renew-flags, renewed}
 use Rattle.levels.proofs.Sequence.{did-nothing, did-same, did-then, did-stops}

@@ -2,7 +2,7 @@
 use mathlib.Core.Path.{_≡_, refl, sym, ap, _∙_}
 use mathlib.Core.Bool.{Bool, true, false, _&&_, _||_, or-false}
 use mathlib.Core.List.{List, []}
-use Prim.Native.Nat.{ℕ, _+_, _*_, _≤_}
+use Prim.Native.Nat.{ℕ, _+_, _*_, _≤_, min}
 use native.Mathlib.Omega.{arith}
 use lib.Dec.{ltb, leb}
 use lib.ListN.{length, take, drop, replicate, length-replicate}
@@ -21,10 +21,11 @@ use Rattle.lent.proofs.Parts.{drop-more}
 use Rattle.lent.proofs.Numbers.{num-zeros}
 use Rattle.lent.proofs.Stored.{stored, kept-take, kept-drop, kept-num, read-num}
 use Rattle.layout.specs.Fields.{FIRST-FOUND, LAST-FOUND, HIGHEST, FLAG, markAt}
-use Rattle.layout.specs.Parts.{bucketsOf, rowsEnd, fieldsPlace, bucketsPlace, bucketPlace, SameRows}
+use Rattle.layout.specs.Parts.{rowsEnd, fieldsPlace, bucketsPlace, bucketPlace, SameRows}
 use Rattle.layout.specs.Buffers.{Mem, buffers}
 use Rattle.exec.specs.Modes.{modeOf}
 use Rattle.exec.specs.declared.mode.Mode.{Mode}
+use Rattle.exec.specs.declared.mode.Mode.the-variants.{Plain, KnownZero}
 use Rattle.tables.specs.Records.{recsOf}
 use Rattle.tables.specs.Rows.{metOf}
 use Rattle.tables.specs.Tables.{NoLinks}
@@ -46,14 +47,14 @@ use Rattle.reachable.proofs.Rows.{within-sides, closed-sides, sides-kept, node-
 use Rattle.steps.specs.Paths.{occurs}
 use Rattle.steps.specs.Runs.{recsIn, stOf}
 use Rattle.enter.specs.Fits.{preparedIn}
-use Rattle.resolver.specs.Turns.{Idle, Between, last-since, Reached, Rounds, SearchAsks, Searched, roomsOf, planOf, plan, begunRun}
-use Rattle.steps.specs.declared.Plan.{Plan}
+use Rattle.resolver.specs.Turns.{Idle, Between, last-since, Reached, Rounds, SearchAsks, Searched, roomsOf, planOf, plan, begunRun, bucketsFor}
+use Rattle.steps.specs.Plans.{Plan}
 use Rattle.steps.specs.declared.Run.{Run}
 pub use Rattle.enter.proofs.TurnKept.{known-within}
 
 -- ---- what `reach` asks
 
-pub search-room : {mode : Mode} {code w : List ℕ} {limit head : ℕ} → SearchAsks mode code w limit head → reachable.Room (length code) w
+pub search-room : {mode : Mode} {code w : List ℕ} {limit many : ℕ} → SearchAsks mode code w limit many → reachable.Room (length code) w
 search-room a = record { short = a .short; room = a .lent }
 
 -- ---- a mark of 1, or none
@@ -65,6 +66,10 @@ fresh-mark false = refl
 
 -- ---- after the last round
 
+few-modes : (mode : Mode) → modeOf mode ≤ 1
+few-modes Plain = omega arith
+few-modes KnownZero = omega arith
+
 -- the marks say what is reached, once all records are counted
 pub between-marked : {code : List ℕ} {k : Plan} {m : Mem} {cur : Run} {since : ℕ} → Between code k since m cur
     → Reached (preparedIn k code) (k .n) (m .w) since (cur .counts .records) (recsIn k m (cur .counts))
@@ -75,8 +80,8 @@ between-marked {k = k} {m = m} {cur = cur} b a h =
 
 -- ---- W once the heads of the buckets are wiped
 
-module _ {mode : Mode} {code w w₁ w₂ : List ℕ} {limit head : ℕ} (a : SearchAsks mode code w limit head) (r : Reaches (length code) w w₁)
-    (s : Stored (4 * bucketsOf (length code)) w₁ (bucketsPlace (length code)) (replicate (4 * bucketsOf (length code)) 0) w₂) where
+module _ {mode : Mode} {code w w₁ w₂ : List ℕ} {limit many : ℕ} (a : SearchAsks mode code w limit many) (r : Reaches (length code) w w₁)
+    (r′ : List ℕ) (s : Stored (4 * bucketsFor (length code) (units (length r′) 32)) w₁ (bucketsPlace (length code)) (replicate (4 * bucketsFor (length code) (units (length r′) 32)) 0) w₂) where
   abbrev n : ℕ
   n = length code
 
@@ -105,13 +110,13 @@ module _ {mode : Mode} {code w w₁ w₂ : List ℕ} {limit head : ℕ} (a : Sea
       ∙ num-in w₁ (wiped n w) 12 (fieldsPlace n x + FIRST-FOUND) (r .kept .fields x h) k (fieldsPlace n x + o) (omega arith) (omega arith)
       ∙ begun-num begun k (fieldsPlace n x + o) (omega arith) (omega arith)
 
-  no-links : NoLinks n (bucketsOf (length code)) w₂
+  no-links : NoLinks n (bucketsFor (length code) (units (length r′) 32)) w₂
   no-links = record {
     some = omega arith;
     inW = omega (arith, a .lent, begin-long);
     firsts = λ x h. zero-fields 4 x FIRST-FOUND h (omega arith) (omega arith);
     lasts = λ x h. zero-fields 4 x LAST-FOUND h (omega arith) (omega arith);
-    heads = λ h l. read-num s 4 (4 * h) (omega arith) ∙ num-zeros 4 (4 * bucketsOf (length code)) (4 * h);
+    heads = λ h l. read-num s 4 (4 * h) (omega arith) ∙ num-zeros 4 (4 * bucketsFor (length code) (units (length r′) 32)) (4 * h);
   }
 
   same-flagged : flagged w₂ n ≡ flagged w₁ n
@@ -125,9 +130,9 @@ module _ {mode : Mode} {code w w₁ w₂ : List ℕ} {limit head : ℕ} (a : Sea
 
   -- ---- what `rounds` asks
 
-  module _ (p q r′ s′ t t₁ : List ℕ) (e : Emptied (plan mode code limit head (buffers w p s′ t r′ q) .shelves) t t₁) where
+  module _ (p q s′ t t₁ : List ℕ) (e : Emptied (plan mode code limit many (buffers w p s′ t r′ q) .shelves) t t₁) where
     abbrev k : Plan
-    k = plan mode code limit head (buffers w p s′ t r′ q)
+    k = plan mode code limit many (buffers w p s′ t r′ q)
 
     begin-idle : Idle code k (reached-by (prepared (in-mode (modeOf mode)) code) []) 0 (buffers w₂ p s′ t₁ r′ q) begunRun
     unfolding recsOf occurs
@@ -141,6 +146,7 @@ module _ {mode : Mode} {code w w₁ w₂ : List ℕ} {limit head : ℕ} (a : Sea
         lentP = omega arith;
         mostP = omega arith;
         shelves = λ h. omega arith;
+        moded = few-modes mode;
       };
       tables = tables-none (omega (arith, a .short)) (record {
         fitsR = omega arith;
@@ -220,7 +226,7 @@ module _ {mode : Mode} {code w w₁ w₂ : List ℕ} {limit head : ℕ} (a : Sea
       between : d .code ≡ 0 → Between code k (last-since 128 limit (prepared (in-mode (modeOf mode)) code) 0 begin) m′ d
       between z = rw begins (f .between z)
 
-      begin-searched : Searched mode code limit head (buffers w p s′ t r′ q) m′ d
+      begin-searched : Searched mode code limit many (buffers w p s′ t r′ q) m′ d
       begin-searched = record {
         short = λ l ep es et er eq. sym (short l (lends l ep es et er eq));
         recs = λ z. sym (ap (λ (x : St). x .recs) (made z));
@@ -234,22 +240,22 @@ module _ {mode : Mode} {code w w₁ w₂ : List ℕ} {limit head : ℕ} (a : Sea
 
 -- ---- the same, by the values that the functions give
 
-pub search-heads : {mode : Mode} {code w : List ℕ} {limit head : ℕ} {rooms : Rooms} {k : Plan} → k ≡ planOf mode (length code) limit head rooms → SearchAsks mode code w limit head
+pub search-heads : {mode : Mode} {code w : List ℕ} {limit many : ℕ} {rooms : Rooms} {k : Plan} → k ≡ planOf mode (length code) limit many rooms → SearchAsks mode code w limit many
     → (bucketPlace (length code) (k .buckets) ≤ length w) × (4 * k .buckets ≤ 1000000)
 search-heads ek a = let is = ap (λ (x : Plan). x .buckets) ek in (omega (arith, a .lent, is), omega (arith, a .short, is))
 
-pub search-begins : {mode : Mode} {n limit head : ℕ} {rooms : Rooms} {k : Plan} (t : List ℕ) → k ≡ planOf mode n limit head rooms → rooms .t ≡ units (length t) 32 → Begins (k .shelves) t
-search-begins t ek e = record { inT = omega (arith, ap (λ (x : Plan). x .shelves) ek, e) }
+pub search-begins : {shelves rows : ℕ} (t : List ℕ) → shelves ≡ min rows 0x10000 → rows ≡ units (length t) 32 → Begins shelves t
+search-begins t es e = record { inT = omega (arith, es, e) }
 
-module _ {mode : Mode} {code w p s t r q : List ℕ} {limit head : ℕ} {rooms : Rooms} {k : Plan} (er : rooms ≡ roomsOf p s t r q) (ek : k ≡ planOf mode (length code) limit head rooms) where
-  module _ {w₁ w₂ t₁ : List ℕ} {o : Run} (a : SearchAsks mode code w limit head) (e : Reaches (length code) w w₁)
+module _ {mode : Mode} {code w p s t r q : List ℕ} {limit many : ℕ} {rooms : Rooms} {k : Plan} (er : rooms ≡ roomsOf p s t r q) (ek : k ≡ planOf mode (length code) limit many rooms) where
+  module _ {w₁ w₂ t₁ : List ℕ} {o : Run} (a : SearchAsks mode code w limit many) (e : Reaches (length code) w w₁)
       (h : Stored (4 * k .buckets) w₁ (bucketsPlace (length code)) (replicate (4 * k .buckets) 0) w₂) (f : Emptied (k .shelves) t t₁) (eo : o ≡ begunRun) where
     pub search-asks : Between code k 0 (buffers w₂ p s t₁ r q) o
     search-asks =
-        let is : k ≡ plan mode code limit head (buffers w p s t r q) = ek ∙ ap (planOf mode (length code) limit head) er in
-        rw (is, eo) (begin-between a e (rw is at h) p q r s t t₁ (rw is at f))
+        let is : k ≡ plan mode code limit many (buffers w p s t r q) = ek ∙ ap (planOf mode (length code) limit many) er in
+        rw (is, eo) (begin-between a e r (rw is at h) p q s t t₁ (rw is at f))
 
-    pub search-done : {m′ : Mem} {d : Run} → Rounds code k (buffers w₂ p s t₁ r q) o m′ d → Searched mode code limit head (buffers w p s t r q) m′ d
+    pub search-done : {m′ : Mem} {d : Run} → Rounds code k (buffers w₂ p s t₁ r q) o m′ d → Searched mode code limit many (buffers w p s t r q) m′ d
     search-done g =
-        let is : k ≡ plan mode code limit head (buffers w p s t r q) = ek ∙ ap (planOf mode (length code) limit head) er in
-        begin-searched a e (rw is at h) p q r s t t₁ (rw is at f) (rw (is, eo) at g)
+        let is : k ≡ plan mode code limit many (buffers w p s t r q) = ek ∙ ap (planOf mode (length code) limit many) er in
+        begin-searched a e r (rw is at h) p q s t t₁ (rw is at f) (rw (is, eo) at g)

@@ -12,7 +12,7 @@ use Rattle.exec.specs.declared.run.Own.{Own}
 use Rattle.tables.specs.Addrs.{addrs}
 use Rattle.parents.specs.Contracts.{Number}
 use Rattle.steps.specs.Paths.{Counting, Counted}
-use Rattle.steps.specs.declared.Plan.{Plan}
+use Rattle.steps.specs.Plans.{Plan}
 use Rattle.resolver.specs.Turns.{Places, Placed}
 use Rattle.resolver.proofs.PathOfOne.{inside-one}
 

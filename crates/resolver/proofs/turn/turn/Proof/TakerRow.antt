@@ -19,10 +19,10 @@ use Rattle.reachable.proofs.Rows.{map-in}
 use Rattle.steps.specs.Sound.{SoundStack}
 use Rattle.steps.proofs.Sound.{sound-own}
 
-placed : {w : List ℕ} {n link : ℕ} {ks : List Turn} {k : Turn} → Takers w n link ks → In k ks → (k .start ≤ n) × (k .position ≡ positionAt w (k .start))
+placed : {w : List ℕ} {n left : ℕ} {ks : List Turn} {k : Turn} → Takers w n left ks → In k ks → (k .start ≤ n) × (k .position ≡ positionAt w (k .start))
 placed no-taker i = elim i [ ]
-placed (next-taker h t) here = (h, refl)
-placed (next-taker h t) (there i) = placed t i
+placed (next-taker r h t) here = (h, refl)
+placed (next-taker r h t) (there i) = placed t i
 
 -- all that a turn asks of the block x at `start`
 pub record Taking (mode : ℕ) (code w : List ℕ) (n start : ℕ) (x : Taker) : Type 0 where
@@ -33,7 +33,7 @@ pub record Taking (mode : ℕ) (code w : List ℕ) (n start : ℕ) (x : Taker) :
   pub near : x .position < 17 * n + 17
   pub sound : SoundStack n 1 (run (in-mode mode) code (instructions code) start .stack)
 
-pub taking : (mode : ℕ) (code : List ℕ) {w : List ℕ} {n head start : ℕ} {x : Taker} → n ≡ length code → n ≤ longest → Known mode code w head → In x (takers (prepared (in-mode mode) code)) → x .start ≡ start
+pub taking : (mode : ℕ) (code : List ℕ) {w : List ℕ} {n many start : ℕ} {x : Taker} → n ≡ length code → n ≤ longest → Known mode code w many → In x (takers (prepared (in-mode mode) code)) → x .start ≡ start
     → Taking mode code w n start x
 taking mode code {w} {n} {start = start} {x} e short k i s =
     let row = placed (k .takers) (map-in turnOf i) in

@@ -15,7 +15,6 @@ use Rattle.lent.proofs.Stored.{kept-drop}
 use Rattle.layout.specs.Parts.{rowPlace, rowsEnd}
 use Rattle.layout.specs.Rows.{POSITION}
 use Rattle.layout.specs.Buffers.{Mem, buffers}
-use Rattle.exec.specs.Modes.{modeOf}
 use Rattle.state.specs.Cells.{Lies}
 use Rattle.exec.specs.Owns.{Runs, Owned}
 use Rattle.exec.specs.declared.run.Own.{Own}
@@ -24,7 +23,7 @@ use Rattle.tables.specs.Rows.{metOf, usedOf}
 use Rattle.tables.proofs.Counted.{recs-kept-cells}
 use Rattle.tables.proofs.Uses.{tables-kept, recs-stay}
 use Rattle.steps.specs.Runs.{recsIn, stOf}
-use Rattle.steps.specs.declared.Plan.{Plan}
+use Rattle.steps.specs.Plans.{Plan}
 use Rattle.steps.specs.declared.Level.{Level}
 use Rattle.steps.specs.declared.Run.{Run}
 use Rattle.enter.specs.Fits.{Fits, levelOf, Stands, preparedIn}
@@ -45,7 +44,7 @@ module _ {code : List ℕ} {k : Plan} {reached : List ℕ} {since : ℕ} {m : Me
       let met-cells = ap (λ (s : St). total (λ (x : Met). cells (x .stack)) (s .met)) e ∙ ap (total (λ (x : Met). cells (x .stack))) none in
       omega (arith, kept-cells, met-cells)
 
-  module _ {start : ℕ} {x : Taker} (taking : Taking (modeOf (k .mode)) code (m .w) (k .n) start x) where
+  module _ {start : ℕ} {x : Taker} (taking : Taking (k .mode) code (m .w) (k .n) start x) where
     pub taker-small : start < 2 ^ 16
     taker-small = omega (arith, taking .inside, idle .planned .lentW .short)
 
@@ -54,9 +53,9 @@ module _ {code : List ℕ} {k : Plan} {reached : List ℕ} {since : ℕ} {m : Me
         let g = idle .planned in
         record { short = omega (arith, g .is, g .lentW .short); inside = g .ends; room = omega (arith, g .scratch) }
 
-    module _ {w₁ : List ℕ} {own : Own} (owned : Owned (modeOf (k .mode)) code start (m .w) (k .end) w₁ own) where
-      own-lies : Lies w₁ (own .at) (own .n) (run (in-mode (modeOf (k .mode))) code (instructions code) start .stack)
-      own-lies = subst (λ (r : Ran). Lies w₁ (own .at) (own .n) (r .stack)) (own-walked (modeOf (k .mode)) code start (taking .comes)) (owned .lies)
+    module _ {w₁ : List ℕ} {own : Own} (owned : Owned (k .mode) code start (m .w) (k .end) w₁ own) where
+      own-lies : Lies w₁ (own .at) (own .n) (run (in-mode (k .mode)) code (instructions code) start .stack)
+      own-lies = subst (λ (r : Ran). Lies w₁ (own .at) (own .n) (r .stack)) (own-walked (k .mode) code start (taking .comes)) (owned .lies)
 
       pub own-cells : own .n ≡ cells (x .first)
       own-cells = lies-count own-lies ∙ ap cells (sym (taking .first))
@@ -83,7 +82,7 @@ module _ {code : List ℕ} {k : Plan} {reached : List ℕ} {since : ℕ} {m : Me
         pub begun-alike : Alike (k .n) (k .buckets) (m .w) w₂
         begun-alike = alike-then ran (alike-counts (placed .counted .only) (k .buckets))
 
-        lies : Lies s₁ 0 (own .n) (run (in-mode (modeOf (k .mode))) code (instructions code) start .stack)
+        lies : Lies s₁ 0 (own .n) (run (in-mode (k .mode)) code (instructions code) start .stack)
         lies = lies-copied (placed .copied) own-lies
 
         top : drop (9 * (k .rooms .s - o .counts .kept)) s₁ ≡ drop (9 * (k .rooms .s - o .counts .kept)) (m .s)
@@ -114,6 +113,7 @@ module _ {code : List ℕ} {k : Plan} {reached : List ℕ} {since : ℕ} {m : Me
                 lentP = omega (arith, g .lentP, placed .put .kept);
                 mostP = g .mostP;
                 shelves = g .shelves;
+                moded = g .moded;
               };
               stored = refl;
               started = is;

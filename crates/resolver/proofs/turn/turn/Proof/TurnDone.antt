@@ -17,8 +17,7 @@ use Rattle.theorems.proofs.Older.{clear}
 use Rattle.lent.proofs.Parts.{drop-more}
 use Rattle.layout.specs.Parts.{listPlace, SameRows}
 use Rattle.layout.specs.Buffers.{Mem, buffers}
-use Rattle.exec.specs.Modes.{modeOf}
-use Rattle.exec.specs.Owns.{Runs, Owned}
+use Rattle.exec.specs.Owns.{Owned}
 use Rattle.exec.specs.declared.run.Own.{Own}
 use Rattle.tables.specs.Addrs.{addrs}
 use Rattle.tables.specs.Rows.{metOf, Shelves}
@@ -30,7 +29,7 @@ use Rattle.reachable.specs.Marks.{flagged}
 use Rattle.reachable.proofs.Rows.{within-sides, closed-sides, sides-kept}
 use Rattle.steps.specs.Paths.{Counted, Uncounting}
 use Rattle.steps.specs.Runs.{recsIn, stOf, Did}
-use Rattle.steps.specs.declared.Plan.{Plan}
+use Rattle.steps.specs.Plans.{Plan, RunsIn}
 use Rattle.steps.specs.declared.Level.{Level}
 use Rattle.steps.specs.declared.Run.{Run}
 use Rattle.enter.specs.Fits.{Fits, levelOf, preparedIn}
@@ -99,20 +98,20 @@ did-forget {a = a} {b} r e n z =
 
 -- ---- what a turn asks
 
-pub asks-taking : {code : List ℕ} {k : Plan} {start : ℕ} {m : Mem} {o : Run} (a : TurnAsks code k start m o) → Taking (modeOf (k .mode)) code (m .w) (k .n) start (a .taker)
+pub asks-taking : {code : List ℕ} {k : Plan} {start : ℕ} {m : Mem} {o : Run} (a : TurnAsks code k start m o) → Taking (k .mode) code (m .w) (k .n) start (a .taker)
 asks-taking {code} {k} a =
     let g = a .idle .planned in
-    taking (modeOf (k .mode)) code (g .is) (g .lentW .short) (a .idle .known) (a .takes) (a .is)
+    taking (k .mode) code (g .is) (g .lentW .short) (a .idle .known) (a .takes) (a .is)
 
-pub turn-runs : {code : List ℕ} {k : Plan} {start : ℕ} {m : Mem} {o : Run} → TurnAsks code k start m o → Runs code (m .w) (k .end)
-turn-runs a = begins.run-asks (a .idle) (asks-taking a)
+pub turn-runs : {code : List ℕ} {k : Plan} {start : ℕ} {m : Mem} {o : Run} → TurnAsks code k start m o → RunsIn code (m .w) k
+turn-runs a = record { runs = begins.run-asks (a .idle) (asks-taking a); moded = a .idle .planned .moded }
 
 pub turn-places : {code w w₁ p s t r q : List ℕ} {k : Plan} {start : ℕ} {o : Run} {own : Own} → TurnAsks code k start (buffers w p s t r q) o
-    → (k .rooms .p ≡ 0 → ⊥) → Owned (modeOf (k .mode)) code start w (k .end) w₁ own → o .counts .kept + own .n ≤ k .rooms .s → Places w₁ p s k start own
+    → (k .rooms .p ≡ 0 → ⊥) → Owned (k .mode) code start w (k .end) w₁ own → o .counts .kept + own .n ≤ k .rooms .s → Places w₁ p s k start own
 turn-places a some owned room = begins.place-asks (a .idle) (asks-taking a) owned some room
 
 pub turn-opens : {code w w₁ w₂ p p₁ s s₁ t r q : List ℕ} {k : Plan} {start : ℕ} {o b : Run} {own : Own} {l : Level} → TurnAsks code k start (buffers w p s t r q) o
-    → (k .rooms .p ≡ 0 → ⊥) → Owned (modeOf (k .mode)) code start w (k .end) w₁ own → o .counts .kept + own .n ≤ k .rooms .s → Placed w₁ p s k start own w₂ p₁ s₁ l
+    → (k .rooms .p ≡ 0 → ⊥) → Owned (k .mode) code start w (k .end) w₁ own → o .counts .kept + own .n ≤ k .rooms .s → Placed w₁ p s k start own w₂ p₁ s₁ l
     → b ≡ begunWith o (own .n) → Opened code k start l (buffers w₂ p₁ s₁ t r q) b
 turn-opens {code} {k = k} {start} a some owned room placed e =
     let x = asks-taking a in
@@ -133,11 +132,11 @@ pub turn-short-p : {code : List ℕ} {k : Plan} {start : ℕ} {m : Mem} {o d : R
 turn-short-p {code} {k} {start} {m} {o} z e reached since idle x takes is =
     rw e (passed-refused (λ n. omega (arith, n)) (short-p (k .limit) (turn-of (direct (preparedIn k code)) reached x) (x .position) z))
 
-pub turn-short-s : {code w w₁ p s t r q : List ℕ} {k : Plan} {start : ℕ} {o d : Run} {own : Own} → (k .rooms .p ≡ 0 → ⊥) → Owned (modeOf (k .mode)) code start w (k .end) w₁ own
+pub turn-short-s : {code w w₁ p s t r q : List ℕ} {k : Plan} {start : ℕ} {o d : Run} {own : Own} → (k .rooms .p ≡ 0 → ⊥) → Owned (k .mode) code start w (k .end) w₁ own
     → k .rooms .s < o .counts .kept + own .n → d ≡ refusedWith o 5 → Turned code k start (buffers w p s t r q) o (buffers w₁ p s t r q) d
 turn-short-s {code} {k = k} some owned short e reached since idle x takes is =
     let g = idle .planned in
-    let y = taking (modeOf (k .mode)) code (g .is) (g .lentW .short) (idle .known) takes is in
+    let y = taking (k .mode) code (g .is) (g .lentW .short) (idle .known) takes is in
     let t : Turn = turn-of (direct (preparedIn k code)) reached x in
     rw e
     (passed-refused (λ n. omega (arith, n))
@@ -154,17 +153,17 @@ pub record Leveling (code : List ℕ) (k : Plan) (start : ℕ) (m : Mem) (o : Ru
   pub w₂ : List ℕ
   pub l : Level
   pub some : k .rooms .p ≡ 0 → ⊥
-  pub owned : Owned (modeOf (k .mode)) code start (m .w) (k .end) w₁ own
+  pub owned : Owned (k .mode) code start (m .w) (k .end) w₁ own
   pub room : o .counts .kept + own .n ≤ k .rooms .s
   pub placed : Placed w₁ (m .p) (m .s) k start own w₂ p₁ s₁ l
   pub leveled : Leveled code k start (record { np = 1; position = l .position; from = 0; cells = own .n; left = 255 }) (buffers w₂ p₁ s₁ (m .t) (m .r) (m .q))
       (begunWith o (own .n)) m′ d
 
-pub leveling : {code w w₁ w₂ p p₁ s s₁ t r q : List ℕ} {k : Plan} {start : ℕ} {m′ : Mem} {o b d : Run} {own : Own} {l : Level} → (k .rooms .p ≡ 0 → ⊥)
-    → Owned (modeOf (k .mode)) code start w (k .end) w₁ own → o .counts .kept + own .n ≤ k .rooms .s → Placed w₁ p s k start own w₂ p₁ s₁ l → b ≡ begunWith o (own .n)
-    → Leveled code k start l (buffers w₂ p₁ s₁ t r q) b m′ d → Leveling code k start (buffers w p s t r q) o m′ d
-leveling {w₁ = w₁} {w₂} {p₁ = p₁} {s₁ = s₁} {own = own} {l} some owned room placed e leveled =
-    record { w₁ = w₁; own = own; s₁ = s₁; p₁ = p₁; w₂ = w₂; l = l; some = some; owned = owned; room = room; placed = placed; leveled = rw (placed .is, e) at leveled }
+pub leveling : {code w w₁ w₂ p p₁ s s₁ t r q : List ℕ} {k : Plan} {start : ℕ} {m′ : Mem} {o b c d : Run} {own : Own} {l : Level} → (k .rooms .p ≡ 0 → ⊥)
+    → Owned (k .mode) code start w (k .end) w₁ own → o .counts .kept + own .n ≤ k .rooms .s → Placed w₁ p s k start own w₂ p₁ s₁ l → b ≡ begunWith o (own .n)
+    → Leveled code k start l (buffers w₂ p₁ s₁ t r q) b m′ c → d ≡ c → Leveling code k start (buffers w p s t r q) o m′ d
+leveling {w₁ = w₁} {w₂} {p₁ = p₁} {s₁ = s₁} {own = own} {l} some owned room placed e leveled f =
+    rw f (record { w₁ = w₁; own = own; s₁ = s₁; p₁ = p₁; w₂ = w₂; l = l; some = some; owned = owned; room = room; placed = placed; leveled = rw (placed .is, e) at leveled })
 
 module _ {code : List ℕ} {k : Plan} {start : ℕ} {m m′ : Mem} {o d : Run} (h : Leveling code k start m o m′ d) where
   abbrev opened : Mem
@@ -177,8 +176,8 @@ module _ {code : List ℕ} {k : Plan} {start : ℕ} {m m′ : Mem} {o d : Run} (
     abbrev its : Turn
     its = turn-of (direct (preparedIn k code)) reached x
 
-    takes-it : Taking (modeOf (k .mode)) code (m .w) (k .n) start x
-    takes-it = let g = idle .planned in taking (modeOf (k .mode)) code (g .is) (g .lentW .short) (idle .known) takes is
+    takes-it : Taking (k .mode) code (m .w) (k .n) start x
+    takes-it = let g = idle .planned in taking (k .mode) code (g .is) (g .lentW .short) (idle .known) takes is
 
     alike : Alike (k .n) (k .buckets) (m .w) (h .w₂)
     alike = begins.begun-alike idle takes-it (h .owned) (h .room) (h .placed)
@@ -260,6 +259,7 @@ module _ {code : List ℕ} {k : Plan} {start : ℕ} {m m′ : Mem} {o d : Run} (
                 lentP = g .lentP;
                 mostP = g .mostP;
                 shelves = g .shelves;
+                moded = g .moded;
               };
               tables = tables-kept (fits .tables) w₄ (m′ .s) (off .links) refl refl 0 0 (omega (arith, fits .tables .within .fitsS));
               remembers = record {

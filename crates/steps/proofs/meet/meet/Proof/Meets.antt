@@ -14,7 +14,7 @@ use Rattle.tables.specs.declared.Reply.{Reply}
 use Rattle.tables.specs.declared.row.Seen.{Seen}
 use Rattle.tables.proofs.Turns.{met-found, fresh-finds, row-short}
 use Rattle.steps.specs.Meets.{Meets, Met}
-use Rattle.steps.specs.declared.Plan.{Plan}
+use Rattle.steps.specs.Plans.{Plan}
 
 module _ {t s : List ℕ} {k : Plan} {c : Counts} {x : Seen} (h : Meets t s k c x) where
   -- with no room there is no row, so nothing was met

@@ -2,7 +2,7 @@
 use mathlib.Core.Path.{_≡_, refl}
 use mathlib.Core.List.{List, [], _∷_, _++_}
 use Prim.Native.Nat.{ℕ, _+_, _*_, _^_, _≤_, _<_}
-use native.Mathlib.Nat.{pow-suc, pow-le-pow-right}
+use native.Mathlib.Nat.{zero-add, pow-suc, pow-le-pow-right}
 use native.Mathlib.Numerals.{add-one}
 use native.Mathlib.Omega.{arith}
 use lib.ListN.{length, getD, take, drop, length-drop}
@@ -41,3 +41,15 @@ module _ {code : List ℕ} {pc n i v : ℕ} (f : Follow code pc n) (s : Spells c
 
   pub spelled : n ≤ i → Spelled code pc n v
   spelled h = let e : n ≡ i = omega arith in record { spelt = rw e (s .spelt); small = s .fits }
+
+-- ---- the ways out of argument_at
+
+module _ {code : List ℕ} {pc n : ℕ} (f : Follow code pc n) {b : ℕ} (w : Widened (getD code (pc + 1) 0) b) where
+  spells-first : 0 < n → Spells code pc n 1 b
+  spells-first h = simp zero-add at (spells-more f (spells-none code pc n) h w)
+
+  pub spelled-one : n ≡ 1 → Spelled code pc n b
+  spelled-one e = spelled f (spells-first (omega arith)) (omega arith)
+
+  pub spelled-two : {d : ℕ} → n ≡ 2 → Widened (getD code (pc + 2) 0) d → Spelled code pc n (b * 256 + d)
+  spelled-two e x = spelled f (spells-more f (spells-first (omega arith)) (omega arith) x) (omega arith)
