@@ -12,7 +12,8 @@ use lent::get8;
 ghost use Rattle.exec.specs.Modes.{modeOf};
 ghost use Rattle.parents.specs.Contracts.{Lent, Prepared, PreparesRow, PreparedRow};
 
-// Prepares every block, in a mode, from the last to the first, so that each list comes out in address order; gives how many take turns.
+// Prepares every block, in a mode, from the last to the first, so that each address's parents come out in address order, and the blocks that take turns
+// against it; gives how many take turns.
 pub fn prepare(mode: Mode, code: &[u8], w: &mut [u8], end: usize) -> usize
     requires { ⌜ Lent (now code) (now w) end ⌝ }
     ensures { λ r. ⌜ Prepared (modeOf mode) (now (code .entry)) (now (w .entry)) end (now (w .exit)) r ⌝ }
