@@ -8,7 +8,6 @@ use steps::Level;
 use steps::Run;
 use steps::cursor::FOUND;
 use steps::going::ADDRESSES;
-use steps::going::CODE;
 use steps::going::ENERGY;
 use steps::going::KEPT;
 use steps::going::RECORDS;

@@ -181,17 +181,13 @@ pub record Rounds (code : List ℕ) (k : Plan) (m : Mem) (o : Run) (m′ : Mem) 
 abbrev pub roomsOf : List ℕ → List ℕ → List ℕ → List ℕ → List ℕ → Rooms
 roomsOf p s t r q = record { p = units (length p) 2; s = units (length s) 9; t = units (length t) 32; r = units (length r) 32; q = units (length q) 2 }
 
--- how many buckets the records have: no more than R has rows, and one, of those that W's part holds
-abbrev pub bucketsFor : ℕ → ℕ → ℕ
-bucketsFor n rows = min (bucketsOf n) (rows + 1)
-
 abbrev pub planOf : Mode → ℕ → ℕ → ℕ → Rooms → Plan
 planOf mode n limit many rooms =
     record {
       n = n;
       end = work-need n;
       many = many;
-      buckets = bucketsFor n (rooms .r);
+      buckets = bucketsOf n;
       shelves = min (rooms .t) 0x10000;
       limit = limit;
       rooms = rooms;
