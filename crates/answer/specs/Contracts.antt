@@ -13,7 +13,9 @@ use Rattle.spec.specs.Answer.{refused, numberOf, written, searched, mapped, wit
 use Rattle.spec.specs.JsonAnswer.{within-text, json-answer, texted, text-after}
 use Rattle.layout.specs.Buffers.{Mem}
 use Rattle.steps.specs.declared.Run.{Run}
-use Rattle.entries.specs.Contracts.{mapOf, Ends}
+use Rattle.reachable.specs.Marks.{flagged}
+use Rattle.entries.specs.Contracts.{mapOf, Ends, Writes}
+use Rattle.answer.specs.declared.find.Finding.{Finding}
 use Rattle.answer.specs.declared.map.Answer.{Answer}
 use Rattle.answer.specs.declared.both.Both.{Both}
 
@@ -44,10 +46,16 @@ pub record Leaves (limit mode : ℕ) (code w r q : List ℕ) (m energy : ℕ) : 
   pub short : length code ≤ longest
   pub small : energy < 2 ^ 32
 
--- the number of the first shortage, whatever the output's length; or 0, and the map is left
-pub record Finds (limit mode : ℕ) (code : List ℕ) (m : Mem) (w r q : List ℕ) (d : Run) : Type 0 where
-  pub number : (out : List ℕ) → d .code ≡ shortage (lentOf m out) (searched (in-mode mode) limit code .needs)
-  pub leaves : d .code ≡ 0 → Leaves limit mode code w r q (d .counts .records) (d .energy)
+-- the number of the first shortage, whatever the output's length; or 0, and the map is left, with so many addresses flagged
+pub record Finds (limit mode : ℕ) (code : List ℕ) (m : Mem) (w r q : List ℕ) (f : Finding) : Type 0 where
+  pub number : (out : List ℕ) → f .run .code ≡ shortage (lentOf m out) (searched (in-mode mode) limit code .needs)
+  pub leaves : f .run .code ≡ 0 → Leaves limit mode code w r q (f .run .counts .records) (f .run .energy)
+  pub flags : f .run .code ≡ 0 → f .flags ≡ length (flagged w (length code))
+
+-- some map is left, to be written
+pub record Holds (w r q : List ℕ) (n : ℕ) (f : Finding) : Type 0 where
+  pub writes : Writes w r q n (f .run .counts .records) (f .run .energy)
+  pub flags : f .flags ≡ length (flagged w n)
 
 -- ---- the entry
 

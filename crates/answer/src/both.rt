@@ -1,18 +1,17 @@
 // The answer, and the JSON text of its blocks beside it.
 use crate::early::early;
+use crate::find::Finding;
 use crate::find::find;
 use crate::map::wipe_rooms;
-use entries::entries_size;
+use entries::entries_fit;
 use entries::write_entries;
 use exec::mode::mode_of;
-use json::text_size;
+use json::text_fits;
 use json::write_text;
 use lent::units;
-use steps::Run;
 ghost use mathlib.Core.Path.{_≡_};
 ghost use Rattle.layout.specs.Buffers.{buffers};
-ghost use Rattle.entries.specs.Contracts.{Writes};
-ghost use Rattle.answer.specs.Contracts.{PutBoth, MappedBoth};
+ghost use Rattle.answer.specs.Contracts.{Holds, PutBoth, MappedBoth};
 
 // The number of a refusal and twice 0, or 0 and the bytes written, of entries and of text.
 pub struct Both {
@@ -29,29 +28,30 @@ fn put_both(
     out: &mut [u8],
     text: &mut [u8],
     size: usize,
-    d: Run,
+    found: Finding,
     choice: usize,
 ) -> Both
-    requires { ⌜ (d .code ≡ 0 → Writes (now w) (now r) (now q) size (d .counts .records) (d .energy)) ⌝ }
-    ensures { λ a. ⌜ PutBoth (now (w .entry)) (now (r .entry)) (now (q .entry)) size d choice (now (out .entry)) (now (out .exit)) (now (text .entry)) (now (text .exit)) a ⌝ }
+    requires { ⌜ (found .run .code ≡ 0 → Holds (now w) (now r) (now q) size found) ⌝ }
+    ensures { λ a. ⌜ PutBoth (now (w .entry)) (now (r .entry)) (now (q .entry)) size (found .run) choice (now (out .entry)) (now (out .exit)) (now (text .entry)) (now (text .exit)) a ⌝ }
 {
+    let d = found.run;
     if d.code != 0 {
         return refused_both(d.code);
     }
     let c = d.counts;
-    let records = c.records;
-    let long = text_size(w, r, q, size, records);
-    if units(text.len(), 1) < long {
-        if units(out.len(), 1) < entries_size(w, r, q, size, records, choice) {
+    let rows = c.records;
+    let flags = found.flags;
+    if !text_fits(w, r, q, units(text.len(), 1), size, rows, flags) {
+        if !entries_fit(w, r, q, units(out.len(), 1), size, rows, choice, flags) {
             return refused_both(9);
         }
         return refused_both(11);
     }
-    let written = write_entries(w, r, q, out, size, records, d.energy, choice);
+    let written = write_entries(w, r, q, out, size, rows, d.energy, choice, flags);
     if written == 0 {
         return refused_both(9);
     }
-    let texted = write_text(w, r, q, text, size, records, long);
+    let texted = write_text(w, r, q, text, size, rows);
     Both {
         number: 0,
         written,
@@ -82,8 +82,8 @@ pub fn map_json(
     if number != 0 {
         return refused_both(number);
     }
-    let d = find(limit, mode_of(mode), code, w, p, s, t, r, q);
-    let a = put_both(w, r, q, out, text, code.len(), d, choice);
+    let found = find(limit, mode_of(mode), code, w, p, s, t, r, q);
+    let a = put_both(w, r, q, out, text, code.len(), found, choice);
     wipe_rooms(w, p, s, t, r, q);
     a
 }

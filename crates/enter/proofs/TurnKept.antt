@@ -11,7 +11,7 @@ use Rattle.spec.specs.Blocks.{Block}
 use Rattle.spec.specs.Search.{Found, Node, parent, sides, Rec, Turn}
 use Rattle.spec.specs.Answer.{prepared}
 use Rattle.laws.proofs.Members.{In, in-cases, in-only, in-map, gather-in, map-in}
-use Rattle.lent.proofs.Parts.{take-less, drop-more}
+use Rattle.lent.proofs.Parts.{take-less, drop-more, part-prefix, part-suffix}
 use Rattle.lent.proofs.Numbers.{num-prefix}
 use Rattle.layout.specs.Fields.{FIRST-FOUND, LAST-FOUND, HIGHEST, FLAG}
 use Rattle.layout.specs.Parts.{rowsEnd, fieldsPlace, bucketPlace, SameRows}
@@ -39,7 +39,7 @@ use Rattle.steps.specs.Sound.{SoundRec}
 use Rattle.steps.specs.States.{Took}
 use Rattle.steps.specs.Lands.{Noted}
 use Rattle.steps.specs.Runs.{stOf}
-use Rattle.enter.specs.Fits.{Planned, Fits, Stays}
+use Rattle.enter.specs.Fits.{Planned, Fits, spareOf, Stays}
 use Rattle.steps.specs.Plans.{Plan}
 use Rattle.steps.specs.declared.Level.{Level}
 use Rattle.steps.specs.declared.Run.{Run}
@@ -170,6 +170,7 @@ module _ {code : List ℕ} {k : Plan} {t : Turn} {since start : ℕ} {w p s T r 
       bottom = o .bottom;
       rows = taken-rows;
       flags = flagged-same w w′ (k .n) (λ a h. num-prefix w′ w (k .end - roomOf code) (o .front) 1 (fieldsPlace (k .n) a + FLAG) (omega (arith, f .planned .scratch)));
+      spare = part-prefix w′ w (k .end - roomOf code) (o .front) (spareOf k) (bucketPlace (k .n) (k .buckets)) (omega (arith, f .planned .scratch, f .planned .is));
       beyond = o .back;
       uses = omega arith;
       more = omega arith;
@@ -203,6 +204,7 @@ module _ {code : List ℕ} {k : Plan} {t : Turn} {since start : ℕ} {w p s T r 
       bottom = refl;
       rows = refl;
       flags = refl;
+      spare = refl;
       beyond = refl;
       uses = omega arith;
       more = omega arith;
@@ -254,6 +256,7 @@ module _ {code : List ℕ} {k : Plan} {t : Turn} {since start : ℕ} {w p s T r 
       bottom = o .around .bottom;
       rows = o .around .front;
       flags = flagged-same w w′ (k .n) (λ a h. num-in w′ w 2 (fieldsPlace (k .n) a + FLAG) (o .around .flags a h) 1 (fieldsPlace (k .n) a + FLAG) (omega arith) (omega arith));
+      spare = part-suffix w′ w (bucketPlace (k .n) (k .buckets)) (o .around .back) (spareOf k) (bucketPlace (k .n) (k .buckets)) (omega arith);
       beyond = drop-more w′ w (bucketPlace (k .n) (k .buckets)) (o .around .back) (k .end) (omega (arith, f .planned .scratch));
       uses = omega (arith, o .used);
       more = noted-more;

@@ -13,7 +13,7 @@ use Rattle.layout.specs.Records.{toAt}
 use Rattle.layout.specs.Rows.{startOf}
 use Rattle.layout.specs.Buffers.{Mem}
 use Rattle.state.specs.Cells.{stackAt, State}
-use Rattle.exec.specs.Owns.{roomOf}
+use Rattle.exec.specs.Owns.{runsRoom, roomOf}
 use Rattle.tables.specs.Addrs.{addrs}
 use Rattle.tables.specs.Tables.{Tables}
 use Rattle.tables.specs.Mets.{Remembers, Packs}
@@ -94,13 +94,22 @@ pub record Parental (code : List ℕ) (k : Plan) (m : Mem) (c : Counts) (at : �
   pub inside : Inside (k .n) (pathCursor (m .r) (m .q) at)
   pub sound : SoundStack (k .n) (length (pathCursor (m .r) (m .q) at)) (stackCursor (k .mode) code (m .r) (m .s) (k .rooms .s) at)
 
--- ---- what stays, while a level with a path of np addresses is tried: that path, the cells in use, W's rows and flags and what is beyond its parts, and the records
+-- ---- what stays, while a level with a path of np addresses is tried: that path, the cells in use, W's rows and flags, what lies between its buckets and the
+-- part for runs, and what is beyond its parts, and the records
+
+-- as many bytes as lie between the buckets in use and the part for runs, and that they stay
+abbrev pub spareOf : Plan → ℕ
+spareOf k = k .end - runsRoom (k .n) - bucketPlace (k .n) (k .buckets)
+
+abbrev pub SameSpare : Plan → List ℕ → List ℕ → Type 0
+SameSpare k w w′ = take (spareOf k) (drop (bucketPlace (k .n) (k .buckets)) w′) ≡ take (spareOf k) (drop (bucketPlace (k .n) (k .buckets)) w)
 
 pub record Stays (k : Plan) (np : ℕ) (m : Mem) (c : Counts) (m′ : Mem) (c′ : Counts) : Type 0 where
   pub path : take (2 * np) (m′ .p) ≡ take (2 * np) (m .p)
   pub bottom : take (9 * c .used) (m′ .s) ≡ take (9 * c .used) (m .s)
   pub rows : SameRows (k .n) (m .w) (m′ .w)
   pub flags : flagged (m′ .w) (k .n) ≡ flagged (m .w) (k .n)
+  pub spare : SameSpare k (m .w) (m′ .w)
   pub beyond : drop (k .end) (m′ .w) ≡ drop (k .end) (m .w)
   pub uses : c .used ≤ c′ .used
   pub more : c .records ≤ c′ .records

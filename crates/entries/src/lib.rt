@@ -15,5 +15,5 @@ pub use listing::is_listed;
 pub use listing::next_row;
 pub use row::begin_of;
 pub use row::path_of;
-pub use whole::entries_size;
+pub use whole::entries_fit;
 pub use whole::write_entries;

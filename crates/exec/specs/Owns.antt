@@ -27,8 +27,11 @@ far none = 0
 far (some x) = depth x
 
 -- the length of the part of w for the run of a block: no block puts more cells
+abbrev pub runsRoom : ℕ → ℕ
+runsRoom n = 9 * (n + 17)
+
 abbrev pub roomOf : List ℕ → ℕ
-roomOf code = 9 * (length code + 17)
+roomOf code = runsRoom (length code)
 
 -- the part of w is there; a block may start anywhere, inside an argument too
 pub record Runs (code w : List ℕ) (end : ℕ) : Type 0 where

@@ -10,19 +10,20 @@ use Rattle.spec.specs.Lists.{if, mem}
 use Rattle.lent.proofs.Numbers.{num-prefix}
 use Rattle.lent.proofs.Once.{Bytes, Same, Outside, same-num, same-both, same-as, same-then, same-rows, same-whole}
 use Rattle.layout.specs.Edges.{E-TO, E-WITNESS, E-OWN, E-LINKS, E-ENDS, keyAt}
-use Rattle.layout.specs.Fields.{COUNT, LAST, HEADS}
+use Rattle.layout.specs.Fields.{COUNT, LAST, HEADS, flagAt}
 use Rattle.layout.specs.Parts.{rowPlace, rowsEnd, fieldsPlace, listPlace}
 use Rattle.layout.specs.Records.{recordPlace, startAt, toAt}
 use Rattle.layout.specs.Rows.{tagAt}
 use Rattle.reachable.specs.Marks.{flagged}
 use Rattle.reachable.specs.Pruning.{Chains}
+use Rattle.reachable.proofs.Flags.{flagged-same}
 use Rattle.reachable.proofs.Chaining.{chains-kept}
 use Rattle.reachable.proofs.Once.{but-worklist}
 use Rattle.graph.specs.Notes.{edgeTo}
 use Rattle.graph.specs.Contracts.{Graphs, Graphed}
 use Rattle.graph.proofs.Asking.{start-lies}
 
-module _ {n m : ℕ} {w r q v s u t : List ℕ} (a : Graphs n m w r q) (p : Graphed n m w r q v s) (f : Graphed n m w r q u t) where
+module _ {n m count count′ : ℕ} {w r q v s u t : List ℕ} (a : Graphs n m w r q) (p : Graphed n m w r q v s count) (f : Graphed n m w r q u t count′) where
   rows : Same v u 0 (rowsEnd n)
   rows = same-rows 0 20 (n + 1) (λ x h. same-as (same-both (rowPlace x) 20 (p .rows x (omega arith)) (f .rows x (omega arith))) (omega arith) refl)
 
@@ -38,6 +39,9 @@ module _ {n m : ℕ} {w r q v s u t : List ℕ} (a : Graphs n m w r q) (p : Grap
 
   marked : (x : ℕ) → x ≤ n → _≡_ {A = ℕ} (if (mem x (flagged v n)) 1 0) (if (mem x (flagged u n)) 1 0)
   marked x h = ap (λ (is : Bool). if is 1 0) (reached x h)
+
+  flags : (x : ℕ) → x ≤ n → flagAt v n x ≡ flagAt u n x
+  flags x h = p .fresh .flags x h ∙ marked x h ∙ sym (f .fresh .flags x h)
 
   -- ---- the links, by the keys of the first
 
@@ -61,7 +65,7 @@ module _ {n m : ℕ} {w r q v s u t : List ℕ} (a : Graphs n m w r q) (p : Grap
     graphed-w : Outside (listPlace n) (2 * (n + 1)) v u
     graphed-w =
         but-worklist b d (p .longW ∙ sym (f .longW)) (rows .is) (λ x h. p .fresh .marks x h ∙ marked x h ∙ sym (f .fresh .marks x h)) heads
-        (λ x h. p .fresh .flags x h ∙ marked x h ∙ sym (f .fresh .flags x h)) (λ x h. same-both (fieldsPlace n x + LAST) 1 (p .spare x h) (f .spare x h))
+        flags (λ x h. same-both (fieldsPlace n x + LAST) 1 (p .spare x h) (f .spare x h))
         (p .beyondW ∙ sym (f .beyondW))
 
   -- ---- R
@@ -87,5 +91,5 @@ module _ {n m : ℕ} {w r q v s u t : List ℕ} (a : Graphs n m w r q) (p : Grap
     graphed-r : s ≡ t
     graphed-r = same-whole (recordPlace m) (same-rows 0 32 m (λ i h. same-as (edge i h) (omega arith) refl)) (p .beyondR ∙ sym (f .beyondR))
 
-  pub one-graphed : Bytes v → Bytes u → Bytes s → Bytes t → Outside (listPlace n) (2 * (n + 1)) v u × (s ≡ t)
-  one-graphed b d e g = (graphed-w b d, graphed-r e g)
+  pub one-graphed : Bytes v → Bytes u → Bytes s → Bytes t → Outside (listPlace n) (2 * (n + 1)) v u × (s ≡ t) × (count ≡ count′)
+  one-graphed b d e g = (graphed-w b d, graphed-r e g, p .count ∙ ap (λ (l : List ℕ). length l) (flagged-same u v n flags) ∙ sym (f .count))

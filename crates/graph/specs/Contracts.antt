@@ -15,6 +15,7 @@ use Rattle.layout.specs.Records.{RECORD, recordPlace, R-ENDS, startAt, toAt}
 use Rattle.layout.specs.Rows.{tagAt}
 use Rattle.initial.specs.Rows.{rowBlocks, blocksAt}
 use Rattle.tables.specs.Records.{recsOf, Row}
+use Rattle.reachable.specs.Marks.{flagged}
 use Rattle.reachable.specs.Contracts.{Room, Fresh}
 use Rattle.reachable.specs.Pruning.{Chains}
 use Rattle.graph.specs.Border.{Finished}
@@ -149,8 +150,8 @@ pub record Graphs (n m : ℕ) (w r q : List ℕ) : Type 0 where
   pub room : ℕ
   pub fits : Fits mode code states room n m w r q
 
--- and for each such, all is finished. Of W the worklist is scratch; all else, and every byte of R, is said.
-pub record Graphed (n m : ℕ) (w r q w′ r′ : List ℕ) : Type 0 where
+-- and for each such, all is finished, and so many addresses are flagged. Of W the worklist is scratch; all else, and every byte of R, is said.
+pub record Graphed (n m : ℕ) (w r q w′ r′ : List ℕ) (flags : ℕ) : Type 0 where
   pub finished : (mode : ℕ) (code s : List ℕ) (room : ℕ) → Fits mode code s room n m w r q → Finished mode code (recsOf r q s room m) w′ r′ q
   pub rows : (a : ℕ) → a ≤ n → take ROW (drop (rowPlace a) w′) ≡ mergedRow n (noteOf r a m) w a
   pub fresh : Fresh n w′
@@ -163,3 +164,4 @@ pub record Graphed (n m : ℕ) (w r q w′ r′ : List ℕ) : Type 0 where
   pub beyondR : drop (recordPlace m) r′ ≡ drop (recordPlace m) r
   pub longW : length w′ ≡ length w
   pub longR : length r′ ≡ length r
+  pub count : flags ≡ length (flagged w′ n)

@@ -5,5 +5,6 @@ pub mod Types
 pub mod Walked
 pub mod Rowed
 pub mod Matched
+pub mod Lengths
 pub mod Ended
 pub mod Once

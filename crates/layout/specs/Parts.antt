@@ -36,7 +36,7 @@ bucketsPlace n = 42 * (n + 1)
 abbrev pub bucketPlace : ℕ → ℕ → ℕ
 bucketPlace n h = bucketsPlace n + 4 * h
 
--- how many buckets there are: 13 bytes for each address, and of the 256 bytes as many as the part for runs, 9 * (n + 17), leaves
+-- how many buckets there is room for: 13 bytes for each address, and of the 256 bytes as many as the part for runs, 9 * (n + 17), leaves
 abbrev pub bucketsOf : ℕ → ℕ
 bucketsOf n = (13 * n + 52) / 4
 

@@ -114,8 +114,8 @@ module _ {n m : ℕ} {w r w₁ : List ℕ} (p : Prunes n m w r) (b : Begun n w w
         stay = stay;
       }
 
-pub pruned : {n m : ℕ} {w r w₁ r₁ w′ : List ℕ} → LinkedBoth n m w r w₁ r₁ → PrunedFrom n m r₁ w₁ w′ → Pruned n m w r w′ r₁
-pruned {n} {m} {w} {r} {w₁} {r₁} {w′} l f = record {
+pub pruned : {n m flags : ℕ} {w r w₁ r₁ w′ : List ℕ} → LinkedBoth n m w r w₁ r₁ → PrunedFrom n m r₁ w₁ w′ flags → Pruned n m w r w′ r₁ flags
+pruned {n} {m} {w = w} {r} {w₁} {r₁} {w′} l f = record {
   reached = λ x. f .reached x ∙ rw (edges-kept w w₁ n (l .rows), l .edges, l .none);
   fresh = sets-fresh (l .none) (l .marks) (l .flags) (f .sets);
   places = chains-kept r w′ r₁ (l .places) (λ i h. refl) (heads-kept (f .kept) 0 (omega arith)) (λ i h. refl);
@@ -126,4 +126,5 @@ pruned {n} {m} {w} {r} {w₁} {r₁} {w′} l f = record {
   beyond = f .kept .beyond ∙ drop-more w₁ w (listPlace n) (l .beyond) (bucketsPlace n) (omega arith);
   long = f .kept .long ∙ l .long;
   stay = l .stay;
+  count = f .count;
 }

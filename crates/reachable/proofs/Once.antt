@@ -15,6 +15,7 @@ use Rattle.layout.proofs.Once.{same-to-list}
 use Rattle.reachable.specs.Marks.{flagged, remark}
 use Rattle.reachable.specs.Contracts.{Marked, KeptBut, Highest, Raised, Expanded, Reaches}
 use Rattle.reachable.specs.Pruning.{Pruned}
+use Rattle.reachable.proofs.Flags.{flagged-same}
 use Rattle.reachable.proofs.Raising.{highest-once}
 
 pub one-marked : {n a when : ℕ} {w v u : List ℕ} → Marked n w a when v → Marked n w a when u → v ≡ u
@@ -85,11 +86,14 @@ one-reaches {n} {w} {v} {u} b d p q =
     marks : (x : ℕ) → x ≤ n → markAt v n x ≡ markAt u n x
     marks x h = p .fresh .marks x h ∙ ap (λ (is : Bool). if is 1 0) (same x) ∙ sym (q .fresh .marks x h)
 
--- ---- pruning: so in W; R is the same in every byte
+-- ---- pruning: so in W; R is the same in every byte, and so is the number
 
-module _ {n m : ℕ} {w r v s u t : List ℕ} (p : Pruned n m w r v s) (q : Pruned n m w r u t) where
+module _ {n m flags flags′ : ℕ} {w r v s u t : List ℕ} (p : Pruned n m w r v s flags) (q : Pruned n m w r u t flags′) where
   pruned-same : (x : ℕ) → _≡_ {A = ℕ} (if (mem x (flagged v n)) 1 0) (if (mem x (flagged u n)) 1 0)
   pruned-same x = ap (λ (is : Bool). if is 1 0) (p .reached x ∙ sym (q .reached x))
+
+  pruned-flags : (x : ℕ) → x ≤ n → flagAt v n x ≡ flagAt u n x
+  pruned-flags x h = p .fresh .flags x h ∙ pruned-same x ∙ sym (q .fresh .flags x h)
 
   module _ (b : Bytes v) (d : Bytes u) where
     pruned-heads : (x : ℕ) → x ≤ n → Same v u (fieldsPlace n x + HEADS) 14
@@ -102,7 +106,7 @@ module _ {n m : ℕ} {w r v s u t : List ℕ} (p : Pruned n m w r v s) (q : Prun
     pruned-w : Outside (listPlace n) (2 * (n + 1)) v u
     pruned-w =
         but-worklist b d (p .long ∙ sym (q .long)) (p .rows ∙ sym (q .rows)) (λ x h. p .fresh .marks x h ∙ pruned-same x ∙ sym (q .fresh .marks x h)) pruned-heads
-        (λ x h. p .fresh .flags x h ∙ pruned-same x ∙ sym (q .fresh .flags x h)) (λ x h. same-both (fieldsPlace n x + LAST) 1 (p .spare x h) (q .spare x h))
+        pruned-flags (λ x h. same-both (fieldsPlace n x + LAST) 1 (p .spare x h) (q .spare x h))
         (p .beyond ∙ sym (q .beyond))
 
   pruned-row : Bytes s → Bytes t → (i : ℕ) → i < m → Same s t (recordPlace i) 32
@@ -112,8 +116,9 @@ module _ {n m : ℕ} {w r v s u t : List ℕ} (p : Pruned n m w r v s) (q : Prun
       let witness : Same s t (recordPlace i + 12) 4 = same-num b d long 4 (recordPlace i + 12) (p .witnesses .links i (omega arith) h ∙ sym (q .witnesses .links i (omega arith) h)) in
       same-then (same-then (same-then (same-both (recordPlace i) 8 (p .stay .before i h) (q .stay .before i h)) place refl) witness (omega arith)) (same-both (recordPlace i + E-ENDS) 16 (p .stay .after i h) (q .stay .after i h)) (omega arith)
 
-  pub one-pruned : Bytes v → Bytes u → Bytes s → Bytes t → Outside (listPlace n) (2 * (n + 1)) v u × (s ≡ t)
+  pub one-pruned : Bytes v → Bytes u → Bytes s → Bytes t → Outside (listPlace n) (2 * (n + 1)) v u × (s ≡ t) × (flags ≡ flags′)
   one-pruned b d e f = (
     pruned-w b d,
     same-whole (recordPlace m) (same-rows 0 32 m (λ i h. same-as (pruned-row e f i h) (omega arith) refl)) (p .stay .beyond ∙ sym (q .stay .beyond)),
+    p .count ∙ ap (λ (l : List ℕ). length l) (flagged-same u v n pruned-flags) ∙ sym (q .count),
   )

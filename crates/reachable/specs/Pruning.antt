@@ -139,10 +139,11 @@ pub record FollowedAll (n m : ℕ) (r : List ℕ) (x : ℕ) (w : List ℕ) (coun
   pub led : (e : Edge) → In e (rowEdges w n ++ edgesAt r m) → (e .place ≡ x) ⊎ (e .witness ≡ x) → mem (e .place) (flagged w′ n) ≡ true
       → mem (e .witness) (flagged w′ n) ≡ true → Waits (entries w′ n count′) e ⊎ (mem (e .to) (flagged w′ n) ≡ true)
 
-pub record PrunedFrom (n m : ℕ) (r w w′ : List ℕ) : Type 0 where
+pub record PrunedFrom (n m : ℕ) (r w w′ : List ℕ) (flags : ℕ) : Type 0 where
   pub reached : (x : ℕ) → mem x (flagged w′ n) ≡ mem x (closure (rowEdges w n ++ edgesAt r m) (0 ∷ flagged w n))
   pub sets : Sets n 1 w w′
   pub kept : Kept n w w′
+  pub count : flags ≡ length (flagged w′ n)
 
 -- ---- the whole
 
@@ -174,9 +175,9 @@ pub record LinkedBoth (n m : ℕ) (w r w′ r′ : List ℕ) : Type 0 where
   pub edges : edgesAt r′ m ≡ edgesAt r m
   pub stay : RowsStay m r r′
 
--- What is reached from 0 is flagged and marked 1; the first rows and the links are those of the rows; the others' other fields are 0, and all else
--- stays but the worklist, which is scratch.
-pub record Pruned (n m : ℕ) (w r w′ r′ : List ℕ) : Type 0 where
+-- What is reached from 0 is flagged and marked 1, and so many addresses are; the first rows and the links are those of the rows; the others' other fields
+-- are 0, and all else stays but the worklist, which is scratch.
+pub record Pruned (n m : ℕ) (w r w′ r′ : List ℕ) (flags : ℕ) : Type 0 where
   pub reached : (x : ℕ) → mem x (flagged w′ n) ≡ mem x (closure (rowEdges w n ++ edgesAt r m) (0 ∷ []))
   pub fresh : Fresh n w′
   pub places : Chains n m 0 r w′ r′ 0
@@ -187,3 +188,4 @@ pub record Pruned (n m : ℕ) (w r w′ r′ : List ℕ) : Type 0 where
   pub beyond : PastList n w w′
   pub long : length w′ ≡ length w
   pub stay : RowsStay m r r′
+  pub count : flags ≡ length (flagged w′ n)

@@ -89,17 +89,20 @@ fn follow_all(
     follow_edges(w, size, r, rows, address, more)
 }
 
-// Flags all that is reached from 0.
-fn follow_from(w: &mut [u8], size: usize, r: &[u8], rows: usize)
+// Flags all that is reached from 0; the answer is how many addresses that are, since each waits in the worklist once.
+fn follow_from(w: &mut [u8], size: usize, r: &[u8], rows: usize) -> usize
     requires { ⌜ Pruning size rows (now w) (now r) ⌝ }
     requires { ⌜ flagged (now w) size ≡ [] ⌝ }
-    ensures { λ _. ⌜ PrunedFrom size rows (now (r .entry)) (now (w .entry)) (now (w .exit)) ⌝ }
+    ensures { λ flags. ⌜ PrunedFrom size rows (now (r .entry)) (now (w .entry)) (now (w .exit)) flags ⌝ }
 {
     let mut count = enter(w, size, 0, 1, 0);
+    let mut flags = 0;
     while count != 0 {
+        flags += 1;
         let address = last(w, size, count);
         count = follow_all(w, size, r, rows, address, count - 1);
     }
+    flags
 }
 
 // Links the rows by both keys, over a wiped W.
@@ -112,11 +115,11 @@ fn link_both(w: &mut [u8], size: usize, r: &mut [u8], rows: usize)
     link(w, size, r, rows, WITNESS);
 }
 
-// Flags what pruning keeps: what is reached from 0 over static sides and over the rows of edges in r.
-pub fn prune(w: &mut [u8], size: usize, r: &mut [u8], rows: usize)
+// Flags what pruning keeps: what is reached from 0 over static sides and over the rows of edges in r. The answer is how many addresses are flagged.
+pub fn prune(w: &mut [u8], size: usize, r: &mut [u8], rows: usize) -> usize
     requires { ⌜ Prunes size rows (now w) (now r) ⌝ }
-    ensures { λ _. ⌜ Pruned size rows (now (w .entry)) (now (r .entry)) (now (w .exit)) (now (r .exit)) ⌝ }
+    ensures { λ flags. ⌜ Pruned size rows (now (w .entry)) (now (r .entry)) (now (w .exit)) (now (r .exit)) flags ⌝ }
 {
     link_both(w, size, r, rows);
-    follow_from(w, size, r, rows);
+    follow_from(w, size, r, rows)
 }

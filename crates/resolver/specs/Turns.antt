@@ -38,7 +38,7 @@ use Rattle.steps.specs.Runs.{tabled, recsIn, stOf, Did}
 use Rattle.steps.specs.Plans.{Plan}
 use Rattle.steps.specs.declared.Level.{Level}
 use Rattle.steps.specs.declared.Run.{Run}
-use Rattle.enter.specs.Fits.{Planned, preparedIn}
+use Rattle.enter.specs.Fits.{Planned, preparedIn, SameSpare}
 
 -- ---- between turns
 
@@ -66,6 +66,7 @@ pub record Passed (code : List ℕ) (k : Plan) (reached : List ℕ) (since : ℕ
   pub idle : d .code ≡ 0 → Idle code k reached since m′ d
   pub flags : d .code ≡ 0 → flagged (m′ .w) (k .n) ≡ flagged (m .w) (k .n)
   pub rows : d .code ≡ 0 → SameRows (k .n) (m .w) (m′ .w)
+  pub spare : d .code ≡ 0 → SameSpare k (m .w) (m′ .w)
   pub beyond : d .code ≡ 0 → drop (k .end) (m′ .w) ≡ drop (k .end) (m .w)
   pub older : d .code ≡ 0 → take (o .counts .records) (recsIn k m′ (d .counts)) ≡ recsIn k m (o .counts)
 
@@ -174,6 +175,7 @@ pub record Rounds (code : List ℕ) (k : Plan) (m : Mem) (o : Run) (m′ : Mem) 
   pub did : Did (k .rooms) (rounds 128 (k .limit) (preparedIn k code)) (stOf k m o) (d .code) (stOf k m′ d)
   pub between : d .code ≡ 0 → Between code k (last-since 128 (k .limit) (preparedIn k code) 0 (stOf k m o)) m′ d
   pub rows : d .code ≡ 0 → SameRows (k .n) (m .w) (m′ .w)
+  pub spare : d .code ≡ 0 → SameSpare k (m .w) (m′ .w)
   pub beyond : d .code ≡ 0 → drop (k .end) (m′ .w) ≡ drop (k .end) (m .w)
 
 -- ---- the search
@@ -181,13 +183,17 @@ pub record Rounds (code : List ℕ) (k : Plan) (m : Mem) (o : Run) (m′ : Mem) 
 abbrev pub roomsOf : List ℕ → List ℕ → List ℕ → List ℕ → List ℕ → Rooms
 roomsOf p s t r q = record { p = units (length p) 2; s = units (length s) 9; t = units (length t) 32; r = units (length r) 32; q = units (length q) 2 }
 
+-- how many buckets the records have: no more than R has rows, and one, of those that W's part holds
+abbrev pub bucketsFor : ℕ → ℕ → ℕ
+bucketsFor n rows = min (bucketsOf n) (rows + 1)
+
 abbrev pub planOf : Mode → ℕ → ℕ → ℕ → Rooms → Plan
 planOf mode n limit many rooms =
     record {
       n = n;
       end = work-need n;
       many = many;
-      buckets = bucketsOf n;
+      buckets = bucketsFor n (rooms .r);
       shelves = min (rooms .t) 0x10000;
       limit = limit;
       rooms = rooms;
@@ -218,6 +224,7 @@ pub record Searched (mode : Mode) (code : List ℕ) (limit many : ℕ) (m m′ :
   pub energy-most : d .code ≡ 0 → d .energy ≤ limit + 256
   pub between : d .code ≡ 0 → Between code (plan mode code limit many m) (last-since 128 limit (prepared (in-mode (modeOf mode)) code) 0 begin) m′ d
   pub rows : d .code ≡ 0 → SameRows (length code) (m .w) (m′ .w)
+  pub spare : d .code ≡ 0 → SameSpare (plan mode code limit many m) (m .w) (m′ .w)
   pub beyond : d .code ≡ 0 → drop (work-need (length code)) (m′ .w) ≡ drop (work-need (length code)) (m .w)
   pub reached : d .code ≡ 0
       → Reached (prepared (in-mode (modeOf mode)) code) (length code) (m′ .w) (last-since 128 limit (prepared (in-mode (modeOf mode)) code) 0 begin) (d .counts .records)

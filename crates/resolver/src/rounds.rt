@@ -26,7 +26,7 @@ ghost use Prim.Native.Nat.{_≤_};
 ghost use Rattle.spec.specs.Rooms.{longest};
 ghost use Rattle.layout.specs.Buffers.{buffers};
 ghost use Rattle.exec.specs.Modes.{modeOf};
-ghost use Rattle.resolver.specs.Turns.{Between, Rounds, SearchAsks, Searched, roomsOf, planOf, begunRun};
+ghost use Rattle.resolver.specs.Turns.{Between, Rounds, SearchAsks, Searched, roomsOf, bucketsFor, planOf, begunRun};
 ghost use Rattle.steps.specs.Plans.{planIn};
 
 // How many rounds there are at most.
@@ -99,6 +99,18 @@ fn number_of(mode: Mode) -> usize
     }
 }
 
+// How many buckets the records have: a search whose R is small wipes few of them, and finds them close together.
+fn buckets_of(size: usize, rows: usize) -> usize
+    requires { ⌜ size ≤ longest ⌝ }
+    ensures { λ x. ⌜ x ≡ bucketsFor size rows ⌝ }
+{
+    let most = (SHARE * size + SHARE_MORE) / BUCKET;
+    if most <= rows {
+        return most;
+    }
+    rows + 1
+}
+
 // The plan of a search, in a mode, over a code of `size` bytes. T has a bucket for each of its rows, up to `MOST_SHELVES`.
 fn plan_of(mode: Mode, size: usize, limit: usize, many: usize, rooms: Rooms) -> [usize; PLAN]
     requires { ⌜ size ≤ longest ⌝ }
@@ -110,11 +122,12 @@ fn plan_of(mode: Mode, size: usize, limit: usize, many: usize, rooms: Rooms) -> 
         MOST_SHELVES
     };
     let number = number_of(mode);
+    let buckets = buckets_of(size, rooms.r);
     [
         size,
         NEED * size + NEED_MORE,
         many,
-        (SHARE * size + SHARE_MORE) / BUCKET,
+        buckets,
         shelves,
         limit,
         rooms.p,

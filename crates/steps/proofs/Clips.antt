@@ -3,6 +3,7 @@ use mathlib.Core.Path.{_≡_, refl, sym, ap, _∙_}
 use mathlib.Core.Bool.{_&&_}
 use mathlib.Core.List.{List}
 use Prim.Native.Nat.{ℕ, zero, suc, _+_, _-_, _*_, _≤_, _<_}
+use native.Mathlib.Decide.{ℕ-discrete}
 use native.Mathlib.Omega.{arith}
 use lib.Dec.{ltb, leb}
 use lib.ListN.{length}
@@ -60,11 +61,11 @@ or-first (suc a) b d = refl
 
 -- ---- what they read
 
-module _ {w r : List ℕ} {n at : ℕ} where
-  pub row-found : Cursor w r n at → 0x10000 ≤ at → recordPlace (at - 0x10000) + RECORD ≤ length r
+module _ {w r : List ℕ} {n b at : ℕ} where
+  pub row-found : Cursor w r n b at → 0x10000 ≤ at → recordPlace (at - 0x10000) + RECORD ≤ length r
   row-found h l = h .found l
 
-  pub row-direct : Cursor w r n at → at < 0x10000 → Link w at
+  pub row-direct : Cursor w r n b at → at < 0x10000 → Link w at
   row-direct h l = record { some = h .some; inside = h .direct l }
 
 module _ {r q : List ℕ} {at : ℕ} where
@@ -98,6 +99,15 @@ module _ (w : List ℕ) (n b opened high : ℕ) where
     pub next-direct : {x y : ℕ} → at < 0x10000 → Number x (rows.nextAt w b at) 2 → y ≡ upTo high x → (y ≡ 0 → ⊥) → y ≡ nextCursor w r n b opened high at
     unfolding nextCursor if
     next-direct l h u d = rw (lt-ltb at 0x10000 l) (or-first _ _ d ∙ ap (λ (a : ℕ). or-else a (clipped opened (firstFoundAt w n b))) (u ∙ ap (upTo high) (h .is)))
+
+    -- the highest has no direct parent behind it that is as high
+    pub next-last : {y : ℕ} → at < 0x10000 → at ≡ high → Cursor w r n b at → y ≡ clipped opened (firstFoundAt w n b) → y ≡ nextCursor w r n b opened high at
+    unfolding nextCursor if
+    next-last l e c f = rw (lt-ltb at 0x10000 l) (f ∙ ap (λ (a : ℕ). or-else a (clipped opened (firstFoundAt w n b))) (none (ℕ-discrete (rows.nextAt w b at) 0)))
+      where
+        none : Dec (rows.nextAt w b at ≡ 0) → 0 ≡ upTo high (rows.nextAt w b at)
+        none (yes z) = sym z ∙ up-low high (rows.nextAt w b at) (omega (arith, z))
+        none (no d) = up-high high (rows.nextAt w b at) (omega (arith, c .rises l d))
 
     pub next-other : {x k y : ℕ} → at < 0x10000 → Number x (rows.nextAt w b at) 2 → k ≡ upTo high x → k ≡ 0 → y ≡ clipped opened (firstFoundAt w n b)
         → y ≡ nextCursor w r n b opened high at

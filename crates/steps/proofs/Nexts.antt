@@ -37,7 +37,7 @@ use Rattle.steps.specs.Paths.{Inside}
 use Rattle.steps.specs.Sound.{SoundRecs}
 use Rattle.steps.proofs.Clips.{clip-some}
 use Rattle.steps.proofs.Founds.{stateAt, recs-from, recs-take, rec-here, rec-to, leads-here, following-left}
-use Rattle.steps.proofs.Cursors.{LeftUpTo, or-left, direct-rows, all-found, direct-path, direct-last, direct-stack, direct-next, found-path, found-last, found-stack, found-next, fuel, fuel-falls, up-rises, or-rises}
+use Rattle.steps.proofs.Cursors.{LeftUpTo, or-left, direct-rows, all-found, direct-path, direct-last, direct-stack, direct-next, found-path, found-last, found-stack, found-next, fuel, fuel-falls, link-rises, up-rises, or-rises}
 
 -- ---- the last of some addresses
 
@@ -88,7 +88,7 @@ pub record NextLeft (mode : ℕ) (code w r q s : List ℕ) (n b opened high room
   pub is : ps ≡ parent b (pathCursor r q at) (stackCursor mode code r s room at) ∷ rest
   pub next : LeftUpTo mode code w n b rs high (nextCursor w r n b opened high at) rest
   pub falls : fuel (nextCursor w r n b opened high at) < fuel at
-  pub cursor : Cursor w r n at
+  pub cursor : Cursor w r n b at
   pub asks : Asks r q at
   pub last : lastOf (pathCursor r q at) ≡ lastCursor r q at
   pub last-inside : lastCursor r q at ≤ n
@@ -119,7 +119,7 @@ module _ (mode : ℕ) (code : List ℕ) {w r q s : List ℕ} {n buckets : ℕ} {
             rw next
             (fuel-falls at (or-else (upTo high (rows.nextAt w b at)) (clipped opened (firstFoundAt w n b))) (λ e. omega arith) (omega arith)
             (or-rises at (upTo high (rows.nextAt w b at)) (clipped opened (firstFoundAt w n b)) (λ d. omega (arith, up-rises high p h d)) (λ d. omega (arith, clip-some opened (firstFoundAt w n b) d))));
-        cursor = record { some = some; direct = λ _. omega arith; found = λ z. absurd (omega arith) };
+        cursor = record { some = some; direct = λ _. omega arith; rises = λ _ d. omega (arith, link-rises p h d); found = λ z. absurd (omega arith) };
         asks = record { some = some; row = λ z. absurd (omega arith); path = λ z. absurd (omega arith) };
         last = ap lastOf path ∙ sym last;
         last-inside = rw last start;
@@ -194,7 +194,7 @@ module _ (mode : ℕ) (code : List ℕ) {w r q s : List ℕ} {n buckets : ℕ} {
           passes = λ f e. refl;
         };
         falls = rw next (fuel-falls at (clipped opened (records.nextAt r i)) (λ e. omega arith) (omega (arith, below, t .within .fitsR, t .within .mostR)) (λ d. omega (arith, leads-rises i h d)));
-        cursor = record { some = omega arith; direct = λ z. absurd (omega arith); found = λ _. row .inR };
+        cursor = record { some = omega arith; direct = λ z. absurd (omega arith); rises = λ z. absurd (omega arith); found = λ _. row .inR };
         asks = record { some = omega arith; row = λ _. row .inR; path = λ _. (omega (arith, long, path-length r q i), row .inQ) };
         last = ap lastOf path ∙ path-last r q i (omega (arith, long)) ∙ sym last;
         last-inside = rw (last, ← path-last r q i (omega (arith, long))) (inside-path .each (lastOf (pathAt r q i)) (last-in (pathAt r q i) (omega (arith, long))));

@@ -63,10 +63,11 @@ pub record AtBlock (w : List ℕ) (n b : ℕ) : Type 0 where
   pub inside : b ≤ n
   pub room : listPlace n ≤ length w
 
--- a parent is there: a direct one's row in W, or a found one's in R
-pub record Cursor (w r : List ℕ) (n at : ℕ) : Type 0 where
+-- a parent of b is there: a direct one's row in W, from which a link leads further up, or a found one's in R
+pub record Cursor (w r : List ℕ) (n b at : ℕ) : Type 0 where
   pub some : 1 ≤ at
   pub direct : at < 0x10000 → rowPlace (startOf at) + ROW ≤ length w
+  pub rises : at < 0x10000 → (rows.nextAt w b at ≡ 0 → ⊥) → at < rows.nextAt w b at
   pub found : 0x10000 ≤ at → recordPlace (at - 0x10000) + RECORD ≤ length r
 
 -- and the last address of a found one's path in Q

@@ -72,11 +72,15 @@ pub fn next_cursor(
     highest: usize,
     at: usize,
 ) -> usize
-    requires { ⌜ (AtBlock (now w) size start) × (Cursor (now w) (now r) size at) ⌝ }
+    requires { ⌜ (AtBlock (now w) size start) × (Cursor (now w) (now r) size start at) ⌝ }
     ensures { λ x. ⌜ x ≡ nextCursor (now (w .entry)) (now (r .entry)) size start opened highest at ⌝ }
 {
     if FOUND <= at {
         return clip(get32(r, RECORD * (at - FOUND) + NEXT), opened);
+    }
+    // past the highest none is reached, and its row need not be read
+    if at == highest {
+        return first_found(w, size, start, opened);
     }
     let link = up_to(highest, next_parent(w, start, at));
     if link != 0 {

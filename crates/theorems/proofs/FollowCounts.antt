@@ -16,6 +16,7 @@ use Rattle.spec.specs.Counting.{count}
 use Rattle.spec.specs.Follow.{stands, starts-at, outgoing, Stand, outside, Move, not-in-map, stays-in, begins, takes, Way, Counts, none-taken, bumped, enter, take-edge, counted, Followed, follow, numbers, count-bytes}
 use Rattle.laws.proofs.Lists.{Rising, one-more as rises}
 use Rattle.laws.proofs.Members.{In, here, there}
+use Rattle.laws.proofs.Totals.{total-none, total-sum}
 use Rattle.theorems.proofs.Answered.{finals-at}
 use Rattle.theorems.proofs.EightsBack.{eights-long}
 use Rattle.theorems.proofs.FollowTrace.{InMap, first-step, next-instruction, by-an-edge, Walked, log-ends, map-ends, walks-on, moves, walked, tallied, follow-moves, moves-prefix}
@@ -142,10 +143,6 @@ module _ {A : Type 0} where
   total-same f g h [] = refl
   total-same f g h (x ∷ xs) = ap₂ _+_ (h x) (total-same f g h xs)
 
-  total-sum : (f g : A → ℕ) (xs : List A) → total (λ (x : A). f x + g x) xs ≡ total f xs + total g xs
-  total-sum f g [] = refl
-  total-sum f g (x ∷ xs) = omega (arith, total-sum f g xs)
-
 total-map : {A B : Type 0} (f : B → ℕ) (g : A → B) (xs : List A) → total f (map g xs) ≡ total (λ (x : A). f (g x)) xs
 total-map f g [] = refl
 total-map f g (x ∷ xs) = ap (λ (n : ℕ). f (g x) + n) (total-map f g xs)
@@ -171,10 +168,6 @@ one-starts (f ∷ fs) (rises l r) g here = ap₂ (λ (x : Bool) (n : ℕ). flag 
 one-starts (f ∷ fs) (rises l r) g (there i) =
     let k = above fs r g i in
     ap₂ (λ (x : Bool) (n : ℕ). flag x + n) (ne-eqb (starts-at g) (starts-at f) (λ e. omega arith)) (one-starts fs r g i)
-
-total-none : {A : Type 0} (xs : List A) → total (λ x. 0) xs ≡ 0
-total-none [] = refl
-total-none (x ∷ xs) = omega (arith, total-none xs)
 
 module _ (m : Map) (code : List ℕ) (rising : Rising 0 (finals-at (m .blocks))) where
   entered-once : {at : Stand} {q : ℕ} {v : Move} → InMap m code at q v → total (λ (f : Final). flag (enters-at (starts-at f) v)) (m .blocks) ≡ flag (enters v)

@@ -2,7 +2,7 @@
 use mathlib.Core.Path.{_∙_}
 use borrow.Author.Needs.{needs}
 use Rattle.answer.proofs.Mapping.{early-lends, early-mode, both-early, both-run}
-use Rattle.answer.proofs.Told.{run-writes, both-told}
+use Rattle.answer.proofs.Told.{run-holds, both-told}
 use Rattle.answer.proofs.both.map_json.Statement.{statement}
 use Rattle.answer.proofs.both.map_json.Tie as tie
 
@@ -39,7 +39,7 @@ find-requires c κs =
     early-lends (at-if .before .early .ensures) (at-if .if1 .left)
 
 put-both-requires : tie.Need-put-both-requires
-put-both-requires c κs = run-writes (found c .find .ensures)
+put-both-requires c κs = run-holds (found c .find .ensures)
 
 same-length : tie.Need-same-length
 same-length c = wiped c .wipe-rooms .kept .0 ∙ begun c .find .kept .1 .1 .1 .0

@@ -1,7 +1,6 @@
 -- `family_of`: the code is wide, or not. Assumes nothing.
 mod Families
 use Families.{family-wide, family-narrow}
-use borrow.Author.Needs.{needs}
 use Rattle.entries.proofs.family.family_of.Statement.{statement}
 use Rattle.entries.proofs.family.family_of.Tie as tie
 

@@ -3,19 +3,22 @@ use Prim.Native.Nat.{_+_, _-_, _*_}
 use lib.ListN.{length}
 use borrow.Author.Needs.{needs}
 use Rattle.reachable.specs.Marks.{flagged}
-use Rattle.reachable.proofs.Pruned.{Going-on, prune-start, prune-going, prune-turn, prune-done}
+use Rattle.reachable.proofs.Pruned.{Going-on, prune-start, prune-fits, prune-going, prune-turn, prune-done}
 use Rattle.reachable.proofs.Spreading.{turn-few, turn-less}
 use Rattle.reachable.proofs.pruning.follow_from.Statement.{statement}
 use Rattle.reachable.proofs.pruning.follow_from.Tie as tie
 
 abbrev Inv-loop : tie.InvT-loop
-Inv-loop w₀ n r m count₀ w count = Going-on n m r w₀ w count
+Inv-loop w₀ n r m count₀ many₀ w count flags = Going-on n m r w₀ w count flags
 
 abbrev μ-loop : tie.MeasureT-loop
-μ-loop w₀ n r m count₀ w count = 2 * (n + 1 - length (flagged w n)) + count
+μ-loop w₀ n r m count₀ many₀ w count flags = 2 * (n + 1 - length (flagged w n)) + count
 
 loop-holds : tie.Need-loop-holds Inv-loop μ-loop
 loop-holds c = search prune-start
+
+add-flags : tie.Need-add-flags Inv-loop μ-loop
+add-flags c = search prune-fits
 
 last-requires : tie.Need-last-requires Inv-loop μ-loop
 last-requires c κs = (search needs, (search needs, search turn-few))
@@ -40,6 +43,7 @@ follow-from-spec =
     μ-loop
     (λ c κs. search needs)
     loop-holds
+    add-flags
     last-requires
     (λ c. search needs)
     follow-all-requires

@@ -1,6 +1,6 @@
 -- `next_cursor`: the next found parent, or the next direct one, or else the first found one. Assumes nothing.
 use borrow.Author.Needs.{needs}
-use Rattle.steps.proofs.Clips.{row-found, row-direct, next-found, next-direct, next-other}
+use Rattle.steps.proofs.Clips.{row-found, row-direct, next-found, next-last, next-direct, next-other}
 use Rattle.steps.proofs.cursor.next_cursor.Statement.{statement}
 use Rattle.steps.proofs.cursor.next_cursor.Tie as tie
 
@@ -20,16 +20,19 @@ get32-requires c κs = let h = row-found (to-entry c .pre .1) (c .if1 .taken) in
 returns : tie.Need-returns
 returns c = search next-found
 
+returns-2 : tie.Need-returns-2
+returns-2 c = search next-last
+
 next-parent-requires : tie.Need-next-parent-requires
 next-parent-requires c κs = search row-direct
 
-returns-2 : tie.Need-returns-2
-returns-2 c = search next-direct
-
 returns-3 : tie.Need-returns-3
-returns-3 c = search next-other
+returns-3 c = search next-direct
+
+returns-4 : tie.Need-returns-4
+returns-4 c = search next-other
 
 pub next-cursor-spec : {M : Type 1} → statement M
 next-cursor-spec =
     tie.close
-    (tie.spec mul-get32 add-get32 get32-requires (λ c κs. search needs) returns next-parent-requires (λ c κs. search needs) returns-2 (λ c κs. search needs) returns-3)
+    (tie.spec mul-get32 add-get32 get32-requires (λ c κs. search needs) returns (λ c κs. search needs) returns-2 next-parent-requires (λ c κs. search needs) returns-3 (λ c κs. search needs) returns-4)

@@ -66,7 +66,7 @@ module _ {limit : ℕ} {code w w₁ : List ℕ} (l : Lends limit code w) (i : In
           unfolding mapped searched
           map-is choice = rw (s .recs z, s .energy z)
 
-          run-leaves : {w₄ r₄ : List ℕ} → Graphed (length code) (d .counts .records) (m₃ .w) (m₃ .r) (m₃ .q) w₄ r₄
+          run-leaves : {w₄ r₄ : List ℕ} {flags : ℕ} → Graphed (length code) (d .counts .records) (m₃ .w) (m₃ .r) (m₃ .q) w₄ r₄ flags
               → Leaves limit (modeOf mode) code w₄ r₄ (m₃ .q) (d .counts .records) (d .energy)
           run-leaves g = record {
             recs = found;
@@ -80,6 +80,6 @@ module _ {limit : ℕ} {code w w₁ : List ℕ} (l : Lends limit code w) (i : In
             small = omega (arith, s .energy-most z, l .limited);
           }
 
-        pub run-finds : {w₄ r₄ : List ℕ} → (d .code ≡ 0 → Graphed (length code) (d .counts .records) (m₃ .w) (m₃ .r) (m₃ .q) w₄ r₄)
-            → Finds limit (modeOf mode) code (buffers w P S T R Q) w₄ r₄ (m₃ .q) d
-        run-finds g = record { number = code-is; leaves = λ z. run-leaves z (g z) }
+        pub run-finds : {w₄ r₄ : List ℕ} {flags : ℕ} → (d .code ≡ 0 → Graphed (length code) (d .counts .records) (m₃ .w) (m₃ .r) (m₃ .q) w₄ r₄ flags)
+            → Finds limit (modeOf mode) code (buffers w P S T R Q) w₄ r₄ (m₃ .q) (record { run = d; flags = flags })
+        run-finds g = record { number = code-is; leaves = λ z. run-leaves z (g z); flags = λ z. g z .count }

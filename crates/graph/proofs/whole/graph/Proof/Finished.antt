@@ -34,8 +34,8 @@ use Rattle.graph.proofs.Recs.{rec-in, in-rec, rec-at, rec-destination}
 use Rattle.graph.proofs.Edges.{RowOf, same-edges}
 use Rattle.graph.proofs.Asking.{start-lies, rec-last, row-of}
 
-module _ {mode : ℕ} {code s : List ℕ} {room m : ℕ} {w r q w₁ r₁ w₂ r₂ : List ℕ} (f : Fits mode code s room (length code) m w r q) (t : MergedAll (length code) m w r w₁)
-    (e : Rewrote m w₁ r q r₁) (p : Pruned (length code) m w₁ r₁ w₂ r₂) where
+module _ {mode : ℕ} {code s : List ℕ} {room m flags : ℕ} {w r q w₁ r₁ w₂ r₂ : List ℕ} (f : Fits mode code s room (length code) m w r q) (t : MergedAll (length code) m w r w₁)
+    (e : Rewrote m w₁ r q r₁) (p : Pruned (length code) m w₁ r₁ w₂ r₂ flags) where
   all : List Rec
   all = recsOf r q s room m
 
@@ -104,7 +104,7 @@ module _ {mode : ℕ} {code s : List ℕ} {room m : ℕ} {w r q w₁ r₁ w₂ r
 
 -- ---- the bytes, whatever code it is
 
-module _ {n m : ℕ} {w r q w₁ r₁ w₂ r₂ : List ℕ} (a : Graphs n m w r q) (t : MergedAll n m w r w₁) (e : Rewrote m w₁ r q r₁) (p : Pruned n m w₁ r₁ w₂ r₂) where
+module _ {n m flags : ℕ} {w r q w₁ r₁ w₂ r₂ : List ℕ} (a : Graphs n m w r q) (t : MergedAll n m w r w₁) (e : Rewrote m w₁ r q r₁) (p : Pruned n m w₁ r₁ w₂ r₂ flags) where
   merged-row : (x : ℕ) → x ≤ n → take ROW (drop (rowPlace x) w₂) ≡ mergedRow n (noteOf r x m) w x
   merged-row x h = part-prefix w₂ w₁ (rowsEnd n) (p .rows) 20 (rowPlace x) (omega arith) ∙ t .bytes x h
 
@@ -130,10 +130,11 @@ module _ {n m : ℕ} {w r q w₁ r₁ w₂ r₂ : List ℕ} (a : Graphs n m w r 
 
 -- ---- together
 
-pub graphed : {n m : ℕ} {w r q w₁ r₁ w₂ r₂ : List ℕ} → Graphs n m w r q → MergedAll n m w r w₁ → Rewrote m w₁ r q r₁ → Pruned n m w₁ r₁ w₂ r₂ → Graphed n m w r q w₂ r₂
-graphed {n} {m} {w} {r} {q} {w₁} {r₁} {w₂} {r₂} a t e p = record {
+pub graphed : {n m flags : ℕ} {w r q w₁ r₁ w₂ r₂ : List ℕ} → Graphs n m w r q → MergedAll n m w r w₁ → Rewrote m w₁ r q r₁ → Pruned n m w₁ r₁ w₂ r₂ flags
+    → Graphed n m w r q w₂ r₂ flags
+graphed {n} {m} {flags} {w} {r} {q} {w₁} {r₁} {w₂} {r₂} a t e p = record {
   finished = λ mode code s room f.
-      subst (λ (k : ℕ). Fits mode code s room k m w r q → MergedAll k m w r w₁ → Pruned k m w₁ r₁ w₂ r₂ → Finished mode code (recsOf r q s room m) w₂ r₂ q) (f .size)
+      subst (λ (k : ℕ). Fits mode code s room k m w r q → MergedAll k m w r w₁ → Pruned k m w₁ r₁ w₂ r₂ flags → Finished mode code (recsOf r q s room m) w₂ r₂ q) (f .size)
       (λ g u v. finish g u e v) f t p;
   rows = merged-row a t e p;
   fresh = p .fresh;
@@ -146,4 +147,5 @@ graphed {n} {m} {w} {r} {q} {w₁} {r₁} {w₂} {r₂} a t e p = record {
   beyondR = p .stay .beyond ∙ e .beyond;
   longW = p .long ∙ t .long;
   longR = p .stay .long ∙ e .long;
+  count = p .count;
 }

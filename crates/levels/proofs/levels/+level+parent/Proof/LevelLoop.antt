@@ -128,7 +128,7 @@ module _ {code : List ℕ} {k : Plan} {start : ℕ} {l : Level} {m₀ : Mem} {o 
       next : NextLeft (k .mode) code (m .w) (m .r) (m .q) (m .s) (k .n) b (o .counts .records) high (k .rooms .s) (cur .counts .records) (recsIn k m₀ (o .counts)) at (here .rest)
       next = half-next (pre .fits) (pre .stands) (g .block) (g .top) here d
 
-      pub going-cursor : Cursor (m .w) (m .r) (k .n) at
+      pub going-cursor : Cursor (m .w) (m .r) (k .n) b at
       going-cursor = next .cursor
 
       -- what the test of the parent's last block asks

@@ -17,11 +17,11 @@ use Rattle.laws.proofs.Branch.{both}
 use Rattle.theorems.proofs.Older.{clear}
 use Rattle.theorems.proofs.Energy.{search-energy}
 use Rattle.lent.specs.Bytes.{Stored, numAt}
-use Rattle.lent.proofs.Parts.{drop-more}
+use Rattle.lent.proofs.Parts.{drop-more, part-suffix}
 use Rattle.lent.proofs.Numbers.{num-zeros}
 use Rattle.lent.proofs.Stored.{stored, kept-take, kept-drop, kept-num, read-num}
 use Rattle.layout.specs.Fields.{FIRST-FOUND, LAST-FOUND, HIGHEST, FLAG, markAt}
-use Rattle.layout.specs.Parts.{bucketsOf, rowsEnd, fieldsPlace, bucketsPlace, bucketPlace, SameRows}
+use Rattle.layout.specs.Parts.{rowsEnd, fieldsPlace, bucketsPlace, bucketPlace, SameRows}
 use Rattle.layout.specs.Buffers.{Mem, buffers}
 use Rattle.exec.specs.Modes.{modeOf}
 use Rattle.exec.specs.declared.mode.Mode.{Mode}
@@ -46,8 +46,8 @@ use Rattle.reachable.proofs.Raising.{highest-kept}
 use Rattle.reachable.proofs.Rows.{within-sides, closed-sides, sides-kept, node-edges}
 use Rattle.steps.specs.Paths.{occurs}
 use Rattle.steps.specs.Runs.{recsIn, stOf}
-use Rattle.enter.specs.Fits.{preparedIn}
-use Rattle.resolver.specs.Turns.{Idle, Between, last-since, Reached, Rounds, SearchAsks, Searched, roomsOf, planOf, plan, begunRun}
+use Rattle.enter.specs.Fits.{preparedIn, spareOf, SameSpare}
+use Rattle.resolver.specs.Turns.{Idle, Between, last-since, Reached, Rounds, SearchAsks, Searched, roomsOf, planOf, plan, begunRun, bucketsFor}
 use Rattle.steps.specs.Plans.{Plan}
 use Rattle.steps.specs.declared.Run.{Run}
 pub use Rattle.enter.proofs.TurnKept.{known-within}
@@ -81,7 +81,7 @@ between-marked {k = k} {m = m} {cur = cur} b a h =
 -- ---- W once the heads of the buckets are wiped
 
 module _ {mode : Mode} {code w w₁ w₂ : List ℕ} {limit many : ℕ} (a : SearchAsks mode code w limit many) (r : Reaches (length code) w w₁)
-    (s : Stored (4 * bucketsOf (length code)) w₁ (bucketsPlace (length code)) (replicate (4 * bucketsOf (length code)) 0) w₂) where
+    (r′ : List ℕ) (s : Stored (4 * bucketsFor (length code) (units (length r′) 32)) w₁ (bucketsPlace (length code)) (replicate (4 * bucketsFor (length code) (units (length r′) 32)) 0) w₂) where
   abbrev n : ℕ
   n = length code
 
@@ -99,6 +99,15 @@ module _ {mode : Mode} {code w w₁ w₂ : List ℕ} {limit many : ℕ} (a : Sea
       kept-drop s (work-need n) (omega arith) ∙ drop-more w₁ (wiped n w) (bucketsPlace n) (r .kept .beyond) (work-need n) (omega arith)
       ∙ kept-drop (begun .wipes) (work-need n) (omega arith)
 
+  begin-spare : SameSpare (planOf mode n limit many (roomsOf [] [] [] r′ [])) w w₂
+  begin-spare =
+      let used = 4 * bucketsFor n (units (length r′) 32) in
+      let from = bucketsPlace n + used in
+      let long = spareOf (planOf mode n limit many (roomsOf [] [] [] r′ [])) in
+      part-suffix w₂ w₁ from (kept-drop s from (omega arith)) long from (omega arith)
+      ∙ part-suffix w₁ (wiped n w) (bucketsPlace n) (r .kept .beyond) long from (omega arith)
+      ∙ part-suffix (wiped n w) w from (kept-drop (begun .wipes) from (omega arith)) long from (omega arith)
+
   -- what is before the heads stays
   stays : (k i : ℕ) → i + k ≤ bucketsPlace n → numAt k w₂ i ≡ numAt k w₁ i
   stays k i h = kept-num s k i (λ _. h)
@@ -110,13 +119,13 @@ module _ {mode : Mode} {code w w₁ w₂ : List ℕ} {limit many : ℕ} (a : Sea
       ∙ num-in w₁ (wiped n w) 12 (fieldsPlace n x + FIRST-FOUND) (r .kept .fields x h) k (fieldsPlace n x + o) (omega arith) (omega arith)
       ∙ begun-num begun k (fieldsPlace n x + o) (omega arith) (omega arith)
 
-  no-links : NoLinks n (bucketsOf (length code)) w₂
+  no-links : NoLinks n (bucketsFor (length code) (units (length r′) 32)) w₂
   no-links = record {
     some = omega arith;
     inW = omega (arith, a .lent, begin-long);
     firsts = λ x h. zero-fields 4 x FIRST-FOUND h (omega arith) (omega arith);
     lasts = λ x h. zero-fields 4 x LAST-FOUND h (omega arith) (omega arith);
-    heads = λ h l. read-num s 4 (4 * h) (omega arith) ∙ num-zeros 4 (4 * bucketsOf (length code)) (4 * h);
+    heads = λ h l. read-num s 4 (4 * h) (omega arith) ∙ num-zeros 4 (4 * bucketsFor (length code) (units (length r′) 32)) (4 * h);
   }
 
   same-flagged : flagged w₂ n ≡ flagged w₁ n
@@ -130,7 +139,7 @@ module _ {mode : Mode} {code w w₁ w₂ : List ℕ} {limit many : ℕ} (a : Sea
 
   -- ---- what `rounds` asks
 
-  module _ (p q r′ s′ t t₁ : List ℕ) (e : Emptied (plan mode code limit many (buffers w p s′ t r′ q) .shelves) t t₁) where
+  module _ (p q s′ t t₁ : List ℕ) (e : Emptied (plan mode code limit many (buffers w p s′ t r′ q) .shelves) t t₁) where
     abbrev k : Plan
     k = plan mode code limit many (buffers w p s′ t r′ q)
 
@@ -234,6 +243,7 @@ module _ {mode : Mode} {code w w₁ w₂ : List ℕ} {limit many : ℕ} (a : Sea
         energy-most = λ z. omega (arith, energy z, search-energy limit (prepared (in-mode (modeOf mode)) code));
         between = between;
         rows = λ z. f .rows z ∙ begin-rows;
+        spare = λ z. f .spare z ∙ begin-spare;
         beyond = λ z. f .beyond z ∙ begin-beyond;
         reached = λ z. between-marked (between z);
       }
@@ -253,9 +263,9 @@ module _ {mode : Mode} {code w p s t r q : List ℕ} {limit many : ℕ} {rooms :
     pub search-asks : Between code k 0 (buffers w₂ p s t₁ r q) o
     search-asks =
         let is : k ≡ plan mode code limit many (buffers w p s t r q) = ek ∙ ap (planOf mode (length code) limit many) er in
-        rw (is, eo) (begin-between a e (rw is at h) p q r s t t₁ (rw is at f))
+        rw (is, eo) (begin-between a e r (rw is at h) p q s t t₁ (rw is at f))
 
     pub search-done : {m′ : Mem} {d : Run} → Rounds code k (buffers w₂ p s t₁ r q) o m′ d → Searched mode code limit many (buffers w p s t r q) m′ d
     search-done g =
         let is : k ≡ plan mode code limit many (buffers w p s t r q) = ek ∙ ap (planOf mode (length code) limit many) er in
-        begin-searched a e (rw is at h) p q r s t t₁ (rw is at f) (rw (is, eo) at g)
+        begin-searched a e r (rw is at h) p q s t t₁ (rw is at f) (rw (is, eo) at g)

@@ -2,7 +2,7 @@
 use mathlib.Core.Path.{_≡_, refl, sym, ap, subst, _∙_}
 use mathlib.Core.Bool.{true}
 use mathlib.Core.List.{List, [], _∷_}
-use Prim.Native.Nat.{ℕ, _+_, _≤_, _<_}
+use Prim.Native.Nat.{ℕ, _+_, _≤_, _<_, _-_}
 use native.Mathlib.Omega.{arith}
 use lib.ListN.{take, drop}
 use lib.Seq.{take-take}
@@ -14,10 +14,10 @@ use Rattle.laws.proofs.Members.{In}
 use Rattle.theorems.proofs.Carried.{carry-level}
 use Rattle.theorems.proofs.Growth.{Later, later}
 use Rattle.theorems.proofs.Older.{clear}
-use Rattle.lent.proofs.Parts.{drop-more}
-use Rattle.layout.specs.Parts.{listPlace, SameRows}
+use Rattle.lent.proofs.Parts.{drop-more, part-prefix, part-suffix}
+use Rattle.layout.specs.Parts.{listPlace, bucketPlace, SameRows}
 use Rattle.layout.specs.Buffers.{Mem, buffers}
-use Rattle.exec.specs.Owns.{Owned}
+use Rattle.exec.specs.Owns.{roomOf, Owned}
 use Rattle.exec.specs.declared.run.Own.{Own}
 use Rattle.tables.specs.Addrs.{addrs}
 use Rattle.tables.specs.Rows.{metOf, Shelves}
@@ -32,7 +32,7 @@ use Rattle.steps.specs.Runs.{recsIn, stOf, Did}
 use Rattle.steps.specs.Plans.{Plan, RunsIn}
 use Rattle.steps.specs.declared.Level.{Level}
 use Rattle.steps.specs.declared.Run.{Run}
-use Rattle.enter.specs.Fits.{Fits, levelOf, preparedIn}
+use Rattle.enter.specs.Fits.{Fits, levelOf, preparedIn, spareOf, SameSpare}
 use Rattle.levels.specs.Levels.{Came, Opened, Leveled}
 use Rattle.enter.specs.Enters.{refusedWith}
 use Rattle.resolver.specs.Turns.{Idle, Passed, begunWith, endedWith, Places, Placed, TurnAsks, Turned}
@@ -229,6 +229,13 @@ module _ {code : List ℕ} {k : Plan} {start : ℕ} {m m′ : Mem} {o d : Run} (
         rows : SameRows (k .n) (m .w) w₄
         rows = off .rows ∙ came .stays z .rows ∙ alike .rows
 
+        spare : SameSpare k (m .w) w₄
+        spare =
+            let from = bucketPlace (k .n) (k .buckets) in
+            part-suffix w₄ (m′ .w) (listPlace (k .n)) (uncounted .only .back) (spareOf k) from (omega arith) ∙ came .stays z .spare
+            ∙ part-suffix (h .w₂) (h .w₁) (listPlace (k .n)) (h .placed .counted .only .back) (spareOf k) from (omega arith)
+            ∙ part-prefix (h .w₁) (m .w) (k .end - roomOf code) (h .owned .inside .front) (spareOf k) from (omega (arith, idle .planned .scratch, idle .planned .is))
+
         beyond : drop (k .end) w₄ ≡ drop (k .end) (m .w)
         beyond =
             let low : listPlace (k .n) ≤ k .end = omega (arith, idle .planned .scratch) in
@@ -294,7 +301,7 @@ module _ {code : List ℕ} {k : Plan} {start : ℕ} {m m′ : Mem} {o d : Run} (
         done =
             let end : Did (k .rooms) forget (stOf k m′ d) 0 (stOf k after (endedWith d)) = did-forget refl refl refl refl in
             let did = did-all (did-then (level (k .limit) its 255 (first-level (k .limit) its (x .position))) forget did-level z end) in
-            record { did = rw z did; idle = λ _. idle-again; flags = λ _. flags; rows = λ _. rows; beyond = λ _. beyond; older = λ _. older }
+            record { did = rw z did; idle = λ _. idle-again; flags = λ _. flags; rows = λ _. rows; spare = λ _. spare; beyond = λ _. beyond; older = λ _. older }
 
   -- what it leaves, where its level is refused
   pub turn-refused : (d .code ≡ 0 → ⊥) → Turned code k start m o m′ d
