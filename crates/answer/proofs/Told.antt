@@ -38,7 +38,7 @@ module _ {limit mode : ℕ} {code : List ℕ} {m : Mem} {w r q : List ℕ} {foun
   pub run-holds : d .code ≡ 0 → Holds w r q (length code) found
   run-holds z =
       let x = f .leaves z in
-      record { writes = record { mode = mode; code = code; recs = x .recs; ends = x .ends; short = x .short; small = x .small }; flags = f .flags z }
+      record { writes = record { mode = mode; code = code; recs = x .recs; ends = x .ends; short = x .short; small = x .small }; flags = f .flags z; listed = f .listed z }
 
   rest-short : (choice : ℕ) (out : List ℕ) → (d .code ≡ 0 → ⊥) → rest (lentOf m out) limit choice mode code ≡ refused (d .code)
   rest-short choice out n = rw (← f .number out) (short-rest (d .code) (within-out (lentOf m out) (mapped (in-mode mode) choice code (searched (in-mode mode) limit code))) n)

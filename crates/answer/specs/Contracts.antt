@@ -13,6 +13,7 @@ use Rattle.spec.specs.Answer.{refused, numberOf, written, searched, mapped, wit
 use Rattle.spec.specs.JsonAnswer.{within-text, json-answer, texted, text-after}
 use Rattle.layout.specs.Buffers.{Mem}
 use Rattle.steps.specs.declared.Run.{Run}
+use Rattle.initial.specs.Rows.{Listed}
 use Rattle.reachable.specs.Marks.{flagged}
 use Rattle.entries.specs.Contracts.{mapOf, Ends, Writes}
 use Rattle.answer.specs.declared.find.Finding.{Finding}
@@ -46,16 +47,18 @@ pub record Leaves (limit mode : ℕ) (code w r q : List ℕ) (m energy : ℕ) : 
   pub short : length code ≤ longest
   pub small : energy < 2 ^ 32
 
--- the number of the first shortage, whatever the output's length; or 0, and the map is left, with so many addresses flagged
+-- the number of the first shortage, whatever the output's length; or 0, and the map is left, with so many addresses flagged, and the list of its blocks' starts
 pub record Finds (limit mode : ℕ) (code : List ℕ) (m : Mem) (w r q : List ℕ) (f : Finding) : Type 0 where
   pub number : (out : List ℕ) → f .run .code ≡ shortage (lentOf m out) (searched (in-mode mode) limit code .needs)
   pub leaves : f .run .code ≡ 0 → Leaves limit mode code w r q (f .run .counts .records) (f .run .energy)
   pub flags : f .run .code ≡ 0 → f .flags ≡ length (flagged w (length code))
+  pub listed : f .run .code ≡ 0 → Listed (length code) w (f .blocks)
 
 -- some map is left, to be written
 pub record Holds (w r q : List ℕ) (n : ℕ) (f : Finding) : Type 0 where
   pub writes : Writes w r q n (f .run .counts .records) (f .run .energy)
   pub flags : f .flags ≡ length (flagged w n)
+  pub listed : Listed n w (f .blocks)
 
 -- ---- the entry
 

@@ -41,17 +41,28 @@ fn put_both(
     let c = d.counts;
     let rows = c.records;
     let flags = found.flags;
-    if !text_fits(w, r, q, units(text.len(), 1), size, rows, flags) {
-        if !entries_fit(w, r, q, units(out.len(), 1), size, rows, choice, flags) {
+    let blocks = found.blocks;
+    if !text_fits(w, r, q, units(text.len(), 1), size, rows, flags, blocks) {
+        if !entries_fit(
+            w,
+            r,
+            q,
+            units(out.len(), 1),
+            size,
+            rows,
+            choice,
+            flags,
+            blocks,
+        ) {
             return refused_both(9);
         }
         return refused_both(11);
     }
-    let written = write_entries(w, r, q, out, size, rows, d.energy, choice, flags);
+    let written = write_entries(w, r, q, out, size, rows, d.energy, choice, flags, blocks);
     if written == 0 {
         return refused_both(9);
     }
-    let texted = write_text(w, r, q, text, size, rows);
+    let texted = write_text(w, r, q, text, size, rows, blocks);
     Both {
         number: 0,
         written,

@@ -9,7 +9,7 @@ ghost use Rattle.spec.specs.Rooms.{longest, work-need};
 ghost use Rattle.answer.specs.Contracts.{First};
 
 // "Work W needs 64 × code length + 256 bytes."
-pub fn need_of(size: usize) -> usize
+fn need_of(size: usize) -> usize
     requires { ⌜ size ≤ longest ⌝ }
     ensures { λ r. ⌜ r ≡ work-need size ⌝ }
 {

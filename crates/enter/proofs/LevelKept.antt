@@ -8,8 +8,8 @@ use lib.Seq.{take-all, take-take}
 use Rattle.spec.specs.Stacks.{Stack}
 use Rattle.spec.specs.Search as search
 use Rattle.spec.specs.Search.{Rec}
-use Rattle.lent.proofs.Parts.{take-less, drop-more, part-prefix, part-suffix}
-use Rattle.layout.specs.Parts.{listPlace, bucketPlace}
+use Rattle.lent.proofs.Parts.{take-less, drop-more, part-prefix}
+use Rattle.layout.specs.Parts.{listPlace}
 use Rattle.layout.specs.Buffers.{Mem, buffers}
 use Rattle.state.specs.Cells.{stackAt, Lies}
 use Rattle.state.proofs.States.{state-lies, lies-within}
@@ -20,7 +20,7 @@ use Rattle.tables.proofs.Counted.{recs-length}
 use Rattle.steps.proofs.Paths.{only-flagged}
 use Rattle.steps.specs.Paths.{OnPath, CountsOnly}
 use Rattle.steps.specs.Runs.{recsIn}
-use Rattle.enter.specs.Fits.{levelOf, Stands, OnIts, spareOf, Stays}
+use Rattle.enter.specs.Fits.{levelOf, Stands, OnIts, Stays}
 use Rattle.steps.specs.Plans.{Plan}
 use Rattle.steps.specs.declared.Level.{Level}
 
@@ -37,7 +37,6 @@ module _ {k : Plan} {np : ℕ} where
     bottom = refl;
     rows = refl;
     flags = refl;
-    spare = refl;
     beyond = refl;
     uses = omega arith;
     more = omega arith;
@@ -51,7 +50,6 @@ module _ {k : Plan} {np : ℕ} where
     bottom = refl;
     rows = o .front;
     flags = only-flagged o;
-    spare = part-suffix w′ w (listPlace (k .n)) (o .back) (spareOf k) (bucketPlace (k .n) (k .buckets)) (omega arith);
     beyond = drop-more w′ w (listPlace (k .n)) (o .back) (k .end) h;
     uses = omega arith;
     more = omega arith;
@@ -64,7 +62,6 @@ module _ {k : Plan} {np : ℕ} where
     bottom = take-less (m₂ .s) (m₁ .s) (9 * c₁ .used) (y .bottom) (9 * c .used) (omega (arith, x .uses)) ∙ x .bottom;
     rows = y .rows ∙ x .rows;
     flags = y .flags ∙ x .flags;
-    spare = y .spare ∙ x .spare;
     beyond = y .beyond ∙ x .beyond;
     uses = omega (arith, x .uses, y .uses);
     more = omega (arith, x .more, y .more);
@@ -80,7 +77,6 @@ module _ {k : Plan} {np : ℕ} where
     bottom = x .bottom;
     rows = x .rows;
     flags = x .flags;
-    spare = x .spare;
     beyond = x .beyond;
     uses = x .uses;
     more = x .more;

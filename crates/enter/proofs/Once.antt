@@ -41,7 +41,7 @@ use Rattle.steps.specs.Runs.{tabled, recsIn, stOf, Did}
 use Rattle.steps.specs.Plans.{Plan}
 use Rattle.steps.specs.declared.Level.{Level}
 use Rattle.steps.specs.declared.Run.{Run}
-use Rattle.enter.specs.Fits.{Fits, levelOf, held, SameSpare, Stays}
+use Rattle.enter.specs.Fits.{Fits, levelOf, held, Stays}
 use Rattle.enter.specs.Enters.{Opening, onward, Opens, Outcome, Entered}
 use Rattle.enter.proofs.TurnKept.{mets-length}
 
@@ -90,7 +90,6 @@ pub record OneKept (k : Plan) (np used since : ℕ) (m′ m″ : Mem) (c : Count
   pub counts : (a : ℕ) → a ≤ k .n → Same (m′ .w) (m″ .w) (fieldsPlace (k .n) a + COUNT) 4
   pub highest : (a : ℕ) → a ≤ k .n → Same (m′ .w) (m″ .w) (fieldsPlace (k .n) a + HIGHEST) 2
   pub flags : flagged (m′ .w) (k .n) ≡ flagged (m″ .w) (k .n)
-  pub spare : SameSpare k (m″ .w) (m′ .w)
   pub beyond : drop (k .end) (m′ .w) ≡ drop (k .end) (m″ .w)
   pub marks : (j : ℕ) → since ≤ j → j ≤ c .records → (a : ℕ) → a ≤ k .n → markedBy (m′ .w) (k .n) a (j + 1) ≡ markedBy (m″ .w) (k .n) a (j + 1)
 
@@ -163,7 +162,6 @@ module _ {code : List ℕ} {k : Plan} {t : Turn} {since start : ℕ} {m′ m″ 
         counts = λ a h. same-num (b .w) (b′ .w) (long .w) 4 (fieldsPlace (k .n) a + COUNT) (on .counts a h ∙ sym (on′ .counts a h));
         highest = λ a h. same-num (b .w) (b′ .w) (long .w) 2 (fieldsPlace (k .n) a + HIGHEST) (same-high rows a h);
         flags = x .flags ∙ sym (y .flags);
-        spare = x .spare ∙ sym (y .spare);
         beyond = x .beyond ∙ sym (y .beyond);
         marks = same-marks;
       }

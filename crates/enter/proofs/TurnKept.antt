@@ -11,12 +11,11 @@ use Rattle.spec.specs.Blocks.{Block}
 use Rattle.spec.specs.Search.{Found, Node, parent, sides, Rec, Turn}
 use Rattle.spec.specs.Answer.{prepared}
 use Rattle.laws.proofs.Members.{In, in-cases, in-only, in-map, gather-in, map-in}
-use Rattle.lent.proofs.Parts.{take-less, drop-more, part-prefix, part-suffix}
+use Rattle.lent.proofs.Parts.{take-less, drop-more}
 use Rattle.lent.proofs.Numbers.{num-prefix}
 use Rattle.layout.specs.Fields.{FIRST-FOUND, LAST-FOUND, HIGHEST, FLAG}
 use Rattle.layout.specs.Parts.{rowsEnd, fieldsPlace, bucketPlace, SameRows}
 use Rattle.layout.specs.Buffers.{Mem, buffers}
-use Rattle.exec.specs.Owns.{roomOf}
 use Rattle.tables.specs.Addrs.{addrs}
 use Rattle.tables.specs.Records.{recsOf}
 use Rattle.tables.specs.Rows.{metOf, usedOf}
@@ -39,11 +38,13 @@ use Rattle.steps.specs.Sound.{SoundRec}
 use Rattle.steps.specs.States.{Took}
 use Rattle.steps.specs.Lands.{Noted}
 use Rattle.steps.specs.Runs.{stOf}
-use Rattle.enter.specs.Fits.{Planned, Fits, spareOf, Stays}
+use Rattle.enter.specs.Fits.{Planned, Fits, Stays}
 use Rattle.steps.specs.Plans.{Plan}
 use Rattle.steps.specs.declared.Level.{Level}
 use Rattle.steps.specs.declared.Run.{Run}
 use Rattle.steps.specs.declared.state_of.Taken.{Taken}
+use Rattle.steps.specs.Helds.{Helds}
+use Rattle.steps.proofs.Helds.{helds-past}
 use Rattle.steps.proofs.Founds.{recs-take}
 use Rattle.steps.proofs.Lands.{marks-kept, noted-older}
 
@@ -77,14 +78,15 @@ fits-within f = rw (f .planned .is) (known-within (f .known))
 
 -- ---- the plan, by the lengths
 
-pub planned-long : {code : List ℕ} {k : Plan} {m : Mem} (w p s t r q : List ℕ) → Planned code k m → length w ≡ length (m .w) → length p ≡ length (m .p)
+pub planned-long : {code : List ℕ} {k : Plan} {m : Mem} (w p s t r q : List ℕ) → Planned code k m → Helds k code w → length w ≡ length (m .w) → length p ≡ length (m .p)
     → Planned code k (buffers w p s t r q)
-planned-long w p s t r q f e g = record {
+planned-long w p s t r q f h e g = record {
   is = f .is;
   limit = f .limit;
   lentW = record { short = f .lentW .short; room = omega (arith, f .lentW .room) };
   ends = omega (arith, f .ends);
   scratch = f .scratch;
+  helds = h;
   lentP = omega (arith, f .lentP);
   mostP = f .mostP;
   shelves = f .shelves;
@@ -118,7 +120,7 @@ module _ {code : List ℕ} {k : Plan} {t : Turn} {since start : ℕ} {w p s T r 
 
   pub fits-path : (p′ : List ℕ) → length p′ ≡ length p → Fits code k t since start (buffers w p′ s T r q) c
   fits-path p′ e = record {
-    planned = planned-long w p′ s T r q (f .planned) refl e;
+    planned = planned-long w p′ s T r q (f .planned) (f .planned .helds) refl e;
     stored = f .stored;
     started = f .started;
     starts = f .starts;
@@ -135,10 +137,10 @@ module _ {code : List ℕ} {k : Plan} {t : Turn} {since start : ℕ} {w p s T r 
 
   module _ {l : Level} {par : Stack} {w′ s′ : List ℕ} {x : Taken} (o : Took code w s k c l par w′ s′ x) where
     taken-links : SameLinks (k .n) (k .buckets) w w′
-    taken-links = links-prefix (k .n) (k .buckets) (k .end - roomOf code) (omega (arith, f .planned .scratch)) (o .front) (o .longW)
+    taken-links = links-prefix (k .n) (k .buckets) (bucketPlace (k .n) (k .buckets)) (omega arith) (o .front) (o .longW)
 
     taken-rows : SameRows (k .n) w w′
-    taken-rows = take-less w′ w (k .end - roomOf code) (o .front) (rowsEnd (k .n)) (omega (arith, f .planned .scratch))
+    taken-rows = take-less w′ w (bucketPlace (k .n) (k .buckets)) (o .front) (rowsEnd (k .n)) (omega (arith, f .planned .scratch))
 
     pub taken-recs : recsOf r q s′ (k .rooms .s) (c .records) ≡ recsOf r q s (k .rooms .s) (c .records)
     taken-recs = recs-stay (f .tables) w′ s′ taken-links (o .top) (o .longS)
@@ -148,7 +150,7 @@ module _ {code : List ℕ} {k : Plan} {t : Turn} {since start : ℕ} {w p s T r 
 
     pub fits-taken : Fits code k t since start (buffers w′ p s′ T r q) c
     fits-taken = record {
-      planned = planned-long w′ p s′ T r q (f .planned) (o .longW) refl;
+      planned = planned-long w′ p s′ T r q (f .planned) (o .helds) (o .longW) refl;
       stored = f .stored;
       started = f .started;
       starts = f .starts;
@@ -159,8 +161,8 @@ module _ {code : List ℕ} {k : Plan} {t : Turn} {since start : ℕ} {w p s T r 
       began = f .began;
       marks =
           rw taken-recs
-          (marks-kept (f .marks) taken-rows (λ a h. num-prefix w′ w (k .end - roomOf code) (o .front) 4 (fieldsPlace (k .n) a) (omega (arith, f .planned .scratch)))
-          (λ a h. num-prefix w′ w (k .end - roomOf code) (o .front) 2 (fieldsPlace (k .n) a + HIGHEST) (omega (arith, f .planned .scratch))));
+          (marks-kept (f .marks) taken-rows (λ a h. num-prefix w′ w (bucketPlace (k .n) (k .buckets)) (o .front) 4 (fieldsPlace (k .n) a) (omega (arith, f .planned .scratch)))
+          (λ a h. num-prefix w′ w (bucketPlace (k .n) (k .buckets)) (o .front) 2 (fieldsPlace (k .n) a + HIGHEST) (omega (arith, f .planned .scratch))));
       sound = rw taken-recs (f .sound);
     }
 
@@ -169,8 +171,7 @@ module _ {code : List ℕ} {k : Plan} {t : Turn} {since start : ℕ} {w p s T r 
       path = refl;
       bottom = o .bottom;
       rows = taken-rows;
-      flags = flagged-same w w′ (k .n) (λ a h. num-prefix w′ w (k .end - roomOf code) (o .front) 1 (fieldsPlace (k .n) a + FLAG) (omega (arith, f .planned .scratch)));
-      spare = part-prefix w′ w (k .end - roomOf code) (o .front) (spareOf k) (bucketPlace (k .n) (k .buckets)) (omega (arith, f .planned .scratch, f .planned .is));
+      flags = flagged-same w w′ (k .n) (λ a h. num-prefix w′ w (bucketPlace (k .n) (k .buckets)) (o .front) 1 (fieldsPlace (k .n) a + FLAG) (omega (arith, f .planned .scratch)));
       beyond = o .back;
       uses = omega arith;
       more = omega arith;
@@ -185,7 +186,7 @@ module _ {code : List ℕ} {k : Plan} {t : Turn} {since start : ℕ} {w p s T r 
   module _ {x : Seen} {T′ : List ℕ} {a : Reply} (o : Memorized (k .shelves) (k .rooms) T s c x T′ a) (z : a .code ≡ 0) (room : c .kept + c .used + x .cells ≤ k .rooms .s) where
     pub fits-met : Fits code k t since start (buffers w p s T′ r q) (a .counts)
     fits-met = record {
-      planned = planned-long w p s T′ r q (f .planned) refl refl;
+      planned = planned-long w p s T′ r q (f .planned) (f .planned .helds) refl refl;
       stored = f .stored;
       started = f .started;
       starts = f .starts;
@@ -204,7 +205,6 @@ module _ {code : List ℕ} {k : Plan} {t : Turn} {since start : ℕ} {w p s T r 
       bottom = refl;
       rows = refl;
       flags = refl;
-      spare = refl;
       beyond = refl;
       uses = omega arith;
       more = omega arith;
@@ -226,7 +226,7 @@ module _ {code : List ℕ} {k : Plan} {t : Turn} {since start : ℕ} {w p s T r 
 
     pub fits-noted : SoundRec (k .n) (record { start = start; to = x; path = addrs p 0 np; energy = energy }) → Fits code k t since start (buffers w′ p s′ T r′ q′) (a .counts)
     fits-noted new = record {
-      planned = planned-long w′ p s′ T r′ q′ (f .planned) (o .around .longW) refl;
+      planned = planned-long w′ p s′ T r′ q′ (f .planned) (helds-past (bucketPlace (k .n) (k .buckets)) (omega arith) (o .around .back) (o .around .longW) (f .planned .helds)) (o .around .longW) refl;
       stored = f .stored;
       started = f .started;
       starts = f .starts;
@@ -256,7 +256,6 @@ module _ {code : List ℕ} {k : Plan} {t : Turn} {since start : ℕ} {w p s T r 
       bottom = o .around .bottom;
       rows = o .around .front;
       flags = flagged-same w w′ (k .n) (λ a h. num-in w′ w 2 (fieldsPlace (k .n) a + FLAG) (o .around .flags a h) 1 (fieldsPlace (k .n) a + FLAG) (omega arith) (omega arith));
-      spare = part-suffix w′ w (bucketPlace (k .n) (k .buckets)) (o .around .back) (spareOf k) (bucketPlace (k .n) (k .buckets)) (omega arith);
       beyond = drop-more w′ w (bucketPlace (k .n) (k .buckets)) (o .around .back) (k .end) (omega (arith, f .planned .scratch));
       uses = omega (arith, o .used);
       more = noted-more;

@@ -13,7 +13,7 @@ use Rattle.layout.specs.Records.{toAt}
 use Rattle.layout.specs.Rows.{startOf}
 use Rattle.layout.specs.Buffers.{Mem}
 use Rattle.state.specs.Cells.{stackAt, State}
-use Rattle.exec.specs.Owns.{runsRoom, roomOf}
+use Rattle.exec.specs.Owns.{roomOf}
 use Rattle.tables.specs.Addrs.{addrs}
 use Rattle.tables.specs.Tables.{Tables}
 use Rattle.tables.specs.Mets.{Remembers, Packs}
@@ -28,19 +28,21 @@ use Rattle.steps.specs.Sound.{DEEPEST, SoundStack, SoundRecs}
 use Rattle.steps.specs.Lands.{Marks}
 use Rattle.steps.specs.Runs.{tabled, recsIn}
 use Rattle.steps.specs.Plans.{Plan}
+use Rattle.steps.specs.Helds.{Helds}
 use Rattle.steps.specs.declared.Level.{Level}
 
 -- the code's blocks after the first stage, in the plan's mode
 abbrev pub preparedIn : Plan → List ℕ → List Node
 preparedIn k code = prepared (in-mode (k .mode)) code
 
--- the plan is the code's, and the buffers are as long as it says
+-- the plan is the code's, the buffers are as long as it says, and the states that W holds behind its buckets in use are those of their blocks
 pub record Planned (code : List ℕ) (k : Plan) (m : Mem) : Type 0 where
   pub is : k .n ≡ length code
   pub limit : k .limit ≤ 500000
   pub lentW : Room (k .n) (m .w)
   pub ends : k .end ≤ length (m .w)
   pub scratch : bucketPlace (k .n) (k .buckets) + roomOf code ≤ k .end
+  pub helds : Helds k code (m .w)
   pub lentP : 2 * k .rooms .p ≤ length (m .p)
   pub mostP : k .rooms .p ≤ 2 ^ 30
   pub shelves : 1 ≤ k .rooms .t → 1 ≤ k .shelves
@@ -94,22 +96,14 @@ pub record Parental (code : List ℕ) (k : Plan) (m : Mem) (c : Counts) (at : �
   pub inside : Inside (k .n) (pathCursor (m .r) (m .q) at)
   pub sound : SoundStack (k .n) (length (pathCursor (m .r) (m .q) at)) (stackCursor (k .mode) code (m .r) (m .s) (k .rooms .s) at)
 
--- ---- what stays, while a level with a path of np addresses is tried: that path, the cells in use, W's rows and flags, what lies between its buckets and the
--- part for runs, and what is beyond its parts, and the records
-
--- as many bytes as lie between the buckets in use and the part for runs, and that they stay
-abbrev pub spareOf : Plan → ℕ
-spareOf k = k .end - runsRoom (k .n) - bucketPlace (k .n) (k .buckets)
-
-abbrev pub SameSpare : Plan → List ℕ → List ℕ → Type 0
-SameSpare k w w′ = take (spareOf k) (drop (bucketPlace (k .n) (k .buckets)) w′) ≡ take (spareOf k) (drop (bucketPlace (k .n) (k .buckets)) w)
+-- ---- what stays, while a level with a path of np addresses is tried: that path, the cells in use, W's rows and flags, what is beyond its parts, and the
+-- records
 
 pub record Stays (k : Plan) (np : ℕ) (m : Mem) (c : Counts) (m′ : Mem) (c′ : Counts) : Type 0 where
   pub path : take (2 * np) (m′ .p) ≡ take (2 * np) (m .p)
   pub bottom : take (9 * c .used) (m′ .s) ≡ take (9 * c .used) (m .s)
   pub rows : SameRows (k .n) (m .w) (m′ .w)
   pub flags : flagged (m′ .w) (k .n) ≡ flagged (m .w) (k .n)
-  pub spare : SameSpare k (m .w) (m′ .w)
   pub beyond : drop (k .end) (m′ .w) ≡ drop (k .end) (m .w)
   pub uses : c .used ≤ c′ .used
   pub more : c .records ≤ c′ .records

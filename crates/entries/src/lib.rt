@@ -8,7 +8,6 @@ mod listing;
 mod row;
 mod whole;
 
-pub use kept::behind;
 pub use kept::is_kept;
 pub use listing::first_row;
 pub use listing::is_listed;

@@ -1,9 +1,11 @@
 -- How many bytes of code after its own belong to an instruction, by the range that its byte lies in. Assumes nothing.
-use mathlib.Core.Path.{_≡_}
+use mathlib.Core.Path.{_≡_, sym}
+use mathlib.Core.Bool.{true, false}
 use Prim.Native.Nat.{ℕ, _+_, _-_, _≤_, _<_}
 use native.Mathlib.Decide.{decLt}
 use native.Mathlib.Omega.{arith}
-use borrow.Author.Tests.{le-leb, lt-leb}
+use borrow.Author.Tests.{le-leb, lt-leb, lt-ltb, le-ltb}
+use lib.Dec.{ltb}
 use Rattle.spec.specs.Lists.{if}
 use Rattle.spec.specs.Opcodes.{argument}
 use Rattle.evm.specs.Rows.{ArgumentIs}
@@ -43,3 +45,14 @@ module _ (b : ℕ) where
       go (yes h) d = omega (arith, argument-below h)
       go (no h) (yes g) = omega (arith, argument-push (omega arith) g)
       go (no h) (no g) = omega (arith, argument-above (omega arith))
+
+  -- ---- the ways out of is_push
+
+  pub push-is : 0x60 ≤ b → b < 0x80 → true ≡ ltb 0 (argument b)
+  push-is h g = sym (lt-ltb 0 (argument b) (omega (arith, argument-push h g)))
+
+  pub no-push-below : b < 0x60 → false ≡ ltb 0 (argument b)
+  no-push-below h = sym (le-ltb 0 (argument b) (omega (arith, argument-below h)))
+
+  pub no-push-above : 0x80 ≤ b → false ≡ ltb 0 (argument b)
+  no-push-above h = sym (le-ltb 0 (argument b) (omega (arith, argument-above h)))

@@ -1,12 +1,12 @@
 -- What is found at a place of the code, and what a caller learns of the walk from it. Assumes nothing.
 use mathlib.Core.Path.{_≡_, ap, sym, _∙_}
-use mathlib.Core.Bool.{Bool, true, false}
+use mathlib.Core.Bool.{Bool, true, false, not}
 use mathlib.Core.List.{List, [], _∷_}
 use Prim.Native.Nat.{ℕ, suc, _+_, _-_, _≤_, _<_}
 use native.Mathlib.Omega.{arith}
 use native.Mathlib.Decide.{decLe}
-use borrow.Author.Tests.{leb-true, leb-false}
-use lib.Dec.{leb}
+use borrow.Author.Tests.{leb-true, leb-false, ltb-false, not-true}
+use lib.Dec.{leb, ltb}
 use lib.ListN.{length, getD, drop}
 use Rattle.spec.specs.Opcodes.{argument}
 use Rattle.spec.specs.Walk.{ins, walk}
@@ -29,6 +29,11 @@ module _ (code : List ℕ) (at : ℕ) where
 
   pub step-past : length code ≤ at → End ≡ stepAt code at
   step-past h = sym (none (omega arith))
+
+  pub step-one : {b : Bool} → at < length code → b ≡ ltb 0 (argument (getD code at 0)) → not b ≡ true → Whole at (getD code at 0) (at + 1) ≡ stepAt code at
+  step-one {b} h e f =
+      let one : next code at ≡ at + 1 = omega (arith, ltb-false 0 (argument (getD code at 0)) (sym e ∙ not-true b f)) in
+      rw one at (sym (whole (omega (arith, one))))
 
   module _ {n : ℕ} (s : SizeIs (getD code at 0) n) {b : Bool} (e : b ≡ leb n (length code - at)) where
     pub step-short : b ≡ false → End ≡ stepAt code at

@@ -2,7 +2,8 @@
 // "walks whole instructions; stops before one that runs past the end"
 use crate::rows::size_of;
 ghost use mathlib.Core.Path.{_≡_};
-ghost use lib.Dec.{leb};
+ghost use lib.Dec.{leb, ltb};
+ghost use Rattle.spec.specs.Opcodes.{argument};
 ghost use Rattle.evm.specs.Argument.{Follow, Spelled, Widened};
 ghost use Rattle.evm.specs.Step.{nextAt, stepAt};
 
@@ -20,6 +21,14 @@ pub fn step_at(code: &[u8], at: usize) -> Step
         return Step::End;
     }
     let op = code[at];
+    // most have no argument, and then the place of the next does not wait for a length
+    if !is_push(op) {
+        return Step::Whole {
+            pc: at,
+            op,
+            next: at + 1,
+        };
+    }
     let long = size_of(op);
     if is_whole(long, code.len() - at) {
         Step::Whole {
@@ -29,6 +38,16 @@ pub fn step_at(code: &[u8], at: usize) -> Step
         }
     } else {
         Step::End
+    }
+}
+
+// Is it PUSH1 to PUSH32, of which alone bytes of code after their own belong to the instruction?
+fn is_push(op: u8) -> bool
+    ensures { λ b. ⌜ b ≡ ltb 0 (argument op) ⌝ }
+{
+    match op {
+        0x60..=0x7f => true,
+        _ => false,
     }
 }
 

@@ -1,4 +1,4 @@
--- The checks afterwards: a destination is looked up in the rows, a row's block is checked, and all blocks one after the other. Assumes nothing.
+-- The checks afterwards: a destination is looked up in the rows, a row's block is checked, and all blocks one after the other, each listed. Assumes nothing.
 use mathlib.Core.Path.{_≡_, refl, sym, ap, _∙_}
 use mathlib.Core.Bool.{Bool, true, false, not, and-true}
 use mathlib.Core.List.{List, [], _∷_, _++_, map, map-append, append-nil}
@@ -7,22 +7,23 @@ use native.Mathlib.Nat.{zero-add, suc-add}
 use native.Mathlib.Numerals.{add-one}
 use native.Mathlib.Omega.{arith}
 use lib.Dec.{eqb}
-use lib.ListN.{length, getD, drop, List·getD-eq-default}
+use lib.ListN.{length, getD, take, drop, List·getD-eq-default}
 use borrow.Author.Tests.{eqb-true, eq-eqb, ne-eqb}
 use Rattle.spec.specs.Lists.{mem}
 use Rattle.spec.specs.Blocks.{Kind, jump, jumpi, Block, block, with-kind, starts, lands, checked, check-all}
 use Rattle.lent.specs.Bytes.{numAt, Holds}
-use Rattle.lent.proofs.Parts.{drop-more}
+use Rattle.lent.proofs.Parts.{take-less, drop-more, part-prefix, part-suffix}
 use Rattle.lent.proofs.Stored.{kept-take, kept-drop}
 use Rattle.laws.proofs.Branch.{both, if-true, if-false, and-false}
-use Rattle.layout.specs.Parts.{rowPlace, rowsEnd}
-use Rattle.layout.specs.Rows.{END, typed, Put, TypeIs}
+use Rattle.layout.specs.Parts.{ROW, rowPlace, rowsEnd, startsPlace, startPlace, SameRows}
+use Rattle.layout.specs.Rows.{END, typed, Put, TypeIs, startsAt}
 use Rattle.layout.specs.declared.row.BlockType.{BlockType}
 use Rattle.initial.specs.Rows.{typeOf, kindOf, blockAt, rowBlocks, blocksFrom, blocksAt, Laid}
-use Rattle.initial.specs.Contracts.{Written, Rows, Apart, no-more, one-more, through, rechecked, CheckedRow}
+use Rattle.initial.specs.Contracts.{Rows, Apart, no-more, one-more, through, rechecked, CheckedRow, Listing, ListedRow, CheckedAll}
 use Rattle.initial.proofs.Types.{Good, kind-type, kind-jump, kind-jumpi, good-terminate, good-jump, good}
-use Rattle.initial.proofs.Rows.{here-suffix, from-suffix, from-split, blocks-split, here-empty, here-block, by-row, row-changed, start-at, start-past}
-use Rattle.initial.proofs.Writing.{put-here, put-laid}
+use Rattle.initial.proofs.Rows.{part-at, here-row, from-prefix, from-part, from-split, blocks-split, here-empty, here-block, by-row, row-changed, start-at, start-past}
+use Rattle.initial.proofs.Writing.{put-here, put-laid, laid-prefix}
+use Rattle.initial.proofs.Listing.{list-suffix}
 
 -- ---- a destination is looked up
 
@@ -180,40 +181,55 @@ module _ (w : List ℕ) (n : ℕ) where
 
 -- ---- all blocks, one after the other
 
--- the rows before a are checked, and the others are as they were
-pub record Checking (code w₀ w : List ℕ) (a : ℕ) : Type 0 where
+-- the rows before a are checked, and the starts of their blocks are listed; all else is as it was
+pub record Checking (code w₀ w : List ℕ) (a many : ℕ) : Type 0 where
   pub front : blocksFrom w 0 a ≡ map (rechecked code (starts (blocksAt w₀ (length code)))) (blocksFrom w₀ 0 a)
-  pub back : drop (rowPlace a) w ≡ drop (rowPlace a) w₀
+  pub list : startsAt w (length code) 0 many ≡ starts (blocksFrom w₀ 0 a)
+  pub few : many ≤ a
+  pub back : take (startsPlace (length code) - rowPlace a) (drop (rowPlace a) w) ≡ take (startsPlace (length code) - rowPlace a) (drop (rowPlace a) w₀)
+  pub past : drop (startPlace (length code) many) w ≡ drop (startPlace (length code) many) w₀
   pub laid : Laid w (length code)
   pub kept : length w ≡ length w₀
   pub inside : a ≤ length code + 1
 
-starts-front : (f : Kind → Kind) (xs ys : List Block) → starts (map (λ (b : Block). with-kind (f (b .kind)) b) xs ++ ys) ≡ starts (xs ++ ys)
-starts-front f [] ys = refl
-starts-front f (x ∷ xs) ys = ap {B = List ℕ} (λ (ns : List ℕ). x .start ∷ ns) (starts-front f xs ys)
+-- the checks keep where blocks start
+starts-same : (f : Kind → Kind) (xs : List Block) → starts (map (λ (b : Block). with-kind (f (b .kind)) b) xs) ≡ starts xs
+starts-same f [] = refl
+starts-same f (x ∷ xs) = ap {B = List ℕ} (λ (ns : List ℕ). x .start ∷ ns) (starts-same f xs)
 
-pub check-none : {code w : List ℕ} → Rows code w → Checking code w w 0
-unfolding blocksFrom
-check-none r = record { front = refl; back = refl; laid = r .laid; kept = refl; inside = omega arith }
+starts-append : (xs ys : List Block) → starts (xs ++ ys) ≡ starts xs ++ starts ys
+starts-append xs ys = map-append (λ (b : Block). b .start) xs ys
 
-module _ {code w₀ w : List ℕ} {a : ℕ} (r : Rows code w₀) (g : Checking code w₀ w a) where
+pub check-none : {code w : List ℕ} → Rows code w → Checking code w w 0 0
+unfolding blocksFrom startsAt
+check-none r = record { front = refl; list = refl; few = omega arith; back = refl; past = refl; laid = r .laid; kept = refl; inside = omega arith }
+
+module _ {code w₀ w : List ℕ} {a many : ℕ} (r : Rows code w₀) (g : Checking code w₀ w a many) where
   pub check-rows : Rows code w
   check-rows = record { lent = record { short = r .lent .short; room = omega arith }; laid = g .laid }
+
+  -- a part of the rows that are not checked yet
+  ahead : (x m : ℕ) → a ≤ x → x + m ≤ length code + 1 → blocksFrom w x m ≡ blocksFrom w₀ x m
+  ahead x m l h = from-part w w₀ x m (startsPlace (length code) - rowPlace a) (rowPlace a) (g .back) (omega arith) (omega (arith, g .inside))
 
   -- the checks keep where blocks start, so that each looks up what all look up
   starts-kept : starts (blocksAt w (length code)) ≡ starts (blocksAt w₀ (length code))
   starts-kept =
       let k : ℕ = suc (length code) - a in
       let e : suc (length code) ≡ a + k = omega (arith, g .inside) in
-      let rest : blocksFrom w a k ≡ blocksFrom w₀ a k = from-suffix w w₀ a k (rowPlace a) (g .back) (omega arith) in
-      rw (e, from-split w a k 0, from-split w₀ a k 0, zero-add, rest, g .front) (starts-front (checked code (starts (blocksAt w₀ (length code)))) (blocksFrom w₀ 0 a) (blocksFrom w₀ a k))
+      let rest : blocksFrom w a k ≡ blocksFrom w₀ a k = ahead a k (omega arith) (omega (arith, g .inside)) in
+      let front : starts (blocksFrom w 0 a) ≡ starts (blocksFrom w₀ 0 a) = ap starts (g .front) ∙ starts-same (checked code (starts (blocksAt w₀ (length code)))) (blocksFrom w₀ 0 a) in
+      rw (e, from-split w a k 0, from-split w₀ a k 0, zero-add, rest, starts-append (blocksFrom w 0 a), starts-append (blocksFrom w₀ 0 a), front)
 
-  module _ (s : Apart (length code) 0 (blocksAt w₀ (length code))) (h : a ≤ length code) {w′ : List ℕ} {end : ℕ} (c : CheckedRow code w a w′ end) where
+  module _ (s : Apart (length code) 0 (blocksAt w₀ (length code))) (h : a ≤ length code) {w₁ : List ℕ} {end : ℕ} (c : CheckedRow code w a w₁ end) where
     old : rowBlocks w a ≡ rowBlocks w₀ a
-    old = here-suffix w w₀ a (rowPlace a) (g .back) (omega arith)
+    old = here-row w w₀ a (part-at w w₀ (startsPlace (length code) - rowPlace a) (rowPlace a) (g .back) ROW (rowPlace a) (omega arith) (omega arith))
 
     passed : Clear w₀ (length code) a end
     passed = rw (c .end, old) (clear w₀ (length code) a h s)
+
+    pub check-listing : Listing (length code) w₁ a many
+    check-listing = record { short = r .lent .short; room = omega (arith, c .kept, g .kept, r .lent .room); inside = h; few = g .few }
 
     pub check-fits : end + 1 < 2 ^ 64
     check-fits = omega (arith, passed .inside, r .lent .short)
@@ -221,22 +237,72 @@ module _ {code w₀ w : List ℕ} {a : ℕ} (r : Rows code w₀) (g : Checking c
     pub check-less : length code + 1 - (end + 1) < length code + 1 - a
     check-less = omega (arith, passed .forward)
 
-    pub check-more : Checking code w₀ w′ (end + 1)
-    check-more =
-        let behind : blocksFrom w (suc a) (end - a) ≡ [] = from-suffix w w₀ (suc a) (end - a) (rowPlace a) (g .back) (omega arith) ∙ passed .none in
-        record {
-          front =
-              rw add-one
-              (row-changed w′ w end a (passed .forward) (c .before) (c .past)
-              ∙ rw (behind, g .front, c .same, old, starts-kept, blocks-split w₀ end a (passed .forward), passed .none, append-nil, append-nil) (sym (map-append _ (blocksFrom w₀ 0 a) (rowBlocks w₀ a))));
-          back = drop-more w′ w₀ (rowPlace (a + 1)) (c .past ∙ drop-more w w₀ (rowPlace a) (g .back) (rowPlace (a + 1)) (omega arith)) (rowPlace (end + 1)) (omega (arith, passed .forward));
-          laid = c .laid;
-          kept = c .kept ∙ g .kept;
-          inside = omega (arith, passed .inside);
-        }
+    -- the row's block starts where it did
+    same-start : starts (rowBlocks w₁ a) ≡ starts (rowBlocks w₀ a)
+    same-start = ap starts (c .same) ∙ starts-same (checked code (starts (blocksAt w (length code)))) (rowBlocks w a) ∙ ap starts old
 
-  pub check-done : length code < a → Written (length code) (check-all code (blocksAt w₀ (length code))) w₀ w
+    behind : blocksFrom w (suc a) (end - a) ≡ []
+    behind = ahead (suc a) (end - a) (omega arith) (omega (arith, passed .forward, passed .inside)) ∙ passed .none
+
+    -- the blocks before the next turn, as they were
+    next : blocksFrom w₀ 0 (suc end) ≡ blocksFrom w₀ 0 a ++ rowBlocks w₀ a
+    next = rw (blocks-split w₀ end a (passed .forward), passed .none, append-nil)
+
+    module _ {w₂ : List ℕ} {more : ℕ} (l : ListedRow (length code) w₁ a many w₂ more) where
+      low : rowsEnd (length code) ≤ startPlace (length code) many
+      low = omega arith
+
+      rows-same : SameRows (length code) w₁ w₂
+      rows-same = take-less w₂ w₁ (startPlace (length code) many) (l .before) (rowsEnd (length code)) low
+
+      checked-front : blocksFrom w₂ 0 (suc end) ≡ map (rechecked code (starts (blocksAt w₀ (length code)))) (blocksFrom w₀ 0 (suc end))
+      checked-front =
+          from-prefix w₂ w₁ 0 (suc end) (rowsEnd (length code)) rows-same (omega (arith, passed .inside))
+          ∙ row-changed w₁ w end a (passed .forward) (c .before) (c .past)
+          ∙ rw (behind, g .front, c .same, old, starts-kept, next, append-nil) (sym (map-append _ (blocksFrom w₀ 0 a) (rowBlocks w₀ a)))
+
+      listed-front : startsAt w₂ (length code) 0 more ≡ starts (blocksFrom w₀ 0 (suc end))
+      listed-front =
+          l .list
+          ∙ rw (list-suffix (length code) w₁ w many (rowPlace (a + 1)) (c .past) (omega arith), g .list, same-start, next)
+          (sym (starts-append (blocksFrom w₀ 0 a) (rowBlocks w₀ a)))
+
+      kept-back : take (startsPlace (length code) - rowPlace (end + 1)) (drop (rowPlace (end + 1)) w₂)
+          ≡ take (startsPlace (length code) - rowPlace (end + 1)) (drop (rowPlace (end + 1)) w₀)
+      kept-back =
+          let k : ℕ = startsPlace (length code) - rowPlace (end + 1) in
+          part-prefix w₂ w₁ (startPlace (length code) many) (l .before) k (rowPlace (end + 1)) (omega (arith, passed .inside))
+          ∙ part-suffix w₁ w (rowPlace (a + 1)) (c .past) k (rowPlace (end + 1)) (omega (arith, passed .forward))
+          ∙ part-at w w₀ (startsPlace (length code) - rowPlace a) (rowPlace a) (g .back) k (rowPlace (end + 1)) (omega (arith, passed .forward)) (omega (arith, passed .inside))
+
+      pub check-more : Checking code w₀ w₂ (end + 1) more
+      check-more =
+          record {
+            front = rw add-one checked-front;
+            list = rw add-one listed-front;
+            few = omega (arith, passed .forward, l .few, g .few);
+            back = kept-back;
+            past =
+                l .past
+                ∙ drop-more w₁ w (rowPlace (a + 1)) (c .past) (startPlace (length code) more) (omega arith)
+                ∙ drop-more w w₀ (startPlace (length code) many) (g .past) (startPlace (length code) more) (omega (arith, l .low));
+            laid = laid-prefix (c .laid) rows-same;
+            kept = l .kept ∙ c .kept ∙ g .kept;
+            inside = omega (arith, passed .inside);
+          }
+
+  pub check-done : length code < a → CheckedAll code w₀ w many
   check-done h =
       let e : a ≡ suc (length code) = omega (arith, g .inside) in
       let all : rowPlace a ≡ rowsEnd (length code) = omega arith in
-      record { blocks = rw e at (g .front); laid = g .laid; beyond = record { others = rw all at (g .back); kept = g .kept } }
+      let front : blocksAt w (length code) ≡ check-all code (blocksAt w₀ (length code)) = rw e at (g .front) in
+      let list : startsAt w (length code) 0 many ≡ starts (blocksAt w₀ (length code)) = rw e at (g .list) in
+      record {
+        same = front;
+        laid = g .laid;
+        listed = record { is = list ∙ sym (ap starts front ∙ starts-same (checked code (starts (blocksAt w₀ (length code)))) (blocksAt w₀ (length code))) };
+        few = omega (arith, g .few, g .inside);
+        between = rw all at (g .back);
+        past = g .past;
+        kept = g .kept;
+      }

@@ -13,13 +13,19 @@ use borrow.Author.Tests.{eqb-true, eqb-false, eq-eqb, ne-eqb}
 use Rattle.spec.specs.Lists.{mem}
 use Rattle.spec.specs.Blocks.{Block, starts}
 use Rattle.lent.specs.Bytes.{numAt}
-use Rattle.lent.proofs.Parts.{part-prefix, part-suffix}
+use Rattle.lent.proofs.Parts.{part-prefix, part-suffix, part-within}
 use Rattle.lent.proofs.Numbers.{num-within}
 use Rattle.laws.proofs.Branch.{both, if-true, if-false}
 use Rattle.laws.proofs.Members.{In, here, mem-append, in-only, in-right, in-cases}
 use Rattle.layout.specs.Parts.{ROW, rowPlace, rowsEnd, SameRows}
 use Rattle.layout.specs.Rows.{END, TO, OTHER, tagAt}
 use Rattle.initial.specs.Rows.{blockAt, rowBlocks, blocksFrom, blocksAt}
+
+-- a part within a part that is the same
+pub part-at : (l m : List ℕ) (k i : ℕ) → take k (drop i l) ≡ take k (drop i m) → (n j : ℕ) → i ≤ j → j + n ≤ i + k → take n (drop j l) ≡ take n (drop j m)
+part-at l m k i e n j h g =
+    let s : i + (j - i) ≡ j = omega arith in
+    rw s at (part-within l m k i i e n (j - i) (omega arith))
 
 -- ---- what they depend on: a row's own bytes, and of these the kind, the end and the sides
 
@@ -56,6 +62,9 @@ module _ (w v : List ℕ) where
 
   pub from-suffix : (a m k : ℕ) → drop k w ≡ drop k v → k ≤ rowPlace a → blocksFrom w a m ≡ blocksFrom v a m
   from-suffix a m k e h = from-rows a m (λ x l g. here-suffix w v x k e (omega arith))
+
+  pub from-part : (a m k i : ℕ) → take k (drop i w) ≡ take k (drop i v) → i ≤ rowPlace a → rowPlace (a + m) ≤ i + k → blocksFrom w a m ≡ blocksFrom v a m
+  from-part a m k i e l h = from-rows a m (λ x f g. here-row w v x (part-at w v k i e ROW (rowPlace x) (omega arith) (omega arith)))
 
   -- the rows' part of W says which blocks there are
   pub blocks-prefix : (n : ℕ) → SameRows n v w → blocksAt w n ≡ blocksAt v n

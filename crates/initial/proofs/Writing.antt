@@ -9,10 +9,10 @@ use lib.ListN.{take, drop, replicate, length-replicate, replicate-append-replica
 use lib.Seq.{take-add, take-at, drop-at, drop-drop}
 use Rattle.spec.specs.Blocks.{Block, block}
 use Rattle.lent.specs.Bytes.{numAt, Stored}
-use Rattle.lent.proofs.Parts.{part-of-take}
+use Rattle.lent.proofs.Parts.{part-of-take, part-prefix}
 use Rattle.lent.proofs.Numbers.{number-little, num-zeros}
 use Rattle.lent.proofs.Stored.{kept-drop, kept-part, read-all, read-part, read-num}
-use Rattle.layout.specs.Parts.{ROW, rowPlace, rowsEnd}
+use Rattle.layout.specs.Parts.{ROW, rowPlace, rowsEnd, SameRows}
 use Rattle.layout.specs.Rows.{END, TO, OTHER, BLOCK, REST, tagAt, headOf, Put}
 use Rattle.layout.specs.declared.row.BlockType.{BlockType}
 use Rattle.initial.specs.Rows.{kindOf, rowBlocks, blocksFrom, blocksAt, rowOf, Laid}
@@ -46,6 +46,10 @@ later-zero (b ∷ bs) = refl
 pub laid-later : {w : List ℕ} {n : ℕ} → Laid w n → (a : ℕ) → a ≤ n → take REST (drop (rowPlace a + BLOCK) w) ≡ replicate REST 0
 laid-later {w} l a h =
     rw (← drop-drop BLOCK (rowPlace a) w) (part-of-take REST BLOCK (drop (rowPlace a) w) ∙ ap (λ (bs : List ℕ). drop BLOCK bs) (l .row a h) ∙ later-zero (rowBlocks w a))
+
+pub laid-prefix : {w v : List ℕ} {n : ℕ} → Laid v n → SameRows n v w → Laid w n
+laid-prefix {w} {v} {n} l e =
+    record { row = λ a h. let s = part-prefix w v (rowsEnd n) e ROW (rowPlace a) (omega arith) in s ∙ l .row a h ∙ ap rowOf (sym (here-row w v a s)) }
 
 -- ---- the row that is written
 

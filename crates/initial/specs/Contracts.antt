@@ -2,15 +2,15 @@
 use mathlib.Core.Path.{_≡_}
 use mathlib.Core.List.{List, [], _∷_, _++_, map}
 use mathlib.Core.Option.{none}
-use Prim.Native.Nat.{ℕ, suc, _+_, _≤_, _<_}
+use Prim.Native.Nat.{ℕ, suc, _+_, _-_, _≤_, _<_}
 use lib.ListN.{length, getD, take, drop}
 use Rattle.spec.specs.Opcodes.{argument, row}
 use Rattle.spec.specs.Walk.{instructions}
-use Rattle.spec.specs.Blocks.{Block, with-kind, opened, cuts, checked, starts, blocks}
+use Rattle.spec.specs.Blocks.{Block, with-kind, opened, cuts, checked, starts, check-all, blocks}
 use Rattle.spec.specs.Rooms.{longest, work-need}
-use Rattle.layout.specs.Parts.{rowPlace, rowsEnd, PastRows}
-use Rattle.layout.specs.Rows.{tagAt}
-use Rattle.initial.specs.Rows.{rowBlocks, blocksAt, Laid}
+use Rattle.layout.specs.Parts.{rowPlace, rowsEnd, startsPlace, startPlace, PastRows}
+use Rattle.layout.specs.Rows.{tagAt, startsAt}
+use Rattle.initial.specs.Rows.{rowBlocks, blocksAt, Laid, Listed}
 use Rattle.initial.specs.Turn.{clipped, rest, ahead}
 use Rattle.initial.specs.declared.turn.Walking.{Walking}
 use Rattle.initial.specs.declared.turn.Walking.the-variants.{Opened, Waiting, Ended}
@@ -122,10 +122,42 @@ pub record CheckedRow (code w : List ℕ) (a : ℕ) (w′ : List ℕ) (r : ℕ) 
   pub laid : Laid w′ (length code)
   pub kept : length w′ ≡ length w
 
+-- room for the start of the block in the row of an address, behind many others: at most one for each address before
+pub record Listing (n : ℕ) (w : List ℕ) (a many : ℕ) : Type 0 where
+  pub short : n ≤ longest
+  pub room : work-need n ≤ length w
+  pub inside : a ≤ n
+  pub few : many ≤ a
+
+-- it was listed, where one starts there, and r are listed now
+pub record ListedRow (n : ℕ) (w : List ℕ) (a many : ℕ) (w′ : List ℕ) (r : ℕ) : Type 0 where
+  pub list : startsAt w′ n 0 r ≡ startsAt w n 0 many ++ starts (rowBlocks w a)
+  pub before : take (startPlace n many) w′ ≡ take (startPlace n many) w
+  pub past : drop (startPlace n r) w′ ≡ drop (startPlace n r) w
+  pub low : many ≤ r
+  pub few : r ≤ many + 1
+  pub kept : length w′ ≡ length w
+
+-- the rows hold the blocks checked and nothing else, their starts are listed, and nothing else changed
+pub record CheckedAll (code w w′ : List ℕ) (many : ℕ) : Type 0 where
+  pub same : blocksAt w′ (length code) ≡ check-all code (blocksAt w (length code))
+  pub laid : Laid w′ (length code)
+  pub listed : Listed (length code) w′ many
+  pub few : many ≤ length code + 1
+  pub between : take (startsPlace (length code) - rowsEnd (length code)) (drop (rowsEnd (length code)) w′)
+      ≡ take (startsPlace (length code) - rowsEnd (length code)) (drop (rowsEnd (length code)) w)
+  pub past : drop (startPlace (length code) many) w′ ≡ drop (startPlace (length code) many) w
+  pub kept : length w′ ≡ length w
+
 -- ---- both
 
--- the rows hold the code's blocks and nothing else, and nothing past the rows changed
-pub record Initial (code w w′ : List ℕ) : Type 0 where
+-- the rows hold the code's blocks and nothing else, their starts are listed, and nothing else changed
+pub record Initial (code w w′ : List ℕ) (many : ℕ) : Type 0 where
   pub same : blocksAt w′ (length code) ≡ blocks row code (instructions code)
   pub laid : Laid w′ (length code)
-  pub beyond : Beyond (length code) w w′
+  pub listed : Listed (length code) w′ many
+  pub few : many ≤ length code + 1
+  pub between : take (startsPlace (length code) - rowsEnd (length code)) (drop (rowsEnd (length code)) w′)
+      ≡ take (startsPlace (length code) - rowsEnd (length code)) (drop (rowsEnd (length code)) w)
+  pub past : drop (startPlace (length code) many) w′ ≡ drop (startPlace (length code) many) w
+  pub kept : length w′ ≡ length w

@@ -6,10 +6,10 @@ use Prim.Native.Nat.{ℕ, zero, suc, _+_, _≤_}
 use lib.Dec.{eqb}
 use lib.ListN.{take, drop, replicate}
 use Rattle.spec.specs.Lists.{if}
-use Rattle.spec.specs.Blocks.{Kind, terminate, jump, jumpi, dynamic-jump, dynamic-jumpi, Block, block}
+use Rattle.spec.specs.Blocks.{Kind, terminate, jump, jumpi, dynamic-jump, dynamic-jumpi, Block, block, starts}
 use Rattle.lent.specs.Bytes.{numAt}
 use Rattle.layout.specs.Parts.{ROW, rowPlace}
-use Rattle.layout.specs.Rows.{END, REST, typed, tagAt, typeAt, headOf}
+use Rattle.layout.specs.Rows.{END, REST, typed, tagAt, typeAt, headOf, startsAt}
 use Rattle.layout.specs.declared.row.BlockType.{BlockType}
 
 -- ---- kinds, by their byte and the two sides
@@ -63,3 +63,8 @@ rowOf (b ∷ bs) = headOf (b .end) (typeOf (b .kind)) ++ replicate REST 0
 -- Each row holds its block and nothing else: so the blocks say every byte of the rows.
 pub record Laid (w : List ℕ) (n : ℕ) : Type 0 where
   pub row : (a : ℕ) → a ≤ n → take ROW (drop (rowPlace a) w) ≡ rowOf (rowBlocks w a)
+
+-- ---- the list of the blocks' starts: its first `many` entries are the starts of the blocks that the rows hold
+
+pub record Listed (n : ℕ) (w : List ℕ) (many : ℕ) : Type 0 where
+  pub is : startsAt w n 0 many ≡ starts (blocksAt w n)

@@ -1,7 +1,10 @@
-// The checks afterwards, from a block to behind its end.
+// The checks afterwards, from a block to behind its end, and the list of the blocks' starts.
 // "Afterwards a Jump to no block, or to a block whose first byte isn't 5B, becomes Terminate false. So does a Jumpi whose false side starts no block;
 // otherwise, if its true side starts none or isn't 5B, it becomes a Jump to its false side."
 use evm::op::JUMPDEST;
+use layout::part::START;
+use layout::part::STARTS;
+use layout::part::STARTS_MORE;
 use layout::row::BlockType;
 use layout::row::END;
 use layout::row::JUMP;
@@ -12,28 +15,44 @@ use layout::row::put_block;
 use layout::row::type_at;
 use lent::get8;
 use lent::get16;
+use lent::put16;
 ghost use mathlib.Core.Path.{_≡_};
 ghost use mathlib.Core.Bool.{true};
 ghost use Prim.Native.Nat.{_+_, _*_, _≤_};
 ghost use lib.ListN.{length};
 ghost use Rattle.spec.specs.Lists.{mem};
-ghost use Rattle.spec.specs.Blocks.{jump, jumpi, starts, lands, checked, check-all};
+ghost use Rattle.spec.specs.Blocks.{jump, jumpi, starts, lands, checked};
 ghost use Rattle.layout.specs.Parts.{rowsEnd};
 ghost use Rattle.initial.specs.Rows.{typeOf, blocksAt};
-ghost use Rattle.initial.specs.Contracts.{Written, Rows, Apart, CheckedRow};
+ghost use Rattle.initial.specs.Contracts.{Rows, Apart, CheckedRow, Listing, ListedRow, CheckedAll};
 
-// The checks of every block. Up to a block's end no other starts, so the next turn is behind it.
-pub fn check(code: &[u8], w: &mut [u8])
+// The checks of every block, and how many blocks there are. Up to a block's end no other starts, so the next turn is behind it.
+pub fn check(code: &[u8], w: &mut [u8]) -> usize
     requires { ⌜ Rows (now code) (now w) ⌝ }
     requires { ⌜ Apart (length (now code)) 0 (blocksAt (now w) (length (now code))) ⌝ }
-    ensures { λ _. ⌜ Written (length (now (code .entry))) (check-all (now (code .entry)) (blocksAt (now (w .entry)) (length (now (code .entry)))))
-        (now (w .entry)) (now (w .exit)) ⌝ }
+    ensures { λ r. ⌜ CheckedAll (now (code .entry)) (now (w .entry)) (now (w .exit)) r ⌝ }
 {
     let size = code.len();
+    let mut many = 0;
     let mut start = 0;
     while start <= size {
-        start = check_row(code, w, start) + 1;
+        let end = check_row(code, w, start);
+        many = list_row(w, size, start, many);
+        start = end + 1;
     }
+    many
+}
+
+// Lists the start of the block that starts at `start`, if one does, behind `many` others; answers how many are listed then.
+fn list_row(w: &mut [u8], size: usize, start: usize, many: usize) -> usize
+    requires { ⌜ Listing size (now w) start many ⌝ }
+    ensures { λ r. ⌜ ListedRow size (now (w .entry)) start many (now (w .exit)) r ⌝ }
+{
+    if get8(w, ROW * start) == 0 {
+        return many;
+    }
+    put16(w, STARTS * size + STARTS_MORE + START * many, start);
+    many + 1
 }
 
 // The checks of the block that starts at `start`, and its end; `start` where none does.

@@ -1,5 +1,6 @@
 -- W's parts, for a code of n bytes, one after the other: the rows of the blocks, the rows of the addresses' fields, the worklist, the buckets of records,
--- and, before the end of what W needs, the part for runs. Where each stands, and what it means that it stays. Assumes nothing.
+-- behind those in use the own states of blocks that were run, the part for runs, and, at the end of what W needs, the list of the blocks' starts. Where each
+-- stands, and what it means that it stays. Assumes nothing.
 use mathlib.Core.Path.{_≡_}
 use mathlib.Core.List.{List}
 use Prim.Native.Nat.{ℕ, _+_, _*_, _/_, _≤_}
@@ -36,9 +37,27 @@ bucketsPlace n = 42 * (n + 1)
 abbrev pub bucketPlace : ℕ → ℕ → ℕ
 bucketPlace n h = bucketsPlace n + 4 * h
 
--- how many buckets there is room for: 13 bytes for each address, and of the 256 bytes as many as the part for runs, 9 * (n + 17), leaves
+-- how many buckets there is room for: 9 bytes for each address, and of the 256 bytes as many as the links, the part for runs, 9 * (n + 17), and the list
+-- of starts leave
 abbrev pub bucketsOf : ℕ → ℕ
-bucketsOf n = (13 * n + 52) / 4
+bucketsOf n = (9 * n + 52) / 4
+
+-- behind so many buckets the own states: the link of the address a, how many cells are in use, and cell i
+abbrev pub linkPlace : ℕ → ℕ → ℕ → ℕ
+linkPlace n buckets a = bucketPlace n buckets + 2 * a
+
+abbrev pub filledPlace : ℕ → ℕ → ℕ
+filledPlace n buckets = linkPlace n buckets (n + 1)
+
+abbrev pub cellPlace : ℕ → ℕ → ℕ → ℕ
+cellPlace n buckets i = filledPlace n buckets + 4 + 9 * i
+
+-- the list of the blocks' starts, and entry i
+abbrev pub startsPlace : ℕ → ℕ
+startsPlace n = 62 * n + 254
+
+abbrev pub startPlace : ℕ → ℕ → ℕ
+startPlace n i = startsPlace n + 2 * i
 
 -- ---- one of them stays, where w becomes w′
 

@@ -3,12 +3,12 @@
 -- the position on is 0 until the blocks are prepared.
 -- Assumes nothing.
 use mathlib.Core.Path.{_≡_}
-use mathlib.Core.List.{List, _++_}
-use Prim.Native.Nat.{ℕ, _+_, _-_, _<_}
+use mathlib.Core.List.{List, [], _∷_, _++_}
+use Prim.Native.Nat.{ℕ, zero, suc, _+_, _-_, _<_}
 use lib.Dec.{eqb}
 use Rattle.spec.specs.Lists.{if, little}
 use Rattle.lent.specs.Bytes.{numAt, Stored}
-use Rattle.layout.specs.Parts.{rowPlace}
+use Rattle.layout.specs.Parts.{rowPlace, startPlace}
 use Rattle.layout.specs.declared.row.BlockType.{BlockType}
 
 -- ---- where a row has its fields
@@ -96,3 +96,9 @@ nextOf w t a = if (eqb (numAt 2 w (rowPlace a + TO)) t) (numAt 2 w (rowPlace a +
 
 abbrev pub nextAt : List ℕ → ℕ → ℕ → ℕ
 nextAt w t link = nextOf w t (startOf link)
+
+-- ---- the list of the blocks' starts: what the m entries from i on say
+
+unfoldable pub startsAt : List ℕ → ℕ → ℕ → ℕ → List ℕ
+startsAt w n i zero = []
+startsAt w n i (suc m) = numAt 2 w (startPlace n i) ∷ startsAt w n (suc i) m

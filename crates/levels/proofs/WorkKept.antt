@@ -1,17 +1,15 @@
--- What the search reads of W stays where the counts of the path in hand, or the part for runs, change. Assumes nothing.
+-- What the search reads of W stays where the counts of the path in hand, or what is behind the buckets in use, change. Assumes nothing.
 use mathlib.Core.Path.{_≡_, sym, _∙_}
 use mathlib.Core.List.{List}
-use Prim.Native.Nat.{ℕ, _+_, _-_, _≤_}
+use Prim.Native.Nat.{ℕ, _+_, _≤_}
 use native.Mathlib.Omega.{arith}
-use lib.ListN.{length}
+use lib.ListN.{length, take}
 use Rattle.spec.specs.Search.{Rec}
 use Rattle.lent.specs.Bytes.{numAt}
 use Rattle.lent.proofs.Numbers.{num-prefix, num-suffix, num-within}
 use Rattle.lent.proofs.Parts.{take-less}
 use Rattle.layout.specs.Fields.{HIGHEST, markAt, highAt}
 use Rattle.layout.specs.Parts.{ROW, rowsEnd, fieldsPlace, listPlace, bucketPlace, SameRows}
-use Rattle.exec.specs.Owns as owns
-use Rattle.exec.specs.Owns.{roomOf}
 use Rattle.tables.specs.Tables.{SameLinks}
 use Rattle.parents.specs.Contracts.{Known}
 use Rattle.parents.proofs.Knows.{known-prefix}
@@ -74,21 +72,21 @@ module _ {n : ℕ} {w w′ : List ℕ} (c : CountsOnly n w w′) where
         flags = flagged-same w w′ n (λ a h. late a h 1 _ (omega arith) (omega arith));
       }
 
--- ---- another part for runs
+-- ---- another part behind the buckets in use
 
-module _ (n buckets : ℕ) {code : List ℕ} {end : ℕ} {w w′ : List ℕ} (i : owns.Inside code w end w′) (scratch : bucketPlace n buckets + roomOf code ≤ end) where
+module _ (n buckets : ℕ) (w w′ : List ℕ) (front : take (bucketPlace n buckets) w′ ≡ take (bucketPlace n buckets) w) (long : length w′ ≡ length w) where
   low : (k at : ℕ) → at + k ≤ bucketPlace n buckets → numAt k w′ at ≡ numAt k w at
-  low k at h = num-prefix w′ w (end - roomOf code) (i .front) k at (omega arith)
+  low k at h = num-prefix w′ w (bucketPlace n buckets) front k at h
 
   pub alike-run : Alike n buckets w w′
   alike-run =
       record {
-        rows = take-less w′ w (end - roomOf code) (i .front) (rowsEnd n) (omega arith);
+        rows = take-less w′ w (bucketPlace n buckets) front (rowsEnd n) (omega arith);
         links = record {
           firsts = λ a h. low 4 _ (omega arith);
           lasts = λ a h. low 4 _ (omega arith);
           heads = λ b h. low 4 _ (omega arith);
-          long = i .kept;
+          long = long;
         };
         marks = λ a h. low 4 _ (omega arith);
         highs = λ a h. low 2 _ (omega arith);

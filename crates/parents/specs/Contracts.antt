@@ -11,10 +11,10 @@ use Rattle.spec.specs.Stacks.{Sym}
 use Rattle.spec.specs.Search.{Node, takers}
 use Rattle.spec.specs.Answer.{prepared}
 use Rattle.spec.specs.Rooms.{longest}
-use Rattle.layout.specs.Parts.{ROW, rowPlace, rowsEnd}
+use Rattle.layout.specs.Parts.{ROW, rowPlace, rowsEnd, startsPlace, startPlace}
 use Rattle.layout.specs.Rows.{tagAt, typeAt, firstAt, startOf}
 use Rattle.layout.specs.declared.row.BlockType.{BlockType}
-use Rattle.initial.specs.Rows.{blocksAt, Laid}
+use Rattle.initial.specs.Rows.{blocksAt, Laid, Listed}
 use Rattle.exec.specs.Owns.{roomOf}
 use Rattle.parents.specs.Links.{Parents, turnOf, Takers, directTo, fromOf}
 use Rattle.parents.specs.Rows.{rowFor}
@@ -28,6 +28,12 @@ pub record Lent (code w : List ℕ) (end : ℕ) : Type 0 where
   pub laid : Laid w (length code)
   pub room : rowsEnd (length code) + roomOf code ≤ end
   pub inside : end ≤ length w
+
+-- and past that part the list of the blocks' starts, with an entry for each block
+pub record LentStarts (code w : List ℕ) (end blocks : ℕ) : Type 0 where
+  pub listed : Listed (length code) w blocks
+  pub before : end ≤ startsPlace (length code)
+  pub lent : startPlace (length code) blocks ≤ length w
 
 -- W changed in its rows and in the part for the runs alone
 pub record Beside (code w : List ℕ) (end : ℕ) (w′ : List ℕ) : Type 0 where

@@ -10,12 +10,11 @@ use Rattle.spec.specs.Opcodes.{in-mode}
 use Rattle.spec.specs.Lists.{mem, total}
 use Rattle.spec.specs.Search.{Rec, kept, begin, dests, reached-by}
 use Rattle.spec.specs.Answer.{prepared}
-use Rattle.spec.specs.Rooms.{Lent, work-need}
+use Rattle.spec.specs.Rooms.{Lent}
 use Rattle.lent.proofs.Once.{Same, same-num}
 use Rattle.layout.specs.Buffers.{Mem}
 use Rattle.layout.specs.Fields.{COUNT, HIGHEST, markAt, highAt, countAt}
-use Rattle.layout.specs.Parts.{fieldsPlace, SameRows}
-use Rattle.enter.specs.Fits.{SameSpare}
+use Rattle.layout.specs.Parts.{fieldsPlace, startsPlace, SameRows}
 use Rattle.exec.specs.Modes.{modeOf}
 use Rattle.exec.specs.declared.mode.Mode.{Mode}
 use Rattle.tables.specs.declared.Counts.{Counts}
@@ -36,8 +35,7 @@ pub record OneSearch (mode : Mode) (code : List ℕ) (limit many : ℕ) (m m′ 
   pub rows : SameRows (length code) (m″ .w) (m′ .w)
   pub counts : (a : ℕ) → a ≤ length code → Same (m′ .w) (m″ .w) (fieldsPlace (length code) a + COUNT) 4
   pub highest : (a : ℕ) → a ≤ length code → Same (m′ .w) (m″ .w) (fieldsPlace (length code) a + HIGHEST) 2
-  pub spare : SameSpare (plan mode code limit many m) (m″ .w) (m′ .w)
-  pub beyond : drop (work-need (length code)) (m′ .w) ≡ drop (work-need (length code)) (m″ .w)
+  pub beyond : drop (startsPlace (length code)) (m′ .w) ≡ drop (startsPlace (length code)) (m″ .w)
   pub flags : (x : ℕ) → mem x (flagged (m′ .w) (length code)) ≡ mem x (flagged (m″ .w) (length code))
   pub reached : (a : ℕ) → a ≤ length code → markedBy (m′ .w) (length code) a (d .counts .records + 1) ≡ markedBy (m″ .w) (length code) a (d .counts .records + 1)
 
@@ -119,7 +117,6 @@ module _ {mode : Mode} {code : List ℕ} {limit many : ℕ} {m m′ m″ : Mem} 
           rows = f .rows z ∙ sym (g .rows other);
           counts = λ x h. same-num (a .w) (b .w) (long .w) 4 (fieldsPlace (length code) x + COUNT) (none-on-path x h);
           highest = λ x h. same-num (a .w) (b .w) (long .w) 2 (fieldsPlace (length code) x + HIGHEST) (one-highest x h);
-          spare = f .spare z ∙ sym (g .spare other);
           beyond = f .beyond z ∙ sym (g .beyond other);
           flags = one-flags;
           reached = one-reached;

@@ -11,4 +11,4 @@ use Rattle.resolver.specs.Turns.{Passed}
 
 pub passed-refused : {code : List ℕ} {k : Plan} {reached : List ℕ} {since : ℕ} {f : St → St} {m m′ : Mem} {o d : Run} → (d .code ≡ 0 → ⊥)
     → Did (k .rooms) f (stOf k m o) (d .code) (stOf k m′ d) → Passed code k reached since f m o m′ d
-passed-refused n d = record { did = d; idle = λ z. absurd (n z); flags = λ z. absurd (n z); rows = λ z. absurd (n z); spare = λ z. absurd (n z); beyond = λ z. absurd (n z); older = λ z. absurd (n z) }
+passed-refused n d = record { did = d; idle = λ z. absurd (n z); flags = λ z. absurd (n z); rows = λ z. absurd (n z); beyond = λ z. absurd (n z); older = λ z. absurd (n z) }

@@ -17,13 +17,12 @@ use Rattle.laws.specs.Lists.{In}
 use Rattle.lent.specs.Bytes.{Stored}
 use Rattle.layout.specs.Fields.{markAt}
 use Rattle.layout.specs.Marks.{NOWHERE}
-use Rattle.layout.specs.Parts.{bucketsOf, SameRows}
+use Rattle.layout.specs.Parts.{bucketsOf, startsPlace, SameRows}
 use Rattle.layout.specs.Records.{recordPlace, toAt}
 use Rattle.layout.specs.Rows.{positionAt}
 use Rattle.layout.specs.Buffers.{Mem}
 use Rattle.exec.specs.Modes.{modeOf}
 use Rattle.exec.specs.declared.mode.Mode.{Mode}
-use Rattle.exec.specs.declared.run.Own.{Own}
 use Rattle.tables.specs.Tables.{Tables}
 use Rattle.tables.specs.Mets.{Remembers}
 use Rattle.tables.specs.declared.Rooms.{Rooms}
@@ -37,8 +36,9 @@ use Rattle.steps.specs.Lands.{Marks}
 use Rattle.steps.specs.Runs.{tabled, recsIn, stOf, Did}
 use Rattle.steps.specs.Plans.{Plan}
 use Rattle.steps.specs.declared.Level.{Level}
+use Rattle.steps.specs.declared.own.StateAt.{StateAt}
 use Rattle.steps.specs.declared.Run.{Run}
-use Rattle.enter.specs.Fits.{Planned, preparedIn, SameSpare}
+use Rattle.enter.specs.Fits.{Planned, preparedIn}
 
 -- ---- between turns
 
@@ -66,7 +66,6 @@ pub record Passed (code : List ℕ) (k : Plan) (reached : List ℕ) (since : ℕ
   pub idle : d .code ≡ 0 → Idle code k reached since m′ d
   pub flags : d .code ≡ 0 → flagged (m′ .w) (k .n) ≡ flagged (m .w) (k .n)
   pub rows : d .code ≡ 0 → SameRows (k .n) (m .w) (m′ .w)
-  pub spare : d .code ≡ 0 → SameSpare k (m .w) (m′ .w)
   pub beyond : d .code ≡ 0 → drop (k .end) (m′ .w) ≡ drop (k .end) (m .w)
   pub older : d .code ≡ 0 → take (o .counts .records) (recsIn k m′ (d .counts)) ≡ recsIn k m (o .counts)
 
@@ -84,7 +83,7 @@ abbrev pub endedWith : Run → Run
 endedWith o = begunWith o 0
 
 -- the block's own state fits into S, its start is an address, and none is counted
-pub record Places (w p s : List ℕ) (k : Plan) (start : ℕ) (own : Own) : Type 0 where
+pub record Places (w p s : List ℕ) (k : Plan) (start : ℕ) (own : StateAt) : Type 0 where
   pub lent : Room (k .n) w
   pub inside : start ≤ k .n
   pub counts : OnPath (k .n) w []
@@ -92,7 +91,7 @@ pub record Places (w p s : List ℕ) (k : Plan) (start : ℕ) (own : Own) : Type
   pub lentS : 9 * own .n ≤ length s
   pub lentW : own .at + 9 * own .n ≤ length w
 
-pub record Placed (w p s : List ℕ) (k : Plan) (start : ℕ) (own : Own) (w′ p′ s′ : List ℕ) (l : Level) : Type 0 where
+pub record Placed (w p s : List ℕ) (k : Plan) (start : ℕ) (own : StateAt) (w′ p′ s′ : List ℕ) (l : Level) : Type 0 where
   pub copied : Stored (9 * own .n) s 0 (take (9 * own .n) (drop (own .at) w)) s′
   pub put : Stored 2 p 0 (little 2 start) p′
   pub counted : Counted (k .n) w p′ 1 w′
@@ -175,7 +174,6 @@ pub record Rounds (code : List ℕ) (k : Plan) (m : Mem) (o : Run) (m′ : Mem) 
   pub did : Did (k .rooms) (rounds 128 (k .limit) (preparedIn k code)) (stOf k m o) (d .code) (stOf k m′ d)
   pub between : d .code ≡ 0 → Between code k (last-since 128 (k .limit) (preparedIn k code) 0 (stOf k m o)) m′ d
   pub rows : d .code ≡ 0 → SameRows (k .n) (m .w) (m′ .w)
-  pub spare : d .code ≡ 0 → SameSpare k (m .w) (m′ .w)
   pub beyond : d .code ≡ 0 → drop (k .end) (m′ .w) ≡ drop (k .end) (m .w)
 
 -- ---- the search
@@ -191,7 +189,7 @@ abbrev pub planOf : Mode → ℕ → ℕ → ℕ → Rooms → Plan
 planOf mode n limit many rooms =
     record {
       n = n;
-      end = work-need n;
+      end = startsPlace n;
       many = many;
       buckets = bucketsFor n (rooms .r);
       shelves = min (rooms .t) 0x10000;
@@ -224,8 +222,7 @@ pub record Searched (mode : Mode) (code : List ℕ) (limit many : ℕ) (m m′ :
   pub energy-most : d .code ≡ 0 → d .energy ≤ limit + 256
   pub between : d .code ≡ 0 → Between code (plan mode code limit many m) (last-since 128 limit (prepared (in-mode (modeOf mode)) code) 0 begin) m′ d
   pub rows : d .code ≡ 0 → SameRows (length code) (m .w) (m′ .w)
-  pub spare : d .code ≡ 0 → SameSpare (plan mode code limit many m) (m .w) (m′ .w)
-  pub beyond : d .code ≡ 0 → drop (work-need (length code)) (m′ .w) ≡ drop (work-need (length code)) (m .w)
+  pub beyond : d .code ≡ 0 → drop (startsPlace (length code)) (m′ .w) ≡ drop (startsPlace (length code)) (m .w)
   pub reached : d .code ≡ 0
       → Reached (prepared (in-mode (modeOf mode)) code) (length code) (m′ .w) (last-since 128 limit (prepared (in-mode (modeOf mode)) code) 0 begin) (d .counts .records)
       (recsIn (plan mode code limit many m) m′ (d .counts))

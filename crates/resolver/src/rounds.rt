@@ -5,10 +5,12 @@ use crate::settle::hand_all;
 use exec::mode::Mode;
 use layout::part::BUCKET;
 use layout::part::BUCKETS;
-use layout::part::NEED;
-use layout::part::NEED_MORE;
+use layout::part::FILLED;
+use layout::part::LINK;
 use layout::part::SHARE;
 use layout::part::SHARE_MORE;
+use layout::part::STARTS;
+use layout::part::STARTS_MORE;
 use lent::units;
 use lent::wipe_part;
 use reachable::reach;
@@ -125,7 +127,7 @@ fn plan_of(mode: Mode, size: usize, limit: usize, many: usize, rooms: Rooms) -> 
     let buckets = buckets_of(size, rooms.r);
     [
         size,
-        NEED * size + NEED_MORE,
+        STARTS * size + STARTS_MORE,
         many,
         buckets,
         shelves,
@@ -160,7 +162,12 @@ pub fn search(
     let size = code.len();
     let plan = plan_of(mode, size, limit, many, rooms_of(p, s, t, r, q));
     reach(w, size);
-    wipe_part(w, BUCKETS * (size + 1), BUCKET * plan[RECORD_BUCKETS]);
+    // The buckets, and behind them the links of the own states and how many cells are in use: none is held yet.
+    wipe_part(
+        w,
+        BUCKETS * (size + 1),
+        BUCKET * plan[RECORD_BUCKETS] + LINK * (size + 1) + FILLED,
+    );
     begin_rows(t, plan[SHELVES]);
     let going = begin();
     rounds(code, w, p, s, t, r, q, &plan, going)

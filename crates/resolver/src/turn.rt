@@ -2,7 +2,6 @@
 // "A turn needs one address in P, then its state in S."
 use enter::enter::SHORT_P;
 use enter::enter::refused;
-use exec::run::Own;
 use lent::copy;
 use lent::put16;
 use levels::level;
@@ -11,6 +10,8 @@ use steps::Level;
 use steps::Run;
 use steps::going::numbers_of;
 use steps::going::run_of;
+use steps::own::StateAt;
+use steps::own::own_state;
 use steps::path::count;
 use steps::path::uncount;
 use steps::plan::PLAN;
@@ -18,7 +19,6 @@ use steps::plan::ROOM_P;
 use steps::plan::ROOM_S;
 use steps::plan::SHELVES;
 use steps::plan::SIZE;
-use steps::plan::run_block;
 use tables::Counts;
 use tables::met::forget;
 ghost use mathlib.Core.Path.{_≡_};
@@ -65,7 +65,7 @@ fn first_level(
     s: &mut [u8],
     plan: &[usize; PLAN],
     start: usize,
-    own: Own,
+    own: StateAt,
 ) -> Level
     requires { ⌜ Places (now w) (now p) (now s) (planIn (now plan)) start own ⌝ }
     ensures { λ l. ⌜ Placed (now (w .entry)) (now (p .entry)) (now (s .entry)) (planIn (now (plan .entry))) start own (now (w .exit)) (now (p .exit)) (now (s .exit)) l ⌝ }
@@ -103,7 +103,7 @@ pub fn turn(
     if plan[ROOM_P] == 0 {
         return refused(going, SHORT_P);
     }
-    let own = run_block(code, w, plan, start);
+    let own = own_state(code, w, plan, start);
     let counts = going.counts;
     if plan[ROOM_S] < counts.kept + own.n {
         return refused(going, SHORT_S);

@@ -10,6 +10,7 @@ pub mod Counting
 pub mod Growing
 pub mod Found
 pub mod Sound
+pub mod Helds
 pub mod Takes
 pub mod Lands
 pub mod Once

@@ -1,4 +1,5 @@
--- The contracts leave no choice: two results of one call are the same; of `take_state`, all but what a run leaves in its part of W. Assumes nothing.
+-- The contracts leave no choice: two results of one call are the same; of `own_state`, all but what a run leaves in its part of W, and of `take_state`, all but
+-- what W holds behind its buckets in use. Assumes nothing.
 use mathlib.Core.Path.{_≡_, refl, sym, ap, _∙_}
 use mathlib.Core.Logic.{_⊎_, inl, inr}
 use mathlib.Core.Bool.{Bool, true, false, _&&_}
@@ -6,16 +7,19 @@ use mathlib.Core.List.{List, [], _∷_}
 use Prim.Native.Nat.{ℕ, _+_, _-_, _*_, _≤_, _<_}
 use native.Mathlib.Omega.{arith}
 use lib.Dec.{ltb}
-use lib.ListN.{length}
-use Rattle.spec.specs.Lists.{mem}
+use lib.ListN.{length, take, drop}
+use Rattle.spec.specs.Lists.{mem, little}
 use Rattle.spec.specs.Stacks.{Stack}
 use Rattle.spec.specs.Search.{Found, kept, dest, S}
 use Rattle.laws.proofs.Branch.{if-false}
+use Rattle.lent.specs.Bytes.{Stored, patch}
+use Rattle.lent.proofs.Numbers.{num-prefix}
+use Rattle.lent.proofs.Patch.{take-patch-past}
+use Rattle.lent.proofs.Stored.{kept-drop, kept-part}
 use Rattle.lent.proofs.Once.{Bytes, Same, Outside, same-num, same-both, same-as, same-then, same-whole, same-outside}
 use Rattle.layout.specs.Fields.{COUNT, HIGHEST, FLAG, markAt, highAt}
-use Rattle.layout.specs.Parts.{ROW, fieldsPlace, listPlace}
+use Rattle.layout.specs.Parts.{ROW, fieldsPlace, listPlace, bucketPlace, linkPlace, filledPlace}
 use Rattle.layout.proofs.Once.{same-to-list}
-use Rattle.exec.specs.Owns.{roomOf}
 use Rattle.state.proofs.Once.{one-symbol, one-lies}
 use Rattle.tables.specs.Addrs.{addrs}
 use Rattle.tables.specs.Tables as tables
@@ -31,10 +35,13 @@ use Rattle.steps.specs.Lands.{remarked, heightened, Noted}
 use Rattle.steps.specs.Meets.{Met}
 use Rattle.steps.specs.Paths.{Grown, Counted}
 use Rattle.steps.specs.States.{Took}
-use Rattle.exec.specs.Owns.{Owned}
+use Rattle.exec.specs.Owns.{runsRoom, Owned}
 use Rattle.exec.specs.declared.run.Own.{Own}
 use Rattle.exec.proofs.Once.{OneRun, one-owned}
 use Rattle.steps.specs.Plans.{Plan, RunsIn}
+use Rattle.steps.specs.Helds.{linkOf, filledOf, cellOf, countOf, HoldAsks, HeldRoom, HeldPut, HoldDone, OwnAsks, RanNow, Gave}
+use Rattle.steps.specs.declared.own.StateAt.{StateAt}
+use Rattle.steps.proofs.Helds.{own-holds}
 use Rattle.steps.specs.declared.Level.{Level}
 use Rattle.steps.specs.declared.meet.Meeting.{Meeting}
 use Rattle.steps.specs.declared.state_of.Taken.{Taken}
@@ -163,10 +170,11 @@ module _ {code w s w′ w″ s′ s″ : List ℕ} {k : Plan} {c : Counts} {l : 
           same-whole (9 * (c .used + x .cells)) (same-as (same-then bottom state (omega arith)) refl (omega arith)) (f .after z ∙ sym (rw (sym took-cells) at (g .after o)))
       go (inr z) = f .refused z ∙ sym (g .refused (λ h. z (took-code ∙ h)))
 
-  pub one-took : roomOf code ≤ k .end → (x ≡ y) × (s′ ≡ s″) × Outside (k .end - roomOf code) (roomOf code) w′ w″
+  -- but for the states that W holds behind its buckets in use, and the part for runs
+  pub one-took : bucketPlace (k .n) (k .buckets) ≤ k .end → (x ≡ y) × (s′ ≡ s″) × Outside (bucketPlace (k .n) (k .buckets)) (k .end - bucketPlace (k .n) (k .buckets)) w′ w″
   one-took room =
       let symbol : x .symbol ≡ y .symbol = one-symbol (f .symbol-is) (g .symbol-is) in
-      let front : Same w′ w″ 0 (k .end - roomOf code) = record { is = f .front ∙ sym (g .front) } in (
+      let front : Same w′ w″ 0 (bucketPlace (k .n) (k .buckets)) = record { is = f .front ∙ sym (g .front) } in (
         (λ i. record { code = took-code i; cells = took-cells i; symbol = symbol i }),
         took-s,
         same-outside (k .end) front (f .back ∙ sym (g .back)) (omega arith) (f .longW ∙ sym (g .longW)),
@@ -177,3 +185,63 @@ module _ {code w s w′ w″ s′ s″ : List ℕ} {k : Plan} {c : Counts} {l : 
 pub one-run-block : {code w v u : List ℕ} {k : Plan} {start : ℕ} {r s : Own} → RunsIn code w k → Owned (k .mode) code start w (k .end) v r
     → Owned (k .mode) code start w (k .end) u s → OneRun code (k .end) v u r s
 one-run-block a p q = one-owned (a .runs) p q
+
+-- ---- the own state of a block
+
+-- the same bytes, stored before what may differ
+outside-stored : {i j n at : ℕ} {l m l′ m′ bs : List ℕ} → Outside i j l m → Stored n l at bs l′ → Stored n m at bs m′ → at + n ≤ i → Outside i j l′ m′
+outside-stored {i} {j} {n} {at} {l} {m} {l′} {m′} {bs} o p q h =
+    record {
+      before = front l (p .is) (p .long) (omega (arith, p .fits, p .long)) ∙ ap (λ (b : List ℕ). patch b at bs) (o .before) ∙ sym (front m (q .is) (q .long) (omega (arith, q .fits, q .long)));
+      after = kept-drop p (i + j) (omega arith) ∙ o .after ∙ sym (kept-drop q (i + j) (omega arith));
+      long = p .kept ∙ o .long ∙ sym (q .kept);
+    }
+  where
+    front : (b : List ℕ) {b′ : List ℕ} → b′ ≡ patch b at bs → length bs ≡ n → at + length bs ≤ length b → take i b′ ≡ patch (take i b) at bs
+    front b e f g = ap (take i) e ∙ take-patch-past b at bs g i (omega arith)
+
+module _ {k : Plan} {w v : List ℕ} {start at cells : ℕ} (a : HoldAsks k w start at cells) (o : Outside (k .end - runsRoom (k .n)) (runsRoom (k .n)) w v) (c : Same w v at (9 * cells)) where
+  filled-same : filledOf k v ≡ filledOf k w
+  filled-same = sym (num-prefix w v (k .end - runsRoom (k .n)) (o .before) 4 (filledPlace (k .n) (k .buckets)) (omega (arith, a .room)))
+
+  both-put : {w′ v′ : List ℕ} → HeldRoom k w cells → HeldPut k w start at cells w′ → HeldPut k v start at cells v′ → Outside (k .end - runsRoom (k .n)) (runsRoom (k .n)) w′ v′
+  both-put room p q =
+      let q₁ : Stored 2 v (cellOf k (filledOf k w)) (little 2 cells) (q .w₁) = rw filled-same at (q .head) in
+      let bytes : take (9 * cells) (drop at (q .w₁)) ≡ take (9 * cells) (drop at (p .w₁)) =
+      kept-part q₁ (9 * cells) at (λ h. absurd (omega (arith, room .1, a .low))) ∙ sym (c .is) ∙ sym (kept-part (p .head) (9 * cells) at (λ h. absurd (omega (arith, room .1, a .low)))) in
+      let q₂ : Stored (9 * cells) (q .w₁) (cellOf k (filledOf k w + 1)) (take (9 * cells) (drop at (p .w₁))) (q .w₂) = rw (filled-same, bytes) at (q .state) in
+      let q₃ : Stored 2 (q .w₂) (linkPlace (k .n) (k .buckets) start) (little 2 (filledOf k w + 1)) (q .w₃) = rw filled-same at (q .link) in
+      let q₄ = rw filled-same at (q .total) in
+      outside-stored (outside-stored (outside-stored (outside-stored o (p .head) q₁ (omega (arith, room .1))) (p .state) q₂ (omega (arith, room .1))) (p .link) q₃ (omega (arith, room .1, a .inside)))
+      (p .total) q₄ (omega (arith, room .1))
+
+  pub one-hold : {w′ v′ : List ℕ} → HoldDone k w start at cells w′ → HoldDone k v start at cells v′ → Outside (k .end - runsRoom (k .n)) (runsRoom (k .n)) w′ v′
+  one-hold {w′} {v′} f g = go (f .is) (g .is)
+    where
+      go : (HeldRoom k w cells × HeldPut k w start at cells w′) ⊎ ((HeldRoom k w cells → ⊥) × (w′ ≡ w)) → (HeldRoom k v cells × HeldPut k v start at cells v′) ⊎ ((HeldRoom k v cells → ⊥) × (v′ ≡ v))
+          → Outside (k .end - runsRoom (k .n)) (runsRoom (k .n)) w′ v′
+      go (inl x) (inl y) = both-put (x .0) (x .1) (y .1)
+      go (inl x) (inr y) = absurd (y .0 (rw filled-same (x .0)))
+      go (inr x) (inl y) = absurd (x .0 (rw filled-same at (y .0)))
+      go (inr x) (inr y) = rw (x .1, y .1) o
+
+pub one-gave : {k : Plan} {code w w′ v′ : List ℕ} {start : ℕ} {x y : StateAt} → OwnAsks k code w start → Gave k code start w w′ x → Gave k code start w v′ y
+    → (x ≡ y) × Outside (k .end - runsRoom (k .n)) (runsRoom (k .n)) w′ v′
+one-gave {k} {code} {w} {w′} {v′} {start} {x} {y} a f g = go (f .is) (g .is)
+  where
+    ran : RanNow k code start w w′ x → RanNow k code start w v′ y → (x ≡ y) × Outside (k .end - runsRoom (k .n)) (runsRoom (k .n)) w′ v′
+    ran r s =
+        let one = one-owned (a .runs .runs) (r .owned) (s .owned) in
+        let same : r .own ≡ s .own = one .result in
+        let held = rw (← same) at (s .held) in
+        (r .is ∙ ap (λ (z : Own). record { at = z .at; n = z .n }) same ∙ sym (s .is), one-hold (own-holds a (r .owned)) (rw (a .is) (one .others)) (one .cells) (r .held) held)
+
+    go : ((linkOf k w start ≡ 0 → ⊥) × (w′ ≡ w) × (x ≡ record { at = cellOf k (linkOf k w start); n = countOf k w (linkOf k w start - 1) }))
+        ⊎ ((linkOf k w start ≡ 0) × RanNow k code start w w′ x)
+        → ((linkOf k w start ≡ 0 → ⊥) × (v′ ≡ w) × (y ≡ record { at = cellOf k (linkOf k w start); n = countOf k w (linkOf k w start - 1) }))
+        ⊎ ((linkOf k w start ≡ 0) × RanNow k code start w v′ y)
+        → (x ≡ y) × Outside (k .end - runsRoom (k .n)) (runsRoom (k .n)) w′ v′
+    go (inl p) (inl q) = (p .2 ∙ sym (q .2), rw (p .1, q .1) (record { before = refl; after = refl; long = refl }))
+    go (inl p) (inr q) = absurd (p .0 (q .0))
+    go (inr p) (inl q) = absurd (q .0 (p .0))
+    go (inr p) (inr q) = ran (p .1) (q .1)

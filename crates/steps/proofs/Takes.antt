@@ -10,6 +10,7 @@ use Rattle.spec.specs.Lists.{if}
 use Rattle.spec.specs.Walk.{instructions}
 use Rattle.spec.specs.Stacks.{Stack, cells, read, Ran, run, compose}
 use Rattle.spec.specs.Search.{S}
+use Rattle.spec.specs.Rooms.{longest}
 use Rattle.laws.proofs.Branch.{if-true, if-false}
 use Rattle.lent.specs.Bytes.{Holds}
 use Rattle.lent.proofs.Stored.{kept-take, kept-drop}
@@ -19,9 +20,7 @@ use Rattle.state.specs.Symbols.{symOf}
 use Rattle.state.specs.Cells.{stackAt, State, reach}
 use Rattle.state.specs.Stored.{Readable}
 use Rattle.state.specs.Composed.{Composes, ComposesKept, Composed}
-use Rattle.exec.specs.Owns.{Inside, Owned}
 use Rattle.state.specs.declared.sym.StackSym.{StackSym}
-use Rattle.exec.specs.declared.run.Own.{Own}
 use Rattle.state.proofs.States.{state-lies, lies-count, own-walked}
 use Rattle.state.proofs.Composing.{cells-compose}
 use Rattle.tables.specs.Recording.{shortOf}
@@ -29,7 +28,10 @@ use Rattle.tables.specs.declared.Rooms.{Rooms}
 use Rattle.tables.specs.declared.Counts.{Counts}
 use Rattle.steps.specs.Cursors.{stackCursor}
 use Rattle.steps.specs.States.{Composing, Took}
-use Rattle.steps.specs.Plans.{Plan, RunsIn}
+use Rattle.steps.specs.Plans.{Plan}
+use Rattle.steps.specs.Helds.{OwnAsks, Gave}
+use Rattle.steps.specs.declared.own.StateAt.{StateAt}
+use Rattle.steps.proofs.Helds.{BehindBuckets, Given, given}
 use Rattle.steps.specs.declared.Level.{Level}
 
 -- ---- the kept cells of the records before one
@@ -96,7 +98,7 @@ module _ {code w s r : List ℕ} {k : Plan} {c : Counts} {l : Level} {at : ℕ} 
             small = omega (arith, ap reach e, q .deep, q .deeper);
           }
 
-      module _ {w′ : List ℕ} (o : Inside code w (k .end) w′) {y : StackSym} (x : symOf y ≡ read (stackAt b from n) (l .position)) where
+      module _ {w′ : List ℕ} (o : BehindBuckets k code w w′) {y : StackSym} (x : symOf y ≡ read (stackAt b from n) (l .position)) where
         took-short : k .rooms .s < c .kept + c .used + m → Took code w s k c l P w′ s (record { code = 5; cells = m; symbol = y })
         unfolding C
         took-short h =
@@ -111,9 +113,10 @@ module _ {code w s r : List ℕ} {k : Plan} {c : Counts} {l : Level} {at : ℕ} 
               after = λ _. refl;
               top = refl;
               longS = refl;
+              helds = o .helds;
               front = o .front;
               back = o .back;
-              longW = o .kept;
+              longW = o .long;
             }
 
         took-all : {s′ : List ℕ} {v : ℕ} → c .kept + c .used + m ≤ k .rooms .s → Composed s (9 * c .used) (compose C (stackAt b from n)) s′ v
@@ -132,18 +135,25 @@ module _ {code w s r : List ℕ} {k : Plan} {c : Counts} {l : Level} {at : ℕ} 
               bottom = kept-take (d .stored) (9 * c .used) (omega arith);
               top = kept-drop (d .stored) (9 * (k .rooms .s - c .kept)) (omega arith);
               longS = d .stored .kept;
+              helds = o .helds;
               front = o .front;
               back = o .back;
-              longW = o .kept;
+              longW = o .long;
             }
 
-  -- ---- a block's own state, which is run into W
+  -- ---- a block's own state, which stands in W
 
   module _ (h : at < 0x10000) {start : ℕ} (a : start ≡ startOf at) where
-    pub direct-runs : RunsIn code w k
-    direct-runs = record { runs = record { short = q .short; inside = q .inW; room = q .scratch }; moded = q .moded }
+    pub direct-asks : OwnAsks k code w start
+    direct-asks = record { runs = q .runs; helds = q .helds; is = q .is; inside = rw a (q .inside h) }
 
-    module _ {w′ : List ℕ} {x : Own} (o : Owned (k .mode) code start w (k .end) w′ x) where
+    module _ {w′ : List ℕ} {x : StateAt} (g : Gave k code start w w′ x) where
+      o : Given k code start w w′ x
+      o = given direct-asks g
+
+      pub direct-few : l .cells + x .n ≤ k .rooms .s + (longest + 17)
+      direct-few = omega (arith, o .few, q .is, q .runs .runs .short, q .low, q .fits)
+
       own-is : P ≡ stackAt w′ (x .at) (x .n)
       unfolding P
       own-is = cursor-own (k .mode) code r s (k .rooms .s) at h ∙ ap (λ (i : ℕ). run (in-mode (k .mode)) code (instructions code) i .stack) (sym a)
@@ -152,26 +162,26 @@ module _ {code w s r : List ℕ} {k : Plan} {c : Counts} {l : Level} {at : ℕ} 
       pub direct-readable : Readable w′ (x .at) (x .n) (l .position)
       direct-readable = readable own-is (o .lies .state)
 
-      module _ {base m : ℕ} (f : base ≡ stackAt s (9 * l .from) (l .cells) .base) (g : m ≡ l .cells + (x .n - (base + 1))) where
+      module _ {base m : ℕ} (f : base ≡ stackAt s (9 * l .from) (l .cells) .base) (d : m ≡ l .cells + (x .n - (base + 1))) where
         pub direct-composes : c .kept + c .used + m ≤ k .rooms .s → Composes s (9 * l .from) (l .cells) (9 * c .used) w′ (x .at) (x .n)
-        direct-composes = composes own-is (o .lies .state) f g
+        direct-composes = composes own-is (o .lies .state) f d
 
         module _ {y : StackSym} (z : symOf y ≡ read (stackAt w′ (x .at) (x .n)) (l .position)) where
           pub direct-short : k .rooms .s < c .kept + c .used + m
               → Took code w s k c l (stackCursor (k .mode) code r s (k .rooms .s) at) w′ s (record { code = 5; cells = m; symbol = y })
           unfolding P
-          direct-short = took-short own-is (o .lies .state) f g (o .inside) z
+          direct-short = took-short own-is (o .lies .state) f d (o .beyond) z
 
           pub direct-took : {s′ : List ℕ} {v : ℕ} → c .kept + c .used + m ≤ k .rooms .s
               → Composed s (9 * c .used) (compose (stackAt s (9 * l .from) (l .cells)) (stackAt w′ (x .at) (x .n))) s′ v
               → Took code w s k c l (stackCursor (k .mode) code r s (k .rooms .s) at) w′ s′ (record { code = 0; cells = v; symbol = y })
           unfolding C P
-          direct-took = took-all own-is (o .lies .state) f g (o .inside) z
+          direct-took = took-all own-is (o .lies .state) f d (o .beyond) z
 
   -- ---- a found parent's, which is kept in S
 
-  same : Inside code w (k .end) w
-  same = record { front = refl; back = refl; kept = refl }
+  same : BehindBuckets k code w w
+  same = record { helds = q .helds; front = refl; back = refl; long = refl }
 
   module _ (h : 0x10000 ≤ at) {kept : ℕ} (a : Holds 4 r (recordPlace (at - 0x10000) + R-KEPT) kept) where
     kept-is : kept ≡ keptOf r (suc (at - 0x10000))

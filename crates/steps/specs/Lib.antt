@@ -4,6 +4,7 @@ pub mod Cursors
 pub mod Paths
 pub mod Sound
 pub mod Runs
+pub mod Helds
 pub mod States
 pub mod Meets
 pub mod Lands

@@ -3,6 +3,7 @@ pub mod cursor;
 pub mod going;
 pub mod land;
 pub mod meet;
+pub mod own;
 pub mod path;
 pub mod plan;
 pub mod state_of;

@@ -1,10 +1,5 @@
 // What is fixed in a search: twelve numbers, each at its place. They are lent down, since a struct would be copied by every function that takes it.
 // "Added by the port: an energy limit of 0 to 500,000, fixed rooms"
-use exec::mode::mode_of;
-use exec::run::Own;
-use exec::run::run;
-ghost use Rattle.exec.specs.Owns.{Owned};
-ghost use Rattle.steps.specs.Plans.{planIn, RunsIn};
 
 // How many numbers they are.
 pub const PLAN: usize = 12;
@@ -35,11 +30,3 @@ pub const ROOM_Q: usize = 10;
 
 // The mode's number.
 pub const MODE: usize = 11;
-
-// Runs the block at `start` in the plan's mode, and stores its state in W's part for runs.
-pub fn run_block(code: &[u8], w: &mut [u8], plan: &[usize; PLAN], start: usize) -> Own
-    requires { ⌜ RunsIn (now code) (now w) (planIn (now plan)) ⌝ }
-    ensures { λ own. ⌜ Owned (planIn (now (plan .entry)) .mode) (now (code .entry)) start (now (w .entry)) (planIn (now (plan .entry)) .end) (now (w .exit)) own ⌝ }
-{
-    run(mode_of(plan[MODE]), code, start, w, plan[END])
-}

@@ -2,9 +2,9 @@
 // "The parent's symbol at the level's position is read, and the new state, the path's state composed with the parent's, is formed (room S)."
 use crate::Level;
 use crate::cursor::FOUND;
+use crate::own::own_state;
 use crate::plan::PLAN;
 use crate::plan::ROOM_S;
-use crate::plan::run_block;
 use layout::record::KEPT;
 use layout::record::RECORD;
 use lent::get32;
@@ -31,7 +31,7 @@ pub struct Taken {
     pub symbol: StackSym,
 }
 
-// Takes the own state of a direct parent, whose block is run into W.
+// Takes the own state of a direct parent, which stands in W.
 fn take_direct(
     code: &[u8],
     w: &mut [u8],
@@ -47,7 +47,7 @@ fn take_direct(
     ensures { λ x. ⌜ Took (now (code .entry)) (now (w .entry)) (now (s .entry)) (planIn (now (plan .entry))) counts level (stackCursor (planIn (now (plan .entry)) .mode) (now (code .entry)) (now (r .entry)) (now (s .entry)) (planIn (now (plan .entry)) .rooms .s) at)
         (now (w .exit)) (now (s .exit)) x ⌝ }
 {
-    let own = run_block(code, w, plan, parent_start(at));
+    let own = own_state(code, w, plan, parent_start(at));
     let symbol = symbol_at(w, own.at, own.n, level.position);
     let cells = composed_len(level.cells, base_at(s, 9 * level.from, level.cells), own.n);
     let room = plan[ROOM_S];

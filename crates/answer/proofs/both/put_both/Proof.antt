@@ -34,13 +34,13 @@ text-fits-requires : tie.Need-text-fits-requires
 text-fits-requires c κs =
     let d = fits-from-text c in
     let h = entered d .pre (d .if1 .left) in
-    (writes-any (h .writes), h .flags)
+    (writes-any (h .writes), h .flags, h .listed)
 
 entries-fit-requires : tie.Need-entries-fit-requires
 entries-fit-requires c κs =
     let d = fits-from-entries c in
     let h = entered d .pre (d .if1 .left) in
-    (writes-any (h .writes), h .flags)
+    (writes-any (h .writes), h .flags, h .listed)
 
 returns-2 : tie.Need-returns-2
 returns-2 c = search both-nine
@@ -52,7 +52,7 @@ write-entries-requires : tie.Need-write-entries-requires
 write-entries-requires c κs =
     let d = fits-from-write c in
     let h = entered d .pre (d .if1 .left) in
-    (h .writes, h .flags)
+    (h .writes, h .flags, h .listed)
 
 returns-4 : tie.Need-returns-4
 returns-4 c = search both-full
@@ -61,7 +61,7 @@ write-text-requires : tie.Need-write-text-requires
 write-text-requires c κs =
     let d = fits (texted c) in
     let h = entered d .pre (d .if1 .left) in
-    (writes-any (h .writes), text-room (texted c .before .units .ensures) (texted c .text-fits .ensures) (roomy c .if2 .left))
+    (writes-any (h .writes), h .listed, text-room (texted c .before .units .ensures) (texted c .text-fits .ensures) (roomy c .if2 .left))
 
 returns-5 : tie.Need-returns-5
 returns-5 c = search both-done

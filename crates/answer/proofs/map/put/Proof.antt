@@ -19,7 +19,7 @@ returns c = put-short _ _ _ _ _ _ (c .before .if1 .taken) (c .refused .ensures)
 write-entries-requires : tie.Need-write-entries-requires
 write-entries-requires c κs =
     let h = entered (left c) .pre (left c .if1 .left) in
-    (h .writes, h .flags)
+    (h .writes, h .flags, h .listed)
 
 returns-2 : tie.Need-returns-2
 returns-2 c = put-done _ _ _ _ _ _ (left (wrote c .before) .if1 .left) (wrote c .write-entries .ensures) (c .counted .ensures)

@@ -14,7 +14,7 @@ returns : tie.Need-returns
 returns c = search fits-surely
 
 size-of-requires : tie.Need-size-of-requires
-size-of-requires c κs = search writes-body
+size-of-requires c κs = (search writes-body, search needs)
 
 returns-2 : tie.Need-returns-2
 returns-2 c = search fits-counted

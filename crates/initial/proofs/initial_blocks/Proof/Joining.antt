@@ -2,22 +2,23 @@
 use mathlib.Core.Path.{_≡_, refl, sym, ap, ap₂, _∙_}
 use mathlib.Core.Bool.{Bool, true, false}
 use mathlib.Core.List.{List, [], _∷_, map}
-use Prim.Native.Nat.{ℕ, _≤_, _<_, min}
+use Prim.Native.Nat.{ℕ, _-_, _≤_, _<_, min}
 use native.Mathlib.Omega.{arith}
 use native.Mathlib.Decide.{decLe}
-use lib.ListN.{length}
+use lib.ListN.{length, take}
 use Rattle.spec.specs.Lists.{if, mem}
 use Rattle.spec.specs.Opcodes.{row}
 use Rattle.spec.specs.Walk.{instructions}
 use Rattle.spec.specs.Blocks.{Kind, terminate, jump, jumpi, dynamic-jump, dynamic-jumpi, Block, with-kind, lands, checked, starts, check-all, blocks}
+use Rattle.lent.proofs.Parts.{drop-more}
 use Rattle.laws.proofs.Branch.{if-false}
 use Rattle.theorems.proofs.Counts.{lawful}
 use Rattle.theorems.proofs.Cutting.{Ordered, then, ordered}
+use Rattle.layout.specs.Parts.{rowsEnd, startsPlace, startPlace}
 use Rattle.initial.specs.Rows.{blocksAt}
 use Rattle.initial.specs.Turn.{clip, clipped}
-use Rattle.initial.specs.Contracts.{Lent, Written, Apart, no-more, one-more, cutting, Initial}
+use Rattle.initial.specs.Contracts.{Lent, Written, Apart, no-more, one-more, cutting, CheckedAll, Initial}
 use Rattle.initial.proofs.Rows.{start-inside}
-use Rattle.initial.proofs.Writing.{beyond-more}
 
 -- a test that nothing past the code passes
 no-start : (n t : ℕ) (b : Bool) → (b ≡ true → t ≤ n) → n < t → b ≡ false
@@ -77,13 +78,16 @@ cut-apart code c =
     let o : Ordered row code 0 (check-all code (cutting code)) = rw (blocks-checked code) (ordered lawful code) in
     rw (c .blocks) (spaced code _ clip (cutting code) o)
 
-pub joined : {code w v u : List ℕ} → Lent code w → Written (length code) (map clipped (cutting code)) w v
-    → Written (length code) (check-all code (blocksAt v (length code))) v u → Initial code w u
-joined {code} {w} {v} {u} l c d =
+pub joined : {code w v u : List ℕ} {many : ℕ} → Lent code w → Written (length code) (map clipped (cutting code)) w v → CheckedAll code v u many → Initial code w u many
+joined {code} {w} {v} {u} {many} l c d =
     let inside : (t : ℕ) → mem t (starts (cutting code)) ≡ true → t ≤ length code =
     λ t e. start-inside v t (length code) (rw (c .blocks, clip-starts (cutting code)) e) in
     record {
-      same = d .blocks ∙ ap (check-all code) (c .blocks) ∙ clip-all code (cutting code) (length code) (omega arith) inside ∙ blocks-checked code;
+      same = d .same ∙ ap (check-all code) (c .blocks) ∙ clip-all code (cutting code) (length code) (omega arith) inside ∙ blocks-checked code;
       laid = d .laid;
-      beyond = beyond-more (c .beyond) (d .beyond);
+      listed = d .listed;
+      few = d .few;
+      between = d .between ∙ ap (λ (x : List ℕ). take (startsPlace (length code) - rowsEnd (length code)) x) (c .beyond .others);
+      past = d .past ∙ drop-more v w (rowsEnd (length code)) (c .beyond .others) (startPlace (length code) many) (omega arith);
+      kept = d .kept ∙ c .beyond .kept;
     }

@@ -29,7 +29,7 @@ returns : tie.Need-returns
 returns c = search (fits-surely, are-bytes)
 
 add-map-requires : tie.Need-add-map-requires
-add-map-requires c κs = search writes-all
+add-map-requires c κs = (search writes-all, search needs)
 
 returns-2 : tie.Need-returns-2
 returns-2 c = search fits-counted

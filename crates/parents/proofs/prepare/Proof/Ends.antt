@@ -26,10 +26,10 @@ use Rattle.initial.proofs.Types.{kind-type}
 use Rattle.initial.proofs.Rows.{here-empty, here-block}
 use Rattle.parents.specs.Links.{turnOf, Parents, no-parent, Takers, no-taker, directTo, fromOf}
 use Rattle.parents.specs.Rows.{turnsOf, firstTo, ownOf, linksOf, nodesHere, nodesFrom, rowFor}
-use Rattle.parents.specs.Contracts.{Lent, Prepared}
+use Rattle.parents.specs.Contracts.{Lent, LentStarts, Prepared}
 use Rattle.parents.proofs.Goals.{Goes, run-goes}
 use Rattle.parents.proofs.Slots.{own, first, links, entry, slot-is, own-tag, own-end, own-type}
-use Rattle.parents.proofs.prepare.Proof.PrepareLoop.{Pass, nodeAt, block-of, nodes-split, nodes-end, good-within}
+use Rattle.parents.proofs.prepare.Proof.PrepareLoop.{Pass, Walk, walk-over, nodeAt, block-of, nodes-split, nodes-end, good-within}
 use Rattle.parents.proofs.Chains.{small-parents, shape, Entered, entered-later, more-takers, more-parents}
 
 -- a part of the row, and the part behind it
@@ -153,5 +153,6 @@ module _ {mode : ℕ} {code w₀ : List ℕ} {end : ℕ} (l : Lent code w₀ end
         beside = p .beside;
       }
 
-pub prepared-all : {mode : ℕ} {code w₀ : List ℕ} {end : ℕ} → Lent code w₀ end → {w : List ℕ} {i many : ℕ} → Pass mode code w₀ end w i many → i ≡ 0 → Prepared mode code w₀ end w many
-prepared-all l p z = prepared-rows l (rw z at p)
+pub prepared-all : {mode : ℕ} {code w₀ : List ℕ} {end blocks : ℕ} → Lent code w₀ end → LentStarts code w₀ end blocks → {w : List ℕ} {i many : ℕ}
+    → Walk mode code w₀ end blocks w i many → i ≡ 0 → Prepared mode code w₀ end w many
+prepared-all l s k z = prepared-rows l (walk-over l s k z)

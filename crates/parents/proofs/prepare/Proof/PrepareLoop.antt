@@ -1,29 +1,30 @@
--- The pass over the rows, from the last to the first: those from an address on are prepared, and the others hold their blocks as they did. Assumes nothing.
-use mathlib.Core.Path.{_≡_, refl, ap, _∙_, subst}
+-- The pass over the rows, from the last to the first: those from an address on are prepared, and the others hold their blocks as they did. The list of
+-- the blocks' starts leads it, past the rows without a block. Assumes nothing.
+use mathlib.Core.Path.{_≡_, refl, sym, ap, _∙_, subst}
 use mathlib.Core.Bool.{true, false}
 use mathlib.Core.Option.{Option, none, some}
 use mathlib.Core.List.{List, [], _∷_, _++_, map-append}
 use Prim.Native.Nat.{ℕ, zero, suc, _+_, _-_, _≤_, _<_}
 use native.Mathlib.Omega.{arith}
 use native.Mathlib.Decide.{ℕ-discrete}
-use native.Mathlib.Nat.{add-zero, sub-self}
+use native.Mathlib.Nat.{add-zero, zero-add, sub-self}
 use lib.Dec.{eqb}
 use lib.ListN.{length, replicate}
 use Rattle.spec.specs.Opcodes.{row, in-mode}
 use Rattle.spec.specs.Lists.{if, little}
 use Rattle.spec.specs.Walk.{instructions}
-use Rattle.spec.specs.Blocks.{Kind, terminate, jump, jumpi, dynamic-jump, dynamic-jumpi, Block, block, blocks}
+use Rattle.spec.specs.Blocks.{Kind, terminate, jump, jumpi, dynamic-jump, dynamic-jumpi, Block, block, blocks, starts}
 use Rattle.spec.specs.Stacks.{Sym, before, constant, jumpdest, other, run}
 use Rattle.spec.specs.Search.{Node, settled, node, nodes, takers}
 use Rattle.spec.specs.Rooms.{longest}
 use Rattle.lent.specs.Bytes.{numAt}
-use Rattle.lent.proofs.Numbers.{num-within}
+use Rattle.lent.proofs.Numbers.{num-within, num-suffix}
 use Rattle.laws.proofs.Branch.{both}
 use Rattle.laws.proofs.Members.{In}
 use Rattle.theorems.proofs.Counts.{lawful}
 use Rattle.theorems.proofs.Cutting.{made, block-afresh}
-use Rattle.layout.specs.Parts.{rowPlace}
-use Rattle.layout.specs.Rows.{END, FIRST, TAKER, typed, tagAt, typeAt}
+use Rattle.layout.specs.Parts.{rowPlace, startPlace}
+use Rattle.layout.specs.Rows.{END, FIRST, TAKER, typed, tagAt, typeAt, startsAt}
 use Rattle.layout.specs.declared.row.BlockType.{BlockType}
 use Rattle.initial.specs.Rows.{typeOf, kindAt, blockAt, rowBlocks, blocksFrom}
 use Rattle.theorems.proofs.Sides.{Within, block-within, node-within}
@@ -31,8 +32,9 @@ use Rattle.initial.proofs.Types.{Good, good}
 use Rattle.initial.proofs.Rows.{here-empty, here-block, by-row, from-one, block-in}
 use Rattle.parents.specs.Rows.{ownBytes, linkBytes, takerIn, edgeTo, firstTo, ownOf, linksOf, nodesHere, nodesFrom}
 use Rattle.parents.specs.Writes.{linkSides, place, manyPast, goesAt}
-use Rattle.parents.specs.Contracts.{Lent, Beside, Sides, Wrote, Settles, Settled, PreparesRow, PreparedRow}
+use Rattle.parents.specs.Contracts.{Lent, LentStarts, Number, Beside, Sides, Wrote, Settles, Settled, PreparesRow, PreparedRow}
 use Rattle.parents.proofs.Slots.{own, first, links, entry, own-type, Rows, rows-ran, rows-as, rows-sides, rows-placed}
+use Rattle.parents.proofs.prepare.Proof.Starts.{Last, last-start, no-start, starts-none, starts-snoc}
 use Rattle.parents.proofs.prepare.Proof.Settling.{none-own, none-links, slot-zero, no-first, no-entry, block-own, block-links, looks, settles}
 
 -- the block that starts at an address, with its own run
@@ -113,7 +115,7 @@ pub record Pass (mode : ℕ) (code w₀ : List ℕ) (end : ℕ) (w : List ℕ) (
   pub beside : Beside code w₀ end w
   pub inside : a ≤ suc (length code)
 
-pub pass-none : {mode : ℕ} {code w : List ℕ} {end : ℕ} → Lent code w end → Pass mode code w end w (length code + 1) 0
+pass-none : {mode : ℕ} {code w : List ℕ} {end : ℕ} → Lent code w end → Pass mode code w end w (length code + 1) 0
 unfolding firstTo takerIn
 pass-none {mode} {code} {w} l =
     let e : length code + 1 ≡ suc (length code) = omega arith in
@@ -309,14 +311,64 @@ module _ {mode : ℕ} {code w₀ : List ℕ} {end : ℕ} (l : Lent code w₀ end
           links-at x h g (yes q) = rw q (turned .rows .links-here)
           links-at x h g (no n) = turned .rows .links-other x g n ∙ p .links-done x (omega arith) g
 
--- ---- as the loop has it: the address before is next
+-- ---- the addresses at which no block starts
 
-module _ {mode : ℕ} {code w₀ : List ℕ} {end : ℕ} (l : Lent code w₀ end) {w : List ℕ} {i many : ℕ} (p : Pass mode code w₀ end w i many) (some-left : i ≡ 0 → ⊥) where
-  back : Pass mode code w₀ end w (suc (i - 1)) many
-  back = let e : i ≡ suc (i - 1) = omega arith in subst (λ (j : ℕ). Pass mode code w₀ end w j many) e p
+module _ {mode : ℕ} {code w₀ : List ℕ} {end : ℕ} (l : Lent code w₀ end) {w : List ℕ} {many : ℕ} where
+  -- a row without a block is prepared as it is
+  pass-empty : {a : ℕ} → Pass mode code w₀ end w (suc a) many → tagAt w₀ a ≡ 0 → Pass mode code w₀ end w a many
+  unfolding linkSides place goesAt if
+  pass-empty {a} p z =
+      let e : tagAt w a ≡ 0 = tag-same l p ∙ z in
+      let s : Settled mode code w end a many w many =
+      record { after = w; ran = record { front = refl; back = refl; kept = refl }; is = rw e; count = rw e; kept = refl } in
+      passed l p s (record { is = rw e; kept = refl })
 
-  pub pass-row : PreparesRow mode code w end (i - 1) many
-  pass-row = record { settles = settles-row l back; sides = λ v r s. settled-sides l back s }
+  pass-down : (b a : ℕ) → Pass mode code w₀ end w a many → b ≤ a → ((x : ℕ) → b ≤ x → x < a → tagAt w₀ x ≡ 0) → Pass mode code w₀ end w b many
+  pass-down b zero p h none-there = let e : zero ≡ b = omega arith in subst (λ (j : ℕ). Pass mode code w₀ end w j many) e p
+  pass-down b (suc a) p h none-there =
+      go (ℕ-discrete (suc a) b) (λ g. pass-down b a (pass-empty p (none-there a g (omega arith))) g (λ x k j. none-there x k (omega arith)))
+    where
+      go : Dec (suc a ≡ b) → (b ≤ a → Pass mode code w₀ end w b many) → Pass mode code w₀ end w b many
+      go (yes e) lower = subst (λ (j : ℕ). Pass mode code w₀ end w j many) e p
+      go (no n) lower = lower (omega arith)
 
-  pub pass-more : {w₂ : List ℕ} {r : ℕ} → PreparedRow mode code w end (i - 1) many w₂ r → Pass mode code w₀ end w₂ (i - 1) r
-  pass-more d = passed l back (d .settled) (d .linked)
+-- ---- as the loop has it: the entries that are left are the starts below the address
+
+pub record Walk (mode : ℕ) (code w₀ : List ℕ) (end blocks : ℕ) (w : List ℕ) (left many : ℕ) : Type 0 where
+  pub at : ℕ
+  pub pass : Pass mode code w₀ end w at many
+  pub ahead : startsAt w₀ (length code) 0 left ≡ starts (blocksFrom w₀ 0 at)
+  pub few : left ≤ blocks
+
+pub walk-none : {mode : ℕ} {code w : List ℕ} {end blocks : ℕ} → Lent code w end → LentStarts code w end blocks → Walk mode code w end blocks w blocks 0
+walk-none {code = code} l s =
+    let e : length code + 1 ≡ suc (length code) = omega arith in
+    record { at = length code + 1; pass = pass-none l; ahead = rw e (s .listed .is); few = omega arith }
+
+module _ {mode : ℕ} {code w₀ : List ℕ} {end blocks : ℕ} (l : Lent code w₀ end) (ls : LentStarts code w₀ end blocks) {w : List ℕ} {i many : ℕ}
+    (k : Walk mode code w₀ end blocks w i many) where
+  module _ (some-left : i ≡ 0 → ⊥) where
+    pub walk-read : startPlace (length code) (i - 1) + 2 ≤ length w
+    walk-read = omega (arith, k .few, ls .lent, k .pass .beside .kept)
+
+    module _ {b : ℕ} (read : Number b (numAt 2 w (startPlace (length code) (i - 1))) 2) where
+      read-is : b ≡ numAt 2 w₀ (startPlace (length code) (i - 1))
+      read-is = read .is ∙ num-suffix w w₀ end (k .pass .beside .past) 2 (startPlace (length code) (i - 1)) (omega (arith, ls .before))
+
+      found : Last w₀ (k .at) (startsAt w₀ (length code) 0 (i - 1)) b
+      found =
+          let e : i ≡ suc (i - 1) = omega arith in
+          last-start w₀ (k .at) (startsAt w₀ (length code) 0 (i - 1)) b
+          (sym (k .ahead) ∙ ap (startsAt w₀ (length code) 0) e ∙ starts-snoc w₀ (length code) 0 (i - 1) ∙ rw (zero-add, read-is))
+
+      back : Pass mode code w₀ end w (suc b) many
+      back = pass-down l (suc b) (k .at) (k .pass) (omega (arith, found .below)) (λ x g h. found .none-past x g h)
+
+      pub walk-row : PreparesRow mode code w end b many
+      walk-row = record { settles = settles-row l back; sides = λ v r s. settled-sides l back s }
+
+      pub walk-more : {w₂ : List ℕ} {r : ℕ} → PreparedRow mode code w end b many w₂ r → Walk mode code w₀ end blocks w₂ (i - 1) r
+      walk-more d = record { at = b; pass = passed l back (d .settled) (d .linked); ahead = sym (found .before); few = omega (arith, k .few) }
+
+  pub walk-over : i ≡ 0 → Pass mode code w₀ end w 0 many
+  walk-over z = pass-down l 0 (k .at) (k .pass) (omega arith) (λ x g h. no-start w₀ (k .at) (sym (k .ahead) ∙ rw z (starts-none w₀ (length code) 0)) x h)

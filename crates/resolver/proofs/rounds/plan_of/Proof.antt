@@ -5,7 +5,7 @@ use Prim.Native.Nat.{ℕ, min}
 use mathlib.Core.List.{[], _∷_}
 use native.Mathlib.Omega.{arith}
 use borrow.Author.Needs.{needs}
-use Rattle.spec.specs.Rooms.{work-need}
+use Rattle.layout.specs.Parts.{startsPlace}
 use Rattle.exec.specs.Modes.{modeOf}
 use Rattle.exec.specs.declared.mode.Mode.{Mode}
 use Rattle.tables.specs.declared.Rooms.{Rooms}
@@ -22,7 +22,7 @@ abbrev to-if1 : tie.After-buckets-of → tie.Joined1
 to-if1 c = search
 
 plan-is : (mode : Mode) (size limit many : ℕ) (rooms : Rooms) {shelves number buckets : ℕ} → shelves ≡ min (rooms .t) 0x10000 → number ≡ modeOf mode → buckets ≡ bucketsFor size (rooms .r)
-    → planIn (size ∷ work-need size ∷ many ∷ buckets ∷ shelves ∷ limit ∷ rooms .p ∷ rooms .s ∷ rooms .t ∷ rooms .r ∷ rooms .q ∷ number ∷ []) ≡ planOf mode size limit many rooms
+    → planIn (size ∷ startsPlace size ∷ many ∷ buckets ∷ shelves ∷ limit ∷ rooms .p ∷ rooms .s ∷ rooms .t ∷ rooms .r ∷ rooms .q ∷ number ∷ []) ≡ planOf mode size limit many rooms
 plan-is mode size limit many rooms e f g = rw (e, f, g)
 
 returns : tie.Need-returns

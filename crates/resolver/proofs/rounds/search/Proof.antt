@@ -52,6 +52,22 @@ mul-wipe-part c = record { fits = omega (arith, to-entry (to-rooms-of c) .pre .s
 mul-wipe-part-2 : tie.Need-mul-wipe-part-2
 mul-wipe-part-2 c = record { fits = omega (arith, search-heads (to-plan-of (to-reach c) .plan-of .ensures) (to-entry (to-rooms-of c) .pre) .1) }
 
+add-wipe-part-2 : tie.Need-add-wipe-part-2
+add-wipe-part-2 c = record { fits = omega (arith, to-entry (to-rooms-of c) .pre .short) }
+
+mul-wipe-part-3 : tie.Need-mul-wipe-part-3
+mul-wipe-part-3 c = record { fits = omega (arith, to-entry (to-rooms-of c) .pre .short) }
+
+add-wipe-part-3 : tie.Need-add-wipe-part-3
+add-wipe-part-3 c =
+    let pre = to-entry (to-rooms-of c) .pre in
+    record { fits = omega (arith, search-heads (to-plan-of (to-reach c) .plan-of .ensures) pre .1, pre .short) }
+
+add-wipe-part-4 : tie.Need-add-wipe-part-4
+add-wipe-part-4 c =
+    let pre = to-entry (to-rooms-of c) .pre in
+    record { fits = omega (arith, search-heads (to-plan-of (to-reach c) .plan-of .ensures) pre .1, pre .short) }
+
 wipe-part-requires : tie.Need-wipe-part-requires
 wipe-part-requires c κs = omega (arith, search-heads (to-plan-of (to-reach c) .plan-of .ensures) (to-entry (to-rooms-of c) .pre) .0, to-reach c .reach .kept .0)
 
@@ -98,6 +114,10 @@ search-spec =
     mul-wipe-part
     (λ c. search needs)
     mul-wipe-part-2
+    add-wipe-part-2
+    mul-wipe-part-3
+    add-wipe-part-3
+    add-wipe-part-4
     wipe-part-requires
     (λ c. search needs)
     begin-rows-requires

@@ -2,7 +2,7 @@
 mod TakerRow
 mod TurnBegins
 mod TurnDone
-use TurnDone.{turn-runs, turn-places, turn-opens, turn-short-p, turn-short-s, leveling, turn-refused, turn-uncounts, turn-forgets, turn-done}
+use TurnDone.{turn-runs, turn-few, turn-places, turn-opens, turn-short-p, turn-short-s, leveling, turn-refused, turn-uncounts, turn-forgets, turn-done}
 use mathlib.Core.Path.{ap, _∙_}
 use native.Mathlib.Omega.{arith}
 use borrow.Author.Needs.{needs}
@@ -13,20 +13,20 @@ use Rattle.resolver.proofs.turn.turn.Tie as tie
 returns : tie.Need-returns
 returns c = search turn-short-p
 
-run-requires : tie.Need-run-block-requires
+run-requires : tie.Need-own-state-requires
 run-requires c κs = search turn-runs
 
 -- The moments that the answers cite, from later ones: a far one is found by its type.
 abbrev to-entry : tie.Else1 → tie.Start
 to-entry c = search
 
-abbrev to-if1 : tie.After-run-block → tie.Else1
+abbrev to-if1 : tie.After-own-state → tie.Else1
 to-if1 c = search
 
-abbrev to-run-from-struct-known2 : tie.After-struct-known2 → tie.After-run-block
+abbrev to-run-from-struct-known2 : tie.After-struct-known2 → tie.After-own-state
 to-run-from-struct-known2 c = search
 
-abbrev to-run : tie.Else2 → tie.After-run-block
+abbrev to-run : tie.Else2 → tie.After-own-state
 to-run c = search
 
 abbrev to-if2 : tie.After-first-level-arg3 → tie.Else2
@@ -59,7 +59,7 @@ to-forget c = search
 add-if2 : tie.Need-add-if2
 add-if2 c =
     let at-run = to-run-from-struct-known2 c in
-    let a = to-entry (to-if1 at-run) .pre in omega (arith, a .idle .tables .within .fitsS, a .idle .tables .within .mostS, at-run .run-block .ensures .high, a .idle .planned .ends)
+    let a = to-entry (to-if1 at-run) .pre in omega (arith, a .idle .tables .within .fitsS, a .idle .tables .within .mostS, turn-few a (at-run .own-state .ensures), a .idle .planned .lentW .short)
 
 returns-2 : tie.Need-returns-2
 returns-2 c = search turn-short-s
@@ -70,7 +70,7 @@ first-level-requires c κs =
     let at-run = to-run at-if2 in
     let at-if1 = to-if1 at-run in
     let at-entry = to-entry at-if1 in
-    turn-places (at-entry .pre) (at-if1 .if1 .left) (at-run .run-block .ensures) (at-if2 .if2 .left)
+    turn-places (at-entry .pre) (at-if1 .if1 .left) (at-run .own-state .ensures) (at-if2 .if2 .left)
 
 level-requires : tie.Need-level-requires
 level-requires c κs =
@@ -81,13 +81,13 @@ level-requires c κs =
     let at-run = to-run at-if2 in
     let at-if1 = to-if1 at-run in
     let at-entry = to-entry at-if1 in
-    turn-opens (at-entry .pre) (at-if1 .if1 .left) (at-run .run-block .ensures) (at-if2 .if2 .left) (at-first-level .first-level .ensures) (ap runIn (at-numbers-of .numbers-of .ensures) ∙ at-begun .begun .ensures)
+    turn-opens (at-entry .pre) (at-if1 .if1 .left) (at-run .own-state .ensures) (at-if2 .if2 .left) (at-first-level .first-level .ensures) (ap runIn (at-numbers-of .numbers-of .ensures) ∙ at-begun .begun .ensures)
 
 same-length-2 : tie.Need-same-length-2
 same-length-2 c =
     let at-level = to-level (to-run-of (c .before)) in
     let at-first-level = to-first-level (to-numbers-of (at-level .before) .before) in
-    at-level .level .kept .1 .0 ∙ at-first-level .first-level .ensures .counted .only .long ∙ to-run (to-if2 (at-first-level .before)) .run-block .ensures .inside .kept
+    at-level .level .kept .1 .0 ∙ at-first-level .first-level .ensures .counted .only .long ∙ to-run (to-if2 (at-first-level .before)) .own-state .kept .1 .0
 
 same-length-3 : tie.Need-same-length-3
 same-length-3 c =
@@ -110,7 +110,7 @@ returns-3 c =
     let at-run = to-run at-if2 in
     let at-if1 = to-if1 at-run in
     turn-refused
-    (leveling (at-if1 .if1 .left) (at-run .run-block .ensures) (at-if2 .if2 .left) (at-first-level .first-level .ensures) (ap runIn (at-numbers-of .numbers-of .ensures) ∙ at-begun .begun .ensures) (at-level .level .ensures) (at-run-of .run-of .ensures)) (c .if3 .taken)
+    (leveling (at-if1 .if1 .left) (at-run .own-state .ensures) (at-if2 .if2 .left) (at-first-level .first-level .ensures) (ap runIn (at-numbers-of .numbers-of .ensures) ∙ at-begun .begun .ensures) (at-level .level .ensures) (at-run-of .run-of .ensures)) (c .if3 .taken)
 
 uncount-requires : tie.Need-uncount-requires
 uncount-requires c κs =
@@ -125,7 +125,7 @@ uncount-requires c κs =
     let at-if1 = to-if1 at-run in
     let at-entry = to-entry at-if1 in
     turn-uncounts
-    (leveling (at-if1 .if1 .left) (at-run .run-block .ensures) (at-if2 .if2 .left) (at-first-level .first-level .ensures) (ap runIn (at-numbers-of .numbers-of .ensures) ∙ at-begun .begun .ensures) (at-level .level .ensures) (at-run-of .run-of .ensures)) (at-entry .pre) (at-if3 .if3 .left)
+    (leveling (at-if1 .if1 .left) (at-run .own-state .ensures) (at-if2 .if2 .left) (at-first-level .first-level .ensures) (ap runIn (at-numbers-of .numbers-of .ensures) ∙ at-begun .begun .ensures) (at-level .level .ensures) (at-run-of .run-of .ensures)) (at-entry .pre) (at-if3 .if3 .left)
 
 forget-requires : tie.Need-forget-requires
 forget-requires c κs =
@@ -140,14 +140,14 @@ forget-requires c κs =
     let at-if1 = to-if1 at-run in
     let at-entry = to-entry at-if1 in
     turn-forgets
-    (leveling (at-if1 .if1 .left) (at-run .run-block .ensures) (at-if2 .if2 .left) (at-first-level .first-level .ensures) (ap runIn (at-numbers-of .numbers-of .ensures) ∙ at-begun .begun .ensures) (at-level .level .ensures) (at-run-of .run-of .ensures)) (at-entry .pre) (at-if3 .if3 .left)
+    (leveling (at-if1 .if1 .left) (at-run .own-state .ensures) (at-if2 .if2 .left) (at-first-level .first-level .ensures) (ap runIn (at-numbers-of .numbers-of .ensures) ∙ at-begun .begun .ensures) (at-level .level .ensures) (at-run-of .run-of .ensures)) (at-entry .pre) (at-if3 .if3 .left)
 
 same-length-8 : tie.Need-same-length-8
 same-length-8 c =
     let at-uncount = to-uncount (to-forget c .before) in
     let at-level = to-level (to-run-of (to-if3 (at-uncount .before) .before)) in
     let at-first-level = to-first-level (to-numbers-of (at-level .before) .before) in
-    at-uncount .uncount .ensures .only .long ∙ at-level .level .kept .1 .0 ∙ at-first-level .first-level .ensures .counted .only .long ∙ to-run (to-if2 (at-first-level .before)) .run-block .ensures .inside .kept
+    at-uncount .uncount .ensures .only .long ∙ at-level .level .kept .1 .0 ∙ at-first-level .first-level .ensures .counted .only .long ∙ to-run (to-if2 (at-first-level .before)) .own-state .kept .1 .0
 
 same-length-9 : tie.Need-same-length-9
 same-length-9 c =
@@ -176,7 +176,7 @@ returns-4 c =
     let at-run = to-run at-if2 in
     let at-if1 = to-if1 at-run in
     turn-done
-    (leveling (at-if1 .if1 .left) (at-run .run-block .ensures) (at-if2 .if2 .left) (at-first-level .first-level .ensures) (ap runIn (at-numbers-of .numbers-of .ensures) ∙ at-begun .begun .ensures) (at-level .level .ensures) (at-run-of .run-of .ensures)) (at-if3 .if3 .left) (at-uncount .uncount .ensures) (at-forget .forget .ensures) (c .ended .ensures)
+    (leveling (at-if1 .if1 .left) (at-run .own-state .ensures) (at-if2 .if2 .left) (at-first-level .first-level .ensures) (ap runIn (at-numbers-of .numbers-of .ensures) ∙ at-begun .begun .ensures) (at-level .level .ensures) (at-run-of .run-of .ensures)) (at-if3 .if3 .left) (at-uncount .uncount .ensures) (at-forget .forget .ensures) (c .ended .ensures)
 
 pub turn-spec : {M : Type 1} → statement M
 turn-spec =

@@ -1,20 +1,28 @@
 -- From the code to its map: what each stage asks, and what they leave together. Assumes nothing.
-use mathlib.Core.Path.{_≡_, refl, sym, _∙_, subst}
+use mathlib.Core.Path.{_≡_, refl, sym, ap, ap₂, _∙_, subst}
 use Prim.Native.Nat.{ℕ}
 use native.Mathlib.Omega.{arith}
-use mathlib.Core.List.{List}
-use lib.ListN.{length}
-use Rattle.spec.specs.Opcodes.{in-mode}
-use Rattle.spec.specs.Search.{Rec}
-use Rattle.spec.specs.Rooms.{Lent, shortage, work-need}
+use mathlib.Core.List.{List, [], _∷_, map}
+use lib.ListN.{length, drop}
+use Rattle.spec.specs.Opcodes.{row, in-mode}
+use Rattle.spec.specs.Walk.{instructions}
+use Rattle.spec.specs.Blocks.{Block, starts, blocks}
+use Rattle.spec.specs.Stacks.{run}
+use Rattle.spec.specs.Search.{Node, node, nodes, Rec}
+use Rattle.spec.specs.Ending.{Final, entries-of, finals}
+use Rattle.spec.specs.Rooms.{Lent, shortage}
 use Rattle.spec.specs.Answer as spec
-use Rattle.spec.specs.Answer.{searched, mapped}
+use Rattle.spec.specs.Answer.{prepared, searched, mapped}
+use Rattle.lent.proofs.Parts.{drop-more}
+use Rattle.layout.specs.Parts.{bucketsPlace, startsPlace}
 use Rattle.layout.specs.Buffers.{Mem, buffers}
 use Rattle.exec.specs.declared.mode.Mode.{Mode}
 use Rattle.exec.specs.Modes.{modeOf}
+use Rattle.initial.specs.Rows.{Listed}
 use Rattle.initial.specs.Contracts.{Initial}
+use Rattle.initial.proofs.Listing.{list-suffix}
 use Rattle.parents.specs.Contracts as parents
-use Rattle.parents.specs.Contracts.{Prepared}
+use Rattle.parents.specs.Contracts.{LentStarts, Prepared}
 use Rattle.parents.proofs.Knows.{known-prefix}
 use Rattle.tables.proofs.Counted.{recs-length}
 use Rattle.steps.specs.Runs.{recsIn}
@@ -25,19 +33,37 @@ use Rattle.graph.specs.Contracts as graph
 use Rattle.graph.specs.Contracts.{Graphs, Graphed}
 use Rattle.graph.proofs.Fitting.{search-fits}
 use Rattle.entries.specs.Contracts.{mapOf}
+use Rattle.entries.proofs.Matching.{ended-is}
 use Rattle.answer.specs.Contracts.{lentOf, Lends, Leaves, Finds}
 
-module _ {limit : ℕ} {code w w₁ : List ℕ} (l : Lends limit code w) (i : Initial code w w₁) where
-  module _ {room : ℕ} (is : room ≡ work-need (length code)) where
-    pub run-lends : parents.Lent code w₁ room
-    run-lends = record { short = l .short; same = i .same; laid = i .laid; room = omega arith; inside = omega (arith, l .lent, i .beyond .kept) }
+-- ---- the blocks start where they were cut, whatever became of them
 
-  module _ {room : ℕ} (is : room ≡ work-need (length code)) (mode : Mode) {w₂ : List ℕ} {many : ℕ} (made : Prepared (modeOf mode) code w₁ room w₂ many) where
-    p : Prepared (modeOf mode) code w₁ (work-need (length code)) w₂ many
+final-start : (mode : ℕ) (code : List ℕ) (recs : List Rec) (bs : List Block)
+    → starts (map (λ (f : Final). f .block) (finals (nodes (in-mode mode) code (instructions code) bs) recs)) ≡ starts bs
+final-start mode code recs [] = refl
+final-start mode code recs (b ∷ bs) =
+    let n : Node = node b (run (in-mode mode) code (instructions code) (b .start)) in
+    ap₂ {C = List ℕ} (λ (x : ℕ) (xs : List ℕ). x ∷ xs) (ended-is (n .block) (entries-of (n .block .start) recs) (n .block .kind) .begins) (final-start mode code recs bs)
+
+final-starts : (mode : ℕ) (code : List ℕ) (recs : List Rec)
+    → starts (map (λ (f : Final). f .block) (finals (prepared (in-mode mode) code) recs)) ≡ starts (blocks row code (instructions code))
+unfolding prepared
+final-starts mode code recs = final-start mode code recs (blocks row code (instructions code))
+
+module _ {limit : ℕ} {code w w₁ : List ℕ} {blocks : ℕ} (l : Lends limit code w) (i : Initial code w w₁ blocks) where
+  module _ {room : ℕ} (is : room ≡ startsPlace (length code)) where
+    pub run-lends : parents.Lent code w₁ room
+    run-lends = record { short = l .short; same = i .same; laid = i .laid; room = omega arith; inside = omega (arith, l .lent, i .kept) }
+
+    pub run-starts : LentStarts code w₁ room blocks
+    run-starts = record { listed = i .listed; before = omega arith; lent = omega (arith, l .lent, i .kept, i .few) }
+
+  module _ {room : ℕ} (is : room ≡ startsPlace (length code)) (mode : Mode) {w₂ : List ℕ} {many : ℕ} (made : Prepared (modeOf mode) code w₁ room w₂ many) where
+    p : Prepared (modeOf mode) code w₁ (startsPlace (length code)) w₂ many
     p = subst (λ (k : ℕ). Prepared (modeOf mode) code w₁ k w₂ many) is made
 
     long-w : length w₂ ≡ length w
-    long-w = p .beside .kept ∙ i .beyond .kept
+    long-w = p .beside .kept ∙ i .kept
 
     pub run-asks : SearchAsks mode code w₂ limit many
     run-asks = record { short = l .short; limited = l .limited; lent = omega (arith, l .lent, long-w); known = p .known }
@@ -80,6 +106,16 @@ module _ {limit : ℕ} {code w w₁ : List ℕ} (l : Lends limit code w) (i : In
             small = omega (arith, s .energy-most z, l .limited);
           }
 
+          run-listed : {w₄ r₄ : List ℕ} {flags : ℕ} → Graphed (length code) (d .counts .records) (m₃ .w) (m₃ .r) (m₃ .q) w₄ r₄ flags → Listed (length code) w₄ blocks
+          run-listed {w₄} g =
+              let end : ℕ = startsPlace (length code) in
+              let stays : drop end w₄ ≡ drop end w₁ = drop-more w₄ (m₃ .w) (bucketsPlace (length code)) (g .beyondW) end (omega arith) ∙ s .beyond z ∙ p .beside .past in
+              let finished = g .finished (modeOf mode) code (m₃ .s) _ run-fits in
+              record {
+                is = list-suffix (length code) w₄ w₁ blocks end stays (omega arith) ∙ i .listed .is ∙ ap starts (i .same) ∙ sym (final-starts (modeOf mode) code found)
+                    ∙ ap starts (sym (finished .blocks));
+              }
+
         pub run-finds : {w₄ r₄ : List ℕ} {flags : ℕ} → (d .code ≡ 0 → Graphed (length code) (d .counts .records) (m₃ .w) (m₃ .r) (m₃ .q) w₄ r₄ flags)
-            → Finds limit (modeOf mode) code (buffers w P S T R Q) w₄ r₄ (m₃ .q) (record { run = d; flags = flags })
-        run-finds g = record { number = code-is; leaves = λ z. run-leaves z (g z); flags = λ z. g z .count }
+            → Finds limit (modeOf mode) code (buffers w P S T R Q) w₄ r₄ (m₃ .q) (record { run = d; flags = flags; blocks = blocks })
+        run-finds g = record { number = code-is; leaves = λ z. run-leaves z (g z); flags = λ z. g z .count; listed = λ z. run-listed z (g z) }

@@ -64,7 +64,7 @@ fits-p k u h = rw (le-leb u (k .p) h)
 pub stays-path : (k : Plan) (np : ℕ) (w p s t r q p′ : List ℕ) (c : Counts) → take (2 * np) p′ ≡ take (2 * np) p
     → Stays k np (buffers w p s t r q) c (buffers w p′ s t r q) c
 stays-path k np w p s t r q p′ c e =
-    record { path = e; bottom = refl; rows = refl; flags = refl; spare = refl; beyond = refl; uses = omega arith; more = omega arith; older = recs-take r q s (k .rooms .s) (c .records) (c .records) (omega arith) }
+    record { path = e; bottom = refl; rows = refl; flags = refl; beyond = refl; uses = omega arith; more = omega arith; older = recs-take r q s (k .rooms .s) (c .records) (c .records) (omega arith) }
 
 module _ {code : List ℕ} {k : Plan} {start : ℕ} {l : Level} {at : ℕ} {w p s t r q : List ℕ} {o : Run} (h : Entering code k start l at (buffers w p s t r q) o) where
   abbrev path : List ℕ

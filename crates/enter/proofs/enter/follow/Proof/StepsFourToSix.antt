@@ -16,11 +16,11 @@ use Rattle.theorems.proofs.Growth.{Later, later}
 use Rattle.theorems.proofs.Carried.{carry-arrive}
 use Rattle.lent.specs.Bytes.{numAt}
 use Rattle.layout.specs.Marks.{NOWHERE}
+use Rattle.layout.specs.Parts.{bucketPlace}
 use Rattle.layout.specs.Records.{toAt, keptOf}
 use Rattle.layout.specs.Buffers.{Mem, buffers}
 use Rattle.state.specs.Symbols.{symOf}
 use Rattle.state.specs.Cells.{stackAt, State, Lies}
-use Rattle.exec.specs.Owns.{roomOf}
 use Rattle.tables.specs.Addrs.{addrs}
 use Rattle.tables.specs.Rows.{metOf, seenMet, sameMet}
 use Rattle.tables.specs.Tables.{mem, Goes, leads, leads-nowhere}
@@ -98,31 +98,34 @@ module _ {code : List ℕ} {k : Plan} {start : ℕ} {l : Level} {at np : ℕ} {w
       let z = h .entering .stands in
       record {
         some = y .some;
-        short = omega (arith, f .planned .is, f .planned .lentW .short);
-        inW = f .planned .ends;
-        scratch = omega (arith, f .planned .scratch);
+        is = f .planned .is;
+        runs = record {
+          runs = record { short = omega (arith, f .planned .is, f .planned .lentW .short); inside = f .planned .ends; room = omega (arith, f .planned .scratch) };
+          moded = f .planned .moded;
+        };
+        helds = f .planned .helds;
         child = z .state;
         low = z .low;
         fits = f .tables .within .fitsS;
         lentS = f .tables .within .lentS;
         mostS = f .tables .within .mostS;
         direct = y .comes;
+        inside = y .near;
         row = λ i. f .tables .rows (at - 0x10000) (y .there i) .inR;
         kept = λ i. omega (arith, kept-grow (f .tables .goes) (o .counts .records) (suc (at - 0x10000)) (y .there i) (omega arith), f .tables .kept);
         parent = λ i. kept-leads (f .tables .few) (y .leads i) (f .tables .goes (at - 0x10000) (y .there i));
         deep = omega (arith, z .sound .deep, z .room, f .planned .mostP);
         deeper = omega (arith, y .sound .deep, more-is, few-more);
         near = omega (arith, z .near, z .room, f .planned .mostP);
-        moded = f .planned .moded;
       }
 
   module _ {w′ s′ : List ℕ} {x : Taken} (a : Took code w s k (o .counts) l (stackCursor (k .mode) code r s (k .rooms .s) at) w′ s′ x) where
     abbrev new : Stack
     new = compose child par
 
-    -- the counts on the path stand before W's part for runs
+    -- the counts on the path stand before W's buckets
     follow-counts : OnPath (k .n) w′ (addrs p 0 (l .np))
-    follow-counts = counts-prefix (h .entering .on-its) (k .end - roomOf code) (omega (arith, h .entering .fits .planned .scratch)) (a .front)
+    follow-counts = counts-prefix (h .entering .on-its) (bucketPlace (k .n) (k .buckets)) (omega arith) (a .front)
 
     module _ (turn : Turn) (since b : ℕ) (f : Fits code k turn since start (buffers w p s t r q) (o .counts)) where
       abbrev F : (search.Level → St → St) → St → St

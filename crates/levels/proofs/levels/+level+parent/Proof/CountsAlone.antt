@@ -4,6 +4,7 @@ use mathlib.Core.List.{List}
 use Prim.Native.Nat.{ℕ, _≤_}
 use native.Mathlib.Omega.{arith}
 use Rattle.spec.specs.Search.{Turn}
+use Rattle.layout.specs.Parts.{listPlace}
 use Rattle.layout.specs.Buffers.{buffers}
 use Rattle.parents.proofs.Knows.{known-prefix}
 use Rattle.tables.specs.Addrs.{addrs}
@@ -13,6 +14,7 @@ use Rattle.steps.specs.Paths.{CountsOnly, Counting, Uncounting, OnPath}
 use Rattle.enter.specs.Fits.{Fits, Stands}
 use Rattle.steps.specs.Plans.{Plan}
 use Rattle.steps.specs.declared.Level.{Level}
+use Rattle.steps.proofs.Helds.{helds-past}
 use Rattle.levels.proofs.WorkKept.{alike-counts, alike-marks}
 
 module _ {code w p s t r q : List ℕ} {k : Plan} {turn : Turn} {since start : ℕ} {c : Counts} (f : Fits code k turn since start (buffers w p s t r q) c) where
@@ -26,6 +28,7 @@ module _ {code w p s t r q : List ℕ} {k : Plan} {turn : Turn} {since start : �
           lentW = record { short = g .lentW .short; room = omega (arith, g .lentW .room, o .long) };
           ends = omega (arith, g .ends, o .long);
           scratch = g .scratch;
+          helds = helds-past (listPlace (k .n)) (omega arith) (o .back) (o .long) (g .helds);
           lentP = g .lentP;
           mostP = g .mostP;
           shelves = g .shelves;

@@ -30,7 +30,7 @@ use Rattle.reachable.specs.Contracts.{Address}
 use Rattle.steps.specs.Runs.{recsIn, stOf, Did}
 use Rattle.steps.specs.Plans.{Plan}
 use Rattle.steps.specs.declared.Run.{Run}
-use Rattle.enter.specs.Fits.{preparedIn, SameSpare}
+use Rattle.enter.specs.Fits.{preparedIn}
 use Rattle.resolver.specs.Turns.{Idle, Passed, TurnAsks, Turned, RoundAsks, Rounded}
 use Rattle.levels.proofs.Sequence.{did-then, did-stops, did-same}
 use Rattle.levels.proofs.SixLengths.{Long, long-same, long-then}
@@ -97,7 +97,6 @@ pub record Went (code : List ℕ) (k : Plan) (reached : List ℕ) (ahead : List 
       → Did (k .rooms) (round (k .limit) (direct (preparedIn k code)) reached (takers (preparedIn k code))) (stOf k m₀ o₀) y b
   pub flags : flagged (m .w) (k .n) ≡ flagged (m₀ .w) (k .n)
   pub rows : SameRows (k .n) (m₀ .w) (m .w)
-  pub spare : SameSpare k (m₀ .w) (m .w)
   pub beyond : drop (k .end) (m .w) ≡ drop (k .end) (m₀ .w)
   pub older : take (o₀ .counts .records) (recsIn k m (o .counts)) ≡ recsIn k m₀ (o₀ .counts)
 
@@ -122,7 +121,6 @@ round-begins {code} {k} {m} {o} a e =
         rest = λ y b d. d;
         flags = refl;
         rows = refl;
-        spare = refl;
         beyond = refl;
         older = take-all (o .counts .records) (recsIn k m (o .counts)) (omega (arith, recs-length (m .r) (m .q) (m .s) (k .rooms .s) (o .counts .records)));
       };
@@ -241,7 +239,7 @@ module _ {code : List ℕ} {k : Plan} {m₀ m : Mem} {o₀ o : Run} {by left : �
         by-is = g .by-is;
         went = λ reached idle.
             let v = w idle in
-            record { idle = v .idle; rest = λ y b d. v .rest y b (skips idle (h reached idle) d); flags = v .flags; rows = v .rows; spare = v .spare; beyond = v .beyond; older = v .older };
+            record { idle = v .idle; rest = λ y b d. v .rest y b (skips idle (h reached idle) d); flags = v .flags; rows = v .rows; beyond = v .beyond; older = v .older };
       }
 
   pub round-skips : {start : ℕ} {b : Bool} → Number start (takerAt (m .w) (left - 1)) 2 → b ≡ markedBy (m .w) (k .n) start by → b ≡ false
@@ -279,7 +277,6 @@ module _ {code : List ℕ} {k : Plan} {m₀ m : Mem} {o₀ o : Run} {by left : �
                 (did-take (k .limit) (direct (preparedIn k code)) reached (this .x) (this .xs) (takes-it idle) (c .did) z r);
             flags = c .flags z ∙ v .flags;
             rows = c .rows z ∙ v .rows;
-            spare = c .spare z ∙ v .spare;
             beyond = c .beyond z ∙ v .beyond;
             older = sym (take-take (o₀ .counts .records) (o .counts .records) (recsIn k m′ (d .counts)) (v .idle .began)) ∙ ap (take (o₀ .counts .records)) (c .older z) ∙ v .older;
           }
@@ -304,7 +301,7 @@ pub round-done : {code : List ℕ} {k : Plan} {m₀ m : Mem} {o₀ o : Run} {by 
 round-done {code} {k} {m₀} {m} {o₀} {o} g z reached idle =
     let v = subst (λ (l : List Taker). Went code k reached l m₀ o₀ m o) (none (g .ahead) (end-takers (g .entries) z)) (g .went reached idle) in
     let all = v .rest 0 (stOf k m o) (did-none (k .limit) (direct (preparedIn k code)) reached) in
-    record { did = rw (v .idle .unrefused) all; idle = λ _. v .idle; flags = λ _. v .flags; rows = λ _. v .rows; spare = λ _. v .spare; beyond = λ _. v .beyond; older = λ _. v .older }
+    record { did = rw (v .idle .unrefused) all; idle = λ _. v .idle; flags = λ _. v .flags; rows = λ _. v .rows; beyond = λ _. v .beyond; older = λ _. v .older }
   where
     none : (ahead : List Taker) → map turnOf ahead ≡ [] → ahead ≡ []
     none [] e = refl

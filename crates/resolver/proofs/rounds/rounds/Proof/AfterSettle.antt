@@ -38,6 +38,7 @@ use Rattle.steps.specs.Runs.{recsIn}
 use Rattle.enter.specs.Fits.{preparedIn}
 use Rattle.resolver.specs.Turns.{Idle, HandsOver, destsFrom, HandedAll}
 use Rattle.steps.specs.Plans.{Plan}
+use Rattle.steps.proofs.Helds.{helds-past}
 use Rattle.steps.specs.declared.Run.{Run}
 use Rattle.resolver.proofs.Destinations.{destAt, dests-more, dests-split}
 
@@ -195,6 +196,7 @@ module _ {code : List ℕ} {k : Plan} {since : ℕ} {w p s t r q : List ℕ} {cu
         lentW = room-but (e .kept) (i .planned .lentW);
         ends = omega (arith, i .planned .ends, e .kept .long);
         scratch = i .planned .scratch;
+        helds = helds-past (bucketsPlace (k .n)) (omega arith) (e .kept .beyond) (e .kept .long) (i .planned .helds);
         lentP = i .planned .lentP;
         mostP = i .planned .mostP;
         shelves = i .planned .shelves;

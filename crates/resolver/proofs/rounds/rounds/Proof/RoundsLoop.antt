@@ -13,12 +13,12 @@ use Rattle.laws.proofs.Branch.{both, if-true, if-false}
 use Rattle.theorems.proofs.Older.{clear}
 use Rattle.theorems.proofs.Carried.{carry-rounds}
 use Rattle.theorems.proofs.Growth.{Later, later}
-use Rattle.lent.proofs.Parts.{drop-more, part-suffix}
-use Rattle.layout.specs.Parts.{bucketsPlace, bucketPlace, SameRows}
+use Rattle.lent.proofs.Parts.{drop-more}
+use Rattle.layout.specs.Parts.{bucketsPlace, SameRows}
 use Rattle.layout.specs.Buffers.{Mem, buffers}
 use Rattle.tables.proofs.Counted.{recs-length}
 use Rattle.steps.specs.Runs.{recsIn, stOf, Did}
-use Rattle.enter.specs.Fits.{preparedIn, spareOf, SameSpare}
+use Rattle.enter.specs.Fits.{preparedIn}
 use Rattle.resolver.specs.Turns.{Idle, Passed, Between, RoundAsks, Rounded, HandsOver, HandedAll, last-since, Rounds}
 use Rattle.steps.specs.Plans.{Plan}
 use Rattle.steps.specs.declared.Run.{Run}
@@ -70,7 +70,6 @@ module _ (limit : ℕ) (ns : List Node) where
 pub record RoundsSoFar (code : List ℕ) (k : Plan) (m₀ : Mem) (o : Run) (m : Mem) (cur : Run) (since left : ℕ) : Type 0 where
   pub between : Between code k since m cur
   pub rows : SameRows (k .n) (m₀ .w) (m .w)
-  pub spare : SameSpare k (m₀ .w) (m .w)
   pub beyond : drop (k .end) (m .w) ≡ drop (k .end) (m₀ .w)
   pub long : Long m₀ m
   pub ends : (number : ℕ) (b : St) → Did (k .rooms) (rounds left (k .limit) (preparedIn k code)) (stOf k m cur) number b
@@ -82,7 +81,6 @@ pub so-far-start : {code : List ℕ} {k : Plan} {m : Mem} {o : Run} → Between 
 so-far-start {k = k} {m = m} {o = o} b = record {
   between = b;
   rows = refl;
-  spare = refl;
   beyond = refl;
   long = long-same;
   ends = λ number b d. d;
@@ -99,7 +97,6 @@ module _ {code : List ℕ} {k : Plan} {m₀ : Mem} {o : Run} {m : Mem} {cur : Ru
     did = rw (g .between .idle .unrefused) (g .ends 0 (stOf k m cur) d);
     between = λ _. rw (g .lasts since stays) (g .between);
     rows = λ _. g .rows;
-    spare = λ _. g .spare;
     beyond = λ _. g .beyond;
   }
 
@@ -179,10 +176,6 @@ module _ {code : List ℕ} {k : Plan} {m₀ : Mem} {o : Run} {w p s t r q : List
       later-rows : d .code ≡ 0 → SameRows (k .n) (m₀ .w) (m′ .w)
       later-rows z = came .rows z ∙ e .kept .rows ∙ g .rows
 
-      later-spare : d .code ≡ 0 → SameSpare k (m₀ .w) (m′ .w)
-      later-spare z =
-          came .spare z ∙ part-suffix w₁ w (bucketsPlace (k .n)) (e .kept .beyond) (spareOf k) (bucketPlace (k .n) (k .buckets)) (omega arith) ∙ g .spare
-
       later-beyond : d .code ≡ 0 → drop (k .end) (m′ .w) ≡ drop (k .end) (m₀ .w)
       later-beyond z =
           came .beyond z ∙ drop-more w₁ w (bucketsPlace (k .n)) (e .kept .beyond) (k .end) (omega (arith, g .between .idle .planned .scratch)) ∙ g .beyond
@@ -194,7 +187,6 @@ module _ {code : List ℕ} {k : Plan} {m₀ : Mem} {o : Run} {w p s t r q : List
             (did-stops (rolled (k .limit) (preparedIn k code) recs) (next (k .limit) (preparedIn k code) (left - 1) (length recs)) (next-later (k .limit) (preparedIn k code) (left - 1) (length recs)) (came .did) nz));
         between = λ z. absurd (nz z);
         rows = λ z. absurd (nz z);
-        spare = λ z. absurd (nz z);
         beyond = λ z. absurd (nz z);
       }
 
@@ -205,7 +197,6 @@ module _ {code : List ℕ} {k : Plan} {m₀ : Mem} {o : Run} {w p s t r q : List
             (λ mid h. goes mid h ∙ if-true _ _ _ (still mid h z no-more)) (came .did));
         between = λ _. rw (g .lasts (cur .counts .records) (λ mid h. goes-last mid h ∙ if-true _ _ _ (still mid h z no-more) ∙ before)) (later-between z);
         rows = λ _. later-rows z;
-        spare = λ _. later-spare z;
         beyond = λ _. later-beyond z;
       }
 
@@ -215,7 +206,6 @@ module _ {code : List ℕ} {k : Plan} {m₀ : Mem} {o : Run} {w p s t r q : List
       so-far-next z more long = record {
         between = later-between z;
         rows = later-rows z;
-        spare = later-spare z;
         beyond = later-beyond z;
         long = long-then (g .long) (long-then settled-long long);
         ends = λ number b rest. g .ends number b (did-same (λ x. rounds (left - 1) (k .limit) (preparedIn k code) (rolled (k .limit) (preparedIn k code) recs x)) (rounds left (k .limit) (preparedIn k code))

@@ -11,17 +11,17 @@ use Rattle.spec.specs.Opcodes.{in-mode}
 use Rattle.spec.specs.Lists.{if, mem}
 use Rattle.spec.specs.Search as search
 use Rattle.spec.specs.Search.{dests, reached-by, begin, St, Room, P, S, T, R, Q}
-use Rattle.spec.specs.Rooms.{Lent, units, shortage, room, work-need}
+use Rattle.spec.specs.Rooms.{Lent, units, shortage, room}
 use Rattle.spec.specs.Answer.{prepared}
 use Rattle.laws.proofs.Branch.{both}
 use Rattle.theorems.proofs.Older.{clear}
 use Rattle.theorems.proofs.Energy.{search-energy}
 use Rattle.lent.specs.Bytes.{Stored, numAt}
-use Rattle.lent.proofs.Parts.{drop-more, part-suffix}
+use Rattle.lent.proofs.Parts.{drop-more}
 use Rattle.lent.proofs.Numbers.{num-zeros}
 use Rattle.lent.proofs.Stored.{stored, kept-take, kept-drop, kept-num, read-num}
 use Rattle.layout.specs.Fields.{FIRST-FOUND, LAST-FOUND, HIGHEST, FLAG, markAt}
-use Rattle.layout.specs.Parts.{rowsEnd, fieldsPlace, bucketsPlace, bucketPlace, SameRows}
+use Rattle.layout.specs.Parts.{rowsEnd, fieldsPlace, bucketsPlace, bucketPlace, linkPlace, filledPlace, startsPlace, SameRows}
 use Rattle.layout.specs.Buffers.{Mem, buffers}
 use Rattle.exec.specs.Modes.{modeOf}
 use Rattle.exec.specs.declared.mode.Mode.{Mode}
@@ -46,9 +46,10 @@ use Rattle.reachable.proofs.Raising.{highest-kept}
 use Rattle.reachable.proofs.Rows.{within-sides, closed-sides, sides-kept, node-edges}
 use Rattle.steps.specs.Paths.{occurs}
 use Rattle.steps.specs.Runs.{recsIn, stOf}
-use Rattle.enter.specs.Fits.{preparedIn, spareOf, SameSpare}
+use Rattle.enter.specs.Fits.{preparedIn}
 use Rattle.resolver.specs.Turns.{Idle, Between, last-since, Reached, Rounds, SearchAsks, Searched, roomsOf, planOf, plan, begunRun, bucketsFor}
 use Rattle.steps.specs.Plans.{Plan}
+use Rattle.steps.specs.Helds.{filledOf, Helds}
 use Rattle.steps.specs.declared.Run.{Run}
 pub use Rattle.enter.proofs.TurnKept.{known-within}
 
@@ -78,12 +79,19 @@ between-marked {k = k} {m = m} {cur = cur} b a h =
     let long = recs-length (m .r) (m .q) (m .s) (k .rooms .s) (cur .counts .records) in
     rw (take-all (cur .counts .records) (recsIn k m (cur .counts)) (omega (arith, long))) at (i .marks .by (cur .counts .records) (i .began) (omega (arith, long)) a h)
 
--- ---- W once the heads of the buckets are wiped
+-- ---- W once the heads of the buckets are wiped, and behind them the links of the own states and how many cells are in use
+
+abbrev headsOf : ℕ → ℕ → ℕ
+headsOf n buckets = 4 * buckets + 2 * (n + 1) + 4
 
 module _ {mode : Mode} {code w w₁ w₂ : List ℕ} {limit many : ℕ} (a : SearchAsks mode code w limit many) (r : Reaches (length code) w w₁)
-    (r′ : List ℕ) (s : Stored (4 * bucketsFor (length code) (units (length r′) 32)) w₁ (bucketsPlace (length code)) (replicate (4 * bucketsFor (length code) (units (length r′) 32)) 0) w₂) where
+    (r′ : List ℕ) (s : Stored (headsOf (length code) (bucketsFor (length code) (units (length r′) 32))) w₁ (bucketsPlace (length code))
+    (replicate (headsOf (length code) (bucketsFor (length code) (units (length r′) 32))) 0) w₂) where
   abbrev n : ℕ
   n = length code
+
+  abbrev buckets : ℕ
+  buckets = bucketsFor n (units (length r′) 32)
 
   begun : Begun n w (wiped n w)
   begun = record { wipes = stored (rowsEnd n) w (rowsEnd n) (replicate (rowsEnd n) 0) (wiped n w) refl (length-replicate (rowsEnd n) 0) (omega (arith, a .lent)) }
@@ -94,19 +102,10 @@ module _ {mode : Mode} {code w w₁ w₂ : List ℕ} {limit many : ℕ} (a : Sea
   begin-rows : SameRows n w w₂
   begin-rows = kept-take s (rowsEnd n) (omega arith) ∙ r .kept .rows ∙ begun-rows begun
 
-  begin-beyond : drop (work-need n) w₂ ≡ drop (work-need n) w
+  begin-beyond : drop (startsPlace n) w₂ ≡ drop (startsPlace n) w
   begin-beyond =
-      kept-drop s (work-need n) (omega arith) ∙ drop-more w₁ (wiped n w) (bucketsPlace n) (r .kept .beyond) (work-need n) (omega arith)
-      ∙ kept-drop (begun .wipes) (work-need n) (omega arith)
-
-  begin-spare : SameSpare (planOf mode n limit many (roomsOf [] [] [] r′ [])) w w₂
-  begin-spare =
-      let used = 4 * bucketsFor n (units (length r′) 32) in
-      let from = bucketsPlace n + used in
-      let long = spareOf (planOf mode n limit many (roomsOf [] [] [] r′ [])) in
-      part-suffix w₂ w₁ from (kept-drop s from (omega arith)) long from (omega arith)
-      ∙ part-suffix w₁ (wiped n w) (bucketsPlace n) (r .kept .beyond) long from (omega arith)
-      ∙ part-suffix (wiped n w) w from (kept-drop (begun .wipes) from (omega arith)) long from (omega arith)
+      kept-drop s (startsPlace n) (omega arith) ∙ drop-more w₁ (wiped n w) (bucketsPlace n) (r .kept .beyond) (startsPlace n) (omega arith)
+      ∙ kept-drop (begun .wipes) (startsPlace n) (omega arith)
 
   -- what is before the heads stays
   stays : (k i : ℕ) → i + k ≤ bucketsPlace n → numAt k w₂ i ≡ numAt k w₁ i
@@ -119,14 +118,18 @@ module _ {mode : Mode} {code w w₁ w₂ : List ℕ} {limit many : ℕ} (a : Sea
       ∙ num-in w₁ (wiped n w) 12 (fieldsPlace n x + FIRST-FOUND) (r .kept .fields x h) k (fieldsPlace n x + o) (omega arith) (omega arith)
       ∙ begun-num begun k (fieldsPlace n x + o) (omega arith) (omega arith)
 
-  no-links : NoLinks n (bucketsFor (length code) (units (length r′) 32)) w₂
+  no-links : NoLinks n buckets w₂
   no-links = record {
     some = omega arith;
     inW = omega (arith, a .lent, begin-long);
     firsts = λ x h. zero-fields 4 x FIRST-FOUND h (omega arith) (omega arith);
     lasts = λ x h. zero-fields 4 x LAST-FOUND h (omega arith) (omega arith);
-    heads = λ h l. read-num s 4 (4 * h) (omega arith) ∙ num-zeros 4 (4 * bucketsFor (length code) (units (length r′) 32)) (4 * h);
+    heads = λ h l. read-num s 4 (4 * h) (omega arith) ∙ num-zeros 4 (headsOf n buckets) (4 * h);
   }
+
+  -- no own state is held
+  zero-behind : (k o i : ℕ) → i ≡ bucketsPlace n + o → o + k ≤ headsOf n buckets → numAt k w₂ i ≡ 0
+  zero-behind k o i e h = ap (numAt k w₂) e ∙ read-num s k o h ∙ num-zeros k (headsOf n buckets) o
 
   same-flagged : flagged w₂ n ≡ flagged w₁ n
   same-flagged = flagged-same w₁ w₂ n (λ x h. stays 1 (fieldsPlace n x + FLAG) (omega arith))
@@ -143,6 +146,14 @@ module _ {mode : Mode} {code w w₁ w₂ : List ℕ} {limit many : ℕ} (a : Sea
     abbrev k : Plan
     k = plan mode code limit many (buffers w p s′ t r′ q)
 
+    begin-helds : Helds k code w₂
+    begin-helds =
+        let filled : filledOf k w₂ ≡ 0 = zero-behind 4 (4 * buckets + 2 * (n + 1)) (filledPlace n buckets) (omega arith) (omega arith) in
+        record {
+          room = omega (arith, filled);
+          each = λ x h ne. absurd (ne (zero-behind 2 (4 * buckets + 2 * x) (linkPlace n buckets x) (omega arith) (omega arith)));
+        }
+
     begin-idle : Idle code k (reached-by (prepared (in-mode (modeOf mode)) code) []) 0 (buffers w₂ p s′ t₁ r′ q) begunRun
     unfolding recsOf occurs
     begin-idle = record {
@@ -152,6 +163,7 @@ module _ {mode : Mode} {code w w₁ w₂ : List ℕ} {limit many : ℕ} (a : Sea
         lentW = record { short = a .short; room = omega (arith, a .lent, begin-long) };
         ends = omega (arith, a .lent, begin-long);
         scratch = omega arith;
+        helds = begin-helds;
         lentP = omega arith;
         mostP = omega arith;
         shelves = λ h. omega arith;
@@ -243,7 +255,6 @@ module _ {mode : Mode} {code w w₁ w₂ : List ℕ} {limit many : ℕ} (a : Sea
         energy-most = λ z. omega (arith, energy z, search-energy limit (prepared (in-mode (modeOf mode)) code));
         between = between;
         rows = λ z. f .rows z ∙ begin-rows;
-        spare = λ z. f .spare z ∙ begin-spare;
         beyond = λ z. f .beyond z ∙ begin-beyond;
         reached = λ z. between-marked (between z);
       }
@@ -251,7 +262,7 @@ module _ {mode : Mode} {code w w₁ w₂ : List ℕ} {limit many : ℕ} (a : Sea
 -- ---- the same, by the values that the functions give
 
 pub search-heads : {mode : Mode} {code w : List ℕ} {limit many : ℕ} {rooms : Rooms} {k : Plan} → k ≡ planOf mode (length code) limit many rooms → SearchAsks mode code w limit many
-    → (bucketPlace (length code) (k .buckets) ≤ length w) × (4 * k .buckets ≤ 1000000)
+    → (bucketPlace (length code) (k .buckets) + 2 * (length code + 1) + 4 ≤ length w) × (4 * k .buckets ≤ 1000000)
 search-heads ek a = let is = ap (λ (x : Plan). x .buckets) ek in (omega (arith, a .lent, is), omega (arith, a .short, is))
 
 pub search-begins : {shelves rows : ℕ} (t : List ℕ) → shelves ≡ min rows 0x10000 → rows ≡ units (length t) 32 → Begins shelves t
@@ -259,7 +270,7 @@ search-begins t es e = record { inT = omega (arith, es, e) }
 
 module _ {mode : Mode} {code w p s t r q : List ℕ} {limit many : ℕ} {rooms : Rooms} {k : Plan} (er : rooms ≡ roomsOf p s t r q) (ek : k ≡ planOf mode (length code) limit many rooms) where
   module _ {w₁ w₂ t₁ : List ℕ} {o : Run} (a : SearchAsks mode code w limit many) (e : Reaches (length code) w w₁)
-      (h : Stored (4 * k .buckets) w₁ (bucketsPlace (length code)) (replicate (4 * k .buckets) 0) w₂) (f : Emptied (k .shelves) t t₁) (eo : o ≡ begunRun) where
+      (h : Stored (headsOf (length code) (k .buckets)) w₁ (bucketsPlace (length code)) (replicate (headsOf (length code) (k .buckets)) 0) w₂) (f : Emptied (k .shelves) t t₁) (eo : o ≡ begunRun) where
     pub search-asks : Between code k 0 (buffers w₂ p s t₁ r q) o
     search-asks =
         let is : k ≡ plan mode code limit many (buffers w p s t r q) = ek ∙ ap (planOf mode (length code) limit many) er in

@@ -12,19 +12,20 @@ use Rattle.spec.specs.Search.{Taker, Rec, Met, kept, St, Turn, turn-of, direct,
 use Rattle.theorems.proofs.Older.{clear}
 use Rattle.lent.proofs.Numbers.{num-prefix}
 use Rattle.lent.proofs.Stored.{kept-drop}
-use Rattle.layout.specs.Parts.{rowPlace, rowsEnd}
+use Rattle.layout.specs.Parts.{rowPlace, rowsEnd, listPlace}
 use Rattle.layout.specs.Rows.{POSITION}
 use Rattle.layout.specs.Buffers.{Mem, buffers}
 use Rattle.state.specs.Cells.{Lies}
-use Rattle.exec.specs.Owns.{Runs, Owned}
-use Rattle.exec.specs.declared.run.Own.{Own}
 use Rattle.state.proofs.States.{lies-copied, lies-count, own-walked}
 use Rattle.tables.specs.Rows.{metOf, usedOf}
 use Rattle.tables.proofs.Counted.{recs-kept-cells}
 use Rattle.tables.proofs.Uses.{tables-kept, recs-stay}
 use Rattle.steps.specs.Runs.{recsIn, stOf}
 use Rattle.steps.specs.Plans.{Plan}
+use Rattle.steps.specs.Helds.{OwnAsks, Gave}
 use Rattle.steps.specs.declared.Level.{Level}
+use Rattle.steps.specs.declared.own.StateAt.{StateAt}
+use Rattle.steps.proofs.Helds.{BehindBuckets, Given, given, helds-past}
 use Rattle.steps.specs.declared.Run.{Run}
 use Rattle.enter.specs.Fits.{Fits, levelOf, Stands, preparedIn}
 use Rattle.resolver.specs.Turns.{Idle, begunWith, Places, Placed}
@@ -48,20 +49,37 @@ module _ {code : List ℕ} {k : Plan} {reached : List ℕ} {since : ℕ} {m : Me
     pub taker-small : start < 2 ^ 16
     taker-small = omega (arith, taking .inside, idle .planned .lentW .short)
 
-    pub run-asks : Runs code (m .w) (k .end)
-    run-asks =
+    pub own-asks : OwnAsks k code (m .w) start
+    own-asks =
         let g = idle .planned in
-        record { short = omega (arith, g .is, g .lentW .short); inside = g .ends; room = omega (arith, g .scratch) }
+        record {
+          runs = record {
+            runs = record { short = omega (arith, g .is, g .lentW .short); inside = g .ends; room = omega (arith, g .scratch) };
+            moded = g .moded;
+          };
+          helds = g .helds;
+          is = g .is;
+          inside = taking .inside;
+        }
 
-    module _ {w₁ : List ℕ} {own : Own} (owned : Owned (k .mode) code start (m .w) (k .end) w₁ own) where
+    module _ {w₁ : List ℕ} {own : StateAt} (gave : Gave k code start (m .w) w₁ own) where
+      gives : Given k code start (m .w) w₁ own
+      gives = given own-asks gave
+
+      pub gave-beyond : BehindBuckets k code (m .w) w₁
+      gave-beyond = gives .beyond
+
+      pub own-few : own .n ≤ k .n + 17
+      own-few = gives .few
+
       own-lies : Lies w₁ (own .at) (own .n) (run (in-mode (k .mode)) code (instructions code) start .stack)
-      own-lies = subst (λ (r : Ran). Lies w₁ (own .at) (own .n) (r .stack)) (own-walked (k .mode) code start (taking .comes)) (owned .lies)
+      own-lies = subst (λ (r : Ran). Lies w₁ (own .at) (own .n) (r .stack)) (own-walked (k .mode) code start (taking .comes)) (gives .lies)
 
       pub own-cells : own .n ≡ cells (x .first)
       own-cells = lies-count own-lies ∙ ap cells (sym (taking .first))
 
       ran : Alike (k .n) (k .buckets) (m .w) w₁
-      ran = alike-run (k .n) (k .buckets) (owned .inside) (idle .planned .scratch)
+      ran = alike-run (k .n) (k .buckets) (m .w) w₁ (gave-beyond .front) (gave-beyond .long)
 
       -- its state and its start have room
       pub place-asks : (k .rooms .p ≡ 0 → ⊥) → o .counts .kept + own .n ≤ k .rooms .s → Places w₁ (m .p) (m .s) k start own
@@ -69,10 +87,10 @@ module _ {code : List ℕ} {k : Plan} {reached : List ℕ} {since : ℕ} {m : Me
           record {
             lent = alike-room ran (idle .planned .lentW);
             inside = taking .inside;
-            counts = counts-run (k .n) (k .buckets) (owned .inside) (idle .planned .scratch) (idle .counts);
+            counts = counts-run (k .n) (k .buckets) (m .w) w₁ (gave-beyond .front) (gave-beyond .long) (idle .counts);
             lentP = omega (arith, idle .planned .lentP, some);
             lentS = omega (arith, room, idle .tables .within .lentS);
-            lentW = omega (arith, owned .high, owned .inside .kept, idle .planned .ends);
+            lentW = gives .lies .state .fits;
           }
 
       module _ {p₁ s₁ w₂ : List ℕ} {l : Level} (room : o .counts .kept + own .n ≤ k .rooms .s) (placed : Placed w₁ (m .p) (m .s) k start own w₂ p₁ s₁ l) where
@@ -110,6 +128,7 @@ module _ {code : List ℕ} {k : Plan} {reached : List ℕ} {since : ℕ} {m : Me
                 lentW = alike-room begun-alike (g .lentW);
                 ends = omega (arith, g .ends, begun-alike .links .long);
                 scratch = g .scratch;
+                helds = helds-past (listPlace (k .n)) (omega arith) (placed .counted .only .back) (placed .counted .only .long) (gave-beyond .helds);
                 lentP = omega (arith, g .lentP, placed .put .kept);
                 mostP = g .mostP;
                 shelves = g .shelves;

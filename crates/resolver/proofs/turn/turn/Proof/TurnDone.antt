@@ -14,11 +14,9 @@ use Rattle.laws.proofs.Members.{In}
 use Rattle.theorems.proofs.Carried.{carry-level}
 use Rattle.theorems.proofs.Growth.{Later, later}
 use Rattle.theorems.proofs.Older.{clear}
-use Rattle.lent.proofs.Parts.{drop-more, part-prefix, part-suffix}
-use Rattle.layout.specs.Parts.{listPlace, bucketPlace, SameRows}
+use Rattle.lent.proofs.Parts.{drop-more}
+use Rattle.layout.specs.Parts.{listPlace, SameRows}
 use Rattle.layout.specs.Buffers.{Mem, buffers}
-use Rattle.exec.specs.Owns.{roomOf, Owned}
-use Rattle.exec.specs.declared.run.Own.{Own}
 use Rattle.tables.specs.Addrs.{addrs}
 use Rattle.tables.specs.Rows.{metOf, Shelves}
 use Rattle.tables.specs.Mets.{Emptied}
@@ -29,10 +27,13 @@ use Rattle.reachable.specs.Marks.{flagged}
 use Rattle.reachable.proofs.Rows.{within-sides, closed-sides, sides-kept}
 use Rattle.steps.specs.Paths.{Counted, Uncounting}
 use Rattle.steps.specs.Runs.{recsIn, stOf, Did}
-use Rattle.steps.specs.Plans.{Plan, RunsIn}
+use Rattle.steps.specs.Plans.{Plan}
+use Rattle.steps.specs.Helds.{OwnAsks, Gave}
+use Rattle.steps.specs.declared.own.StateAt.{StateAt}
+use Rattle.steps.proofs.Helds.{helds-past}
 use Rattle.steps.specs.declared.Level.{Level}
 use Rattle.steps.specs.declared.Run.{Run}
-use Rattle.enter.specs.Fits.{Fits, levelOf, preparedIn, spareOf, SameSpare}
+use Rattle.enter.specs.Fits.{Fits, levelOf, preparedIn}
 use Rattle.levels.specs.Levels.{Came, Opened, Leveled}
 use Rattle.enter.specs.Enters.{refusedWith}
 use Rattle.resolver.specs.Turns.{Idle, Passed, begunWith, endedWith, Places, Placed, TurnAsks, Turned}
@@ -103,15 +104,19 @@ asks-taking {code} {k} a =
     let g = a .idle .planned in
     taking (k .mode) code (g .is) (g .lentW .short) (a .idle .known) (a .takes) (a .is)
 
-pub turn-runs : {code : List ℕ} {k : Plan} {start : ℕ} {m : Mem} {o : Run} → TurnAsks code k start m o → RunsIn code (m .w) k
-turn-runs a = record { runs = begins.run-asks (a .idle) (asks-taking a); moded = a .idle .planned .moded }
+pub turn-runs : {code : List ℕ} {k : Plan} {start : ℕ} {m : Mem} {o : Run} → TurnAsks code k start m o → OwnAsks k code (m .w) start
+turn-runs a = begins.own-asks (a .idle) (asks-taking a)
 
-pub turn-places : {code w w₁ p s t r q : List ℕ} {k : Plan} {start : ℕ} {o : Run} {own : Own} → TurnAsks code k start (buffers w p s t r q) o
-    → (k .rooms .p ≡ 0 → ⊥) → Owned (k .mode) code start w (k .end) w₁ own → o .counts .kept + own .n ≤ k .rooms .s → Places w₁ p s k start own
+pub turn-few : {code w w₁ p s t r q : List ℕ} {k : Plan} {start : ℕ} {o : Run} {own : StateAt} → TurnAsks code k start (buffers w p s t r q) o → Gave k code start w w₁ own
+    → own .n ≤ k .n + 17
+turn-few a gave = begins.own-few (a .idle) (asks-taking a) gave
+
+pub turn-places : {code w w₁ p s t r q : List ℕ} {k : Plan} {start : ℕ} {o : Run} {own : StateAt} → TurnAsks code k start (buffers w p s t r q) o
+    → (k .rooms .p ≡ 0 → ⊥) → Gave k code start w w₁ own → o .counts .kept + own .n ≤ k .rooms .s → Places w₁ p s k start own
 turn-places a some owned room = begins.place-asks (a .idle) (asks-taking a) owned some room
 
-pub turn-opens : {code w w₁ w₂ p p₁ s s₁ t r q : List ℕ} {k : Plan} {start : ℕ} {o b : Run} {own : Own} {l : Level} → TurnAsks code k start (buffers w p s t r q) o
-    → (k .rooms .p ≡ 0 → ⊥) → Owned (k .mode) code start w (k .end) w₁ own → o .counts .kept + own .n ≤ k .rooms .s → Placed w₁ p s k start own w₂ p₁ s₁ l
+pub turn-opens : {code w w₁ w₂ p p₁ s s₁ t r q : List ℕ} {k : Plan} {start : ℕ} {o b : Run} {own : StateAt} {l : Level} → TurnAsks code k start (buffers w p s t r q) o
+    → (k .rooms .p ≡ 0 → ⊥) → Gave k code start w w₁ own → o .counts .kept + own .n ≤ k .rooms .s → Placed w₁ p s k start own w₂ p₁ s₁ l
     → b ≡ begunWith o (own .n) → Opened code k start l (buffers w₂ p₁ s₁ t r q) b
 turn-opens {code} {k = k} {start} a some owned room placed e =
     let x = asks-taking a in
@@ -132,7 +137,7 @@ pub turn-short-p : {code : List ℕ} {k : Plan} {start : ℕ} {m : Mem} {o d : R
 turn-short-p {code} {k} {start} {m} {o} z e reached since idle x takes is =
     rw e (passed-refused (λ n. omega (arith, n)) (short-p (k .limit) (turn-of (direct (preparedIn k code)) reached x) (x .position) z))
 
-pub turn-short-s : {code w w₁ p s t r q : List ℕ} {k : Plan} {start : ℕ} {o d : Run} {own : Own} → (k .rooms .p ≡ 0 → ⊥) → Owned (k .mode) code start w (k .end) w₁ own
+pub turn-short-s : {code w w₁ p s t r q : List ℕ} {k : Plan} {start : ℕ} {o d : Run} {own : StateAt} → (k .rooms .p ≡ 0 → ⊥) → Gave k code start w w₁ own
     → k .rooms .s < o .counts .kept + own .n → d ≡ refusedWith o 5 → Turned code k start (buffers w p s t r q) o (buffers w₁ p s t r q) d
 turn-short-s {code} {k = k} some owned short e reached since idle x takes is =
     let g = idle .planned in
@@ -147,20 +152,20 @@ turn-short-s {code} {k = k} some owned short e reached since idle x takes is =
 -- how it came to that: the run, the first level in place, and what it did
 pub record Leveling (code : List ℕ) (k : Plan) (start : ℕ) (m : Mem) (o : Run) (m′ : Mem) (d : Run) : Type 0 where
   pub w₁ : List ℕ
-  pub own : Own
+  pub own : StateAt
   pub s₁ : List ℕ
   pub p₁ : List ℕ
   pub w₂ : List ℕ
   pub l : Level
   pub some : k .rooms .p ≡ 0 → ⊥
-  pub owned : Owned (k .mode) code start (m .w) (k .end) w₁ own
+  pub owned : Gave k code start (m .w) w₁ own
   pub room : o .counts .kept + own .n ≤ k .rooms .s
   pub placed : Placed w₁ (m .p) (m .s) k start own w₂ p₁ s₁ l
   pub leveled : Leveled code k start (record { np = 1; position = l .position; from = 0; cells = own .n; left = 255 }) (buffers w₂ p₁ s₁ (m .t) (m .r) (m .q))
       (begunWith o (own .n)) m′ d
 
-pub leveling : {code w w₁ w₂ p p₁ s s₁ t r q : List ℕ} {k : Plan} {start : ℕ} {m′ : Mem} {o b c d : Run} {own : Own} {l : Level} → (k .rooms .p ≡ 0 → ⊥)
-    → Owned (k .mode) code start w (k .end) w₁ own → o .counts .kept + own .n ≤ k .rooms .s → Placed w₁ p s k start own w₂ p₁ s₁ l → b ≡ begunWith o (own .n)
+pub leveling : {code w w₁ w₂ p p₁ s s₁ t r q : List ℕ} {k : Plan} {start : ℕ} {m′ : Mem} {o b c d : Run} {own : StateAt} {l : Level} → (k .rooms .p ≡ 0 → ⊥)
+    → Gave k code start w w₁ own → o .counts .kept + own .n ≤ k .rooms .s → Placed w₁ p s k start own w₂ p₁ s₁ l → b ≡ begunWith o (own .n)
     → Leveled code k start l (buffers w₂ p₁ s₁ t r q) b m′ c → d ≡ c → Leveling code k start (buffers w p s t r q) o m′ d
 leveling {w₁ = w₁} {w₂} {p₁ = p₁} {s₁ = s₁} {own = own} {l} some owned room placed e leveled f =
     rw f (record { w₁ = w₁; own = own; s₁ = s₁; p₁ = p₁; w₂ = w₂; l = l; some = some; owned = owned; room = room; placed = placed; leveled = rw (placed .is, e) at leveled })
@@ -229,18 +234,11 @@ module _ {code : List ℕ} {k : Plan} {start : ℕ} {m m′ : Mem} {o d : Run} (
         rows : SameRows (k .n) (m .w) w₄
         rows = off .rows ∙ came .stays z .rows ∙ alike .rows
 
-        spare : SameSpare k (m .w) w₄
-        spare =
-            let from = bucketPlace (k .n) (k .buckets) in
-            part-suffix w₄ (m′ .w) (listPlace (k .n)) (uncounted .only .back) (spareOf k) from (omega arith) ∙ came .stays z .spare
-            ∙ part-suffix (h .w₂) (h .w₁) (listPlace (k .n)) (h .placed .counted .only .back) (spareOf k) from (omega arith)
-            ∙ part-prefix (h .w₁) (m .w) (k .end - roomOf code) (h .owned .inside .front) (spareOf k) from (omega (arith, idle .planned .scratch, idle .planned .is))
-
         beyond : drop (k .end) w₄ ≡ drop (k .end) (m .w)
         beyond =
             let low : listPlace (k .n) ≤ k .end = omega (arith, idle .planned .scratch) in
             drop-more w₄ (m′ .w) (listPlace (k .n)) (uncounted .only .back) (k .end) low ∙ came .stays z .beyond
-            ∙ drop-more (h .w₂) (h .w₁) (listPlace (k .n)) (h .placed .counted .only .back) (k .end) low ∙ h .owned .inside .back
+            ∙ drop-more (h .w₂) (h .w₁) (listPlace (k .n)) (h .placed .counted .only .back) (k .end) low ∙ begins.gave-beyond idle takes-it (h .owned) .back
 
         flags : flagged w₄ (k .n) ≡ flagged (m .w) (k .n)
         flags = off .flags ∙ came .stays z .flags ∙ alike .flags
@@ -263,6 +261,7 @@ module _ {code : List ℕ} {k : Plan} {start : ℕ} {m m′ : Mem} {o d : Run} (
                 lentW = alike-room off (g .lentW);
                 ends = omega (arith, g .ends, off .links .long);
                 scratch = g .scratch;
+                helds = helds-past (listPlace (k .n)) (omega arith) (uncounted .only .back) (uncounted .only .long) (g .helds);
                 lentP = g .lentP;
                 mostP = g .mostP;
                 shelves = g .shelves;
@@ -301,7 +300,7 @@ module _ {code : List ℕ} {k : Plan} {start : ℕ} {m m′ : Mem} {o d : Run} (
         done =
             let end : Did (k .rooms) forget (stOf k m′ d) 0 (stOf k after (endedWith d)) = did-forget refl refl refl refl in
             let did = did-all (did-then (level (k .limit) its 255 (first-level (k .limit) its (x .position))) forget did-level z end) in
-            record { did = rw z did; idle = λ _. idle-again; flags = λ _. flags; rows = λ _. rows; spare = λ _. spare; beyond = λ _. beyond; older = λ _. older }
+            record { did = rw z did; idle = λ _. idle-again; flags = λ _. flags; rows = λ _. rows; beyond = λ _. beyond; older = λ _. older }
 
   -- what it leaves, where its level is refused
   pub turn-refused : (d .code ≡ 0 → ⊥) → Turned code k start m o m′ d

@@ -5,8 +5,8 @@ use mathlib.Core.List.{List}
 use borrow.Author.Needs.{needs}
 use Rattle.exec.specs.Owns.{Owned}
 use Rattle.exec.specs.declared.run.Own.{Own}
-use Rattle.steps.proofs.plan.run_block.Statement.{statement}
-use Rattle.steps.proofs.plan.run_block.Tie as tie
+use Rattle.steps.proofs.own.run_block.Statement.{statement}
+use Rattle.steps.proofs.own.run_block.Tie as tie
 
 owned-in : {x mode start end : ℕ} {code w w′ : List ℕ} {own : Own} → x ≡ mode → Owned x code start w end w′ own → Owned mode code start w end w′ own
 owned-in {x} {mode} {start} {end} {code} {w} {w′} {own} e o = subst (λ (i : ℕ). Owned i code start w end w′ own) e o
