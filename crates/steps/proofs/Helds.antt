@@ -18,7 +18,7 @@ use Rattle.state.proofs.States.{lies-within, lies-copied, lies-apart}
 use Rattle.exec.specs.Owns.{runsRoom, Owned}
 use Rattle.exec.specs.declared.run.Own.{Own}
 use Rattle.steps.specs.Plans.{Plan}
-use Rattle.steps.specs.Helds.{linkOf, filledOf, cellOf, countOf, HeldAt, Helds, HoldAsks, HeldRoom, HeldPut, HoldDone, OwnAsks, RanNow, Gave}
+use Rattle.steps.specs.Helds.{linkOf, filledOf, cellOf, countOf, HeldAt, Helds, HoldAsks, HeldRoom, HeldPut, HoldDone, HeldAsks, HeldIs, OwnAsks, RanNow, Gave}
 use Rattle.steps.specs.declared.own.StateAt.{StateAt}
 
 -- ---- where what lies between the buckets in use and the part for runs stays
@@ -239,23 +239,51 @@ module _ (k : Plan) {w : List ℕ} {links v : ℕ} (is : links ≡ bucketPlace (
           } in
           record { is = inl ((omega (arith, filled-is, few), omega (arith, filled-is, is, room)), put) }
 
-module _ {k : Plan} {code w : List ℕ} {start links v : ℕ} (a : OwnAsks k code w start) (is : links ≡ bucketPlace (k .n) (k .buckets)) (h : Holds 2 w (links + 2 * start) v) where
+module _ (k : Plan) {w : List ℕ} (start : ℕ) {links v : ℕ} (is : links ≡ bucketPlace (k .n) (k .buckets)) (h : Holds 2 w (links + 2 * start) v) where
   link-is : v ≡ linkOf k w start
   link-is = rw is at (h .is)
 
-  module _ (some : v ≡ 0 → ⊥) where
-    pub held-inside : links + 2 * (k .n + 1) + 4 + 9 * (v - 1) + 2 ≤ length w
-    held-inside =
-        let x = a .helds .each start (a .inside) (λ z. some (link-is ∙ z)) in
-        omega (arith, link-is, is, some, x .used, a .helds .room, a .runs .runs .inside)
+  pub held-none : v ≡ 0 → HeldIs k w start (record { at = 0; n = 0 })
+  held-none z = record { is = inl ((sym link-is ∙ z), refl) }
 
-    pub own-held : {n : ℕ} → Holds 2 w (links + 2 * (k .n + 1) + 4 + 9 * (v - 1)) n
-        → Gave k code start w w (record { at = links + 2 * (k .n + 1) + 4 + 9 * (v - 1) + 9; n = n })
-    own-held {n} g =
+  module _ (some : v ≡ 0 → ⊥) where
+    pub held-inside : HeldAsks k w start → links + 2 * (k .n + 1) + 4 + 9 * (v - 1) + 2 ≤ length w
+    held-inside a = omega (arith, link-is, is, some, a .leads (λ z. some (link-is ∙ z)))
+
+    pub held-some : {n : ℕ} → Holds 2 w (links + 2 * (k .n + 1) + 4 + 9 * (v - 1)) n → HeldIs k w start (record { at = links + 2 * (k .n + 1) + 4 + 9 * (v - 1) + 9; n = n })
+    held-some {n} g =
         let at-is : links + 2 * (k .n + 1) + 4 + 9 * (v - 1) + 9 ≡ cellOf k (linkOf k w start) = omega (arith, link-is, is, some) in
         let n-is : n ≡ countOf k w (linkOf k w start - 1) = rw (is, link-is) at (g .is) in
-        record { is = inl ((λ z. some (link-is ∙ z)), refl, (λ i. record { at = at-is i; n = n-is i })) }
+        record { is = inr ((λ z. some (link-is ∙ z)), (λ i. record { at = at-is i; n = n-is i })) }
 
-  pub own-ran : {w₁ w′ : List ℕ} {y : Own} → v ≡ 0 → Owned (k .mode) code start w (k .end) w₁ y → HoldDone k w₁ start (y .at) (y .n) w′
-      → Gave k code start w w′ (record { at = y .at; n = y .n })
-  own-ran {w₁} {y = y} z o g = record { is = inr ((sym link-is ∙ z), record { w₁ = w₁; own = y; owned = o; held = g; is = refl }) }
+-- ---- the own state, held or run
+
+module _ {k : Plan} {code w : List ℕ} {start : ℕ} (a : OwnAsks k code w start) where
+  pub own-leads : HeldAsks k w start
+  own-leads =
+      record {
+        inside = a .inside;
+        room = omega (arith, a .helds .room, a .runs .runs .inside);
+        leads = λ n. omega (arith, a .helds .each start (a .inside) n .used, a .helds .room, a .runs .runs .inside);
+      }
+
+  module _ {x : StateAt} (h : HeldIs k w start x) where
+    pub own-held : (x .n ≡ 0 → ⊥) → Gave k code start w w x
+    own-held some = either (h .is)
+      where
+        either : ((linkOf k w start ≡ 0) × (x ≡ record { at = 0; n = 0 }))
+            ⊎ ((linkOf k w start ≡ 0 → ⊥) × (x ≡ record { at = cellOf k (linkOf k w start); n = countOf k w (linkOf k w start - 1) })) → Gave k code start w w x
+        either (inl y) = absurd (some (ap (λ (z : StateAt). z .n) (y .1)))
+        either (inr y) = record { is = inl (y .0, refl, y .1) }
+
+    -- a state has a cell at least
+    pub own-ran : {w′ : List ℕ} {y : StateAt} → x .n ≡ 0 → RanNow k code start w w′ y → Gave k code start w w′ y
+    own-ran {w′} {y} z r = either (h .is)
+      where
+        either : ((linkOf k w start ≡ 0) × (x ≡ record { at = 0; n = 0 }))
+            ⊎ ((linkOf k w start ≡ 0 → ⊥) × (x ≡ record { at = cellOf k (linkOf k w start); n = countOf k w (linkOf k w start - 1) })) → Gave k code start w w′ y
+        either (inl e) = record { is = inr (e .0, r) }
+        either (inr e) = absurd (omega (arith, a .helds .each start (a .inside) (e .0) .lies .state .some, ap (λ (v : StateAt). v .n) (e .1), z))
+
+  pub ran-now : {w₁ w′ : List ℕ} {y : Own} → Owned (k .mode) code start w (k .end) w₁ y → HoldDone k w₁ start (y .at) (y .n) w′ → RanNow k code start w w′ (record { at = y .at; n = y .n })
+  ran-now {w₁} {y = y} o g = record { w₁ = w₁; own = y; owned = o; held = g; is = refl }

@@ -39,7 +39,7 @@ use Rattle.exec.specs.Owns.{runsRoom, Owned}
 use Rattle.exec.specs.declared.run.Own.{Own}
 use Rattle.exec.proofs.Once.{OneRun, one-owned}
 use Rattle.steps.specs.Plans.{Plan, RunsIn}
-use Rattle.steps.specs.Helds.{linkOf, filledOf, cellOf, countOf, HoldAsks, HeldRoom, HeldPut, HoldDone, OwnAsks, RanNow, Gave}
+use Rattle.steps.specs.Helds.{linkOf, filledOf, cellOf, countOf, HoldAsks, HeldRoom, HeldPut, HoldDone, HeldIs, OwnAsks, RanNow, Gave}
 use Rattle.steps.specs.declared.own.StateAt.{StateAt}
 use Rattle.steps.proofs.Helds.{own-holds}
 use Rattle.steps.specs.declared.Level.{Level}
@@ -225,17 +225,31 @@ module _ {k : Plan} {w v : List ℕ} {start at cells : ℕ} (a : HoldAsks k w st
       go (inr x) (inl y) = absurd (x .0 (rw filled-same at (y .0)))
       go (inr x) (inr y) = rw (x .1, y .1) o
 
+pub one-held-state : {k : Plan} {w : List ℕ} {start : ℕ} {x y : StateAt} → HeldIs k w start x → HeldIs k w start y → x ≡ y
+one-held-state {k} {w} {start} {x} {y} f g = go (f .is) (g .is)
+  where
+    go : ((linkOf k w start ≡ 0) × (x ≡ record { at = 0; n = 0 }))
+        ⊎ ((linkOf k w start ≡ 0 → ⊥) × (x ≡ record { at = cellOf k (linkOf k w start); n = countOf k w (linkOf k w start - 1) }))
+        → ((linkOf k w start ≡ 0) × (y ≡ record { at = 0; n = 0 }))
+        ⊎ ((linkOf k w start ≡ 0 → ⊥) × (y ≡ record { at = cellOf k (linkOf k w start); n = countOf k w (linkOf k w start - 1) }))
+        → x ≡ y
+    go (inl p) (inl q) = p .1 ∙ sym (q .1)
+    go (inl p) (inr q) = absurd (q .0 (p .0))
+    go (inr p) (inl q) = absurd (p .0 (q .0))
+    go (inr p) (inr q) = p .1 ∙ sym (q .1)
+
+pub one-ran : {k : Plan} {code w w′ v′ : List ℕ} {start : ℕ} {x y : StateAt} → OwnAsks k code w start → RanNow k code start w w′ x → RanNow k code start w v′ y
+    → (x ≡ y) × Outside (k .end - runsRoom (k .n)) (runsRoom (k .n)) w′ v′
+one-ran a r s =
+    let one = one-owned (a .runs .runs) (r .owned) (s .owned) in
+    let same : r .own ≡ s .own = one .result in
+    let held = rw (← same) at (s .held) in
+    (r .is ∙ ap (λ (z : Own). record { at = z .at; n = z .n }) same ∙ sym (s .is), one-hold (own-holds a (r .owned)) (rw (a .is) (one .others)) (one .cells) (r .held) held)
+
 pub one-gave : {k : Plan} {code w w′ v′ : List ℕ} {start : ℕ} {x y : StateAt} → OwnAsks k code w start → Gave k code start w w′ x → Gave k code start w v′ y
     → (x ≡ y) × Outside (k .end - runsRoom (k .n)) (runsRoom (k .n)) w′ v′
 one-gave {k} {code} {w} {w′} {v′} {start} {x} {y} a f g = go (f .is) (g .is)
   where
-    ran : RanNow k code start w w′ x → RanNow k code start w v′ y → (x ≡ y) × Outside (k .end - runsRoom (k .n)) (runsRoom (k .n)) w′ v′
-    ran r s =
-        let one = one-owned (a .runs .runs) (r .owned) (s .owned) in
-        let same : r .own ≡ s .own = one .result in
-        let held = rw (← same) at (s .held) in
-        (r .is ∙ ap (λ (z : Own). record { at = z .at; n = z .n }) same ∙ sym (s .is), one-hold (own-holds a (r .owned)) (rw (a .is) (one .others)) (one .cells) (r .held) held)
-
     go : ((linkOf k w start ≡ 0 → ⊥) × (w′ ≡ w) × (x ≡ record { at = cellOf k (linkOf k w start); n = countOf k w (linkOf k w start - 1) }))
         ⊎ ((linkOf k w start ≡ 0) × RanNow k code start w w′ x)
         → ((linkOf k w start ≡ 0 → ⊥) × (v′ ≡ w) × (y ≡ record { at = cellOf k (linkOf k w start); n = countOf k w (linkOf k w start - 1) }))
@@ -244,4 +258,4 @@ one-gave {k} {code} {w} {w′} {v′} {start} {x} {y} a f g = go (f .is) (g .is)
     go (inl p) (inl q) = (p .2 ∙ sym (q .2), rw (p .1, q .1) (record { before = refl; after = refl; long = refl }))
     go (inl p) (inr q) = absurd (p .0 (q .0))
     go (inr p) (inl q) = absurd (q .0 (p .0))
-    go (inr p) (inr q) = ran (p .1) (q .1)
+    go (inr p) (inr q) = one-ran a (p .1) (q .1)

@@ -4,6 +4,7 @@ use Prim.Native.Nat.{ℕ, zero, suc, _+_, _-_, _*_, _≤_, _<_}
 use mathlib.Core.List.{List, [], _∷_}
 use native.Mathlib.Omega.{arith}
 use lib.Dec.{ltb}
+use lib.ListN.{length}
 use borrow.Author.Tests.{lt-ltb, le-ltb, le-leb, lt-leb}
 use Rattle.spec.specs.Opcodes.{in-mode}
 use Rattle.spec.specs.Lists.{if}
@@ -29,9 +30,9 @@ use Rattle.tables.specs.declared.Counts.{Counts}
 use Rattle.steps.specs.Cursors.{stackCursor}
 use Rattle.steps.specs.States.{Composing, Took}
 use Rattle.steps.specs.Plans.{Plan}
-use Rattle.steps.specs.Helds.{OwnAsks, Gave}
+use Rattle.steps.specs.Helds.{HeldAsks, HeldIs, OwnAsks, RanNow, Gave}
 use Rattle.steps.specs.declared.own.StateAt.{StateAt}
-use Rattle.steps.proofs.Helds.{BehindBuckets, Given, given}
+use Rattle.steps.proofs.Helds.{BehindBuckets, Given, given, own-leads, own-held, own-ran}
 use Rattle.steps.specs.declared.Level.{Level}
 
 -- ---- the kept cells of the records before one
@@ -147,9 +148,22 @@ module _ {code w s r : List ℕ} {k : Plan} {c : Counts} {l : Level} {at : ℕ} 
     pub direct-asks : OwnAsks k code w start
     direct-asks = record { runs = q .runs; helds = q .helds; is = q .is; inside = rw a (q .inside h) }
 
+    pub direct-leads : HeldAsks k w start
+    direct-leads = own-leads direct-asks
+
+    module _ {x : StateAt} (o : HeldIs k w start x) {w′ : List ℕ} {y : StateAt} where
+      pub direct-held : (x .n ≡ 0 → ⊥) → w′ ≡ w → y ≡ x → Gave k code start w w′ y
+      direct-held some e f = rw (e, f) (own-held direct-asks o some)
+
+      pub direct-ran : {w₁ : List ℕ} {z : StateAt} → x .n ≡ 0 → RanNow k code start w w₁ z → w′ ≡ w₁ → y ≡ z → Gave k code start w w′ y
+      direct-ran none r e f = rw (e, f) (own-ran direct-asks o none r)
+
     module _ {w′ : List ℕ} {x : StateAt} (g : Gave k code start w w′ x) where
       o : Given k code start w w′ x
       o = given direct-asks g
+
+      pub direct-long : length w′ ≡ length w
+      direct-long = o .beyond .long
 
       pub direct-few : l .cells + x .n ≤ k .rooms .s + (longest + 17)
       direct-few = omega (arith, o .few, q .is, q .runs .runs .short, q .low, q .fits)

@@ -73,6 +73,16 @@ pub record HeldPut (k : Plan) (w : List ℕ) (start at cells : ℕ) (w′ : List
 pub record HoldDone (k : Plan) (w : List ℕ) (start at cells : ℕ) (w′ : List ℕ) : Type 0 where
   pub is : (HeldRoom k w cells × HeldPut k w start at cells w′) ⊎ ((HeldRoom k w cells → ⊥) × (w′ ≡ w))
 
+-- a link that is there leads to a cell of W
+pub record HeldAsks (k : Plan) (w : List ℕ) (start : ℕ) : Type 0 where
+  pub inside : start ≤ k .n
+  pub room : cellOf k 0 ≤ length w
+  pub leads : (linkOf k w start ≡ 0 → ⊥) → cellOf k (linkOf k w start) ≤ length w
+
+pub record HeldIs (k : Plan) (w : List ℕ) (start : ℕ) (x : StateAt) : Type 0 where
+  pub is : ((linkOf k w start ≡ 0) × (x ≡ record { at = 0; n = 0 }))
+      ⊎ ((linkOf k w start ≡ 0 → ⊥) × (x ≡ record { at = cellOf k (linkOf k w start); n = countOf k w (linkOf k w start - 1) }))
+
 pub record OwnAsks (k : Plan) (code w : List ℕ) (start : ℕ) : Type 0 where
   pub runs : RunsIn code w k
   pub helds : Helds k code w

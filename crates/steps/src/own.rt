@@ -24,7 +24,7 @@ ghost use Prim.Native.Nat.{_^_, _<_};
 ghost use Rattle.layout.specs.Parts.{bucketPlace};
 ghost use Rattle.exec.specs.Owns.{Owned};
 ghost use Rattle.steps.specs.Plans.{planIn, RunsIn};
-ghost use Rattle.steps.specs.Helds.{HoldAsks, HoldDone, OwnAsks, Gave};
+ghost use Rattle.steps.specs.Helds.{HoldAsks, HoldDone, HeldAsks, HeldIs, OwnAsks, RanNow, Gave};
 
 // The highest link that its bytes can tell.
 const LAST_LINK: usize = 0xFFFF;
@@ -72,24 +72,44 @@ fn hold(w: &mut [u8], plan: &[usize; PLAN], start: usize, at: usize, cells: usiz
     put32(w, total, filled + 1 + cells);
 }
 
-// The own state of the block at `start`: as it is held, or run now, and then held.
-pub fn own_state(code: &[u8], w: &mut [u8], plan: &[usize; PLAN], start: usize) -> StateAt
-    requires { ⌜ OwnAsks (planIn (now plan)) (now code) (now w) start ⌝ }
-    ensures { λ x. ⌜ Gave (planIn (now (plan .entry))) (now (code .entry)) start (now (w .entry)) (now (w .exit)) x ⌝ }
+// Where the state of the block at `start` is held; of no cells where it is not.
+pub fn held_state(w: &[u8], plan: &[usize; PLAN], start: usize) -> StateAt
+    requires { ⌜ HeldAsks (planIn (now plan)) (now w) start ⌝ }
+    ensures { λ x. ⌜ HeldIs (planIn (now (plan .entry))) (now (w .entry)) start x ⌝ }
 {
     let links = links_at(plan);
     let link = get16(w, links + LINK * start);
-    if link != 0 {
-        let head = links + LINK * (plan[SIZE] + 1) + FILLED + CELL * (link - 1);
-        return StateAt {
-            at: head + CELL,
-            n: get16(w, head),
-        };
+    if link == 0 {
+        return StateAt { at: 0, n: 0 };
     }
+    let head = links + LINK * (plan[SIZE] + 1) + FILLED + CELL * (link - 1);
+    StateAt {
+        at: head + CELL,
+        n: get16(w, head),
+    }
+}
+
+// Runs the block at `start`, and then holds its state.
+pub fn run_state(code: &[u8], w: &mut [u8], plan: &[usize; PLAN], start: usize) -> StateAt
+    requires { ⌜ OwnAsks (planIn (now plan)) (now code) (now w) start ⌝ }
+    ensures { λ x. ⌜ RanNow (planIn (now (plan .entry))) (now (code .entry)) start (now (w .entry)) (now (w .exit)) x ⌝ }
+{
     let own = run_block(code, w, plan, start);
     hold(w, plan, start, own.at, own.n);
     StateAt {
         at: own.at,
         n: own.n,
     }
+}
+
+// The own state of the block at `start`: as it is held, or run now.
+pub fn own_state(code: &[u8], w: &mut [u8], plan: &[usize; PLAN], start: usize) -> StateAt
+    requires { ⌜ OwnAsks (planIn (now plan)) (now code) (now w) start ⌝ }
+    ensures { λ x. ⌜ Gave (planIn (now (plan .entry))) (now (code .entry)) start (now (w .entry)) (now (w .exit)) x ⌝ }
+{
+    let held = held_state(w, plan, start);
+    if held.n == 0 {
+        return run_state(code, w, plan, start);
+    }
+    held
 }

@@ -2,7 +2,8 @@
 // "The parent's symbol at the level's position is read, and the new state, the path's state composed with the parent's, is formed (room S)."
 use crate::Level;
 use crate::cursor::FOUND;
-use crate::own::own_state;
+use crate::own::held_state;
+use crate::own::run_state;
 use crate::plan::PLAN;
 use crate::plan::ROOM_S;
 use layout::record::KEPT;
@@ -47,7 +48,11 @@ fn take_direct(
     ensures { λ x. ⌜ Took (now (code .entry)) (now (w .entry)) (now (s .entry)) (planIn (now (plan .entry))) counts level (stackCursor (planIn (now (plan .entry)) .mode) (now (code .entry)) (now (r .entry)) (now (s .entry)) (planIn (now (plan .entry)) .rooms .s) at)
         (now (w .exit)) (now (s .exit)) x ⌝ }
 {
-    let own = own_state(code, w, plan, parent_start(at));
+    let start = parent_start(at);
+    let mut own = held_state(w, plan, start);
+    if own.n == 0 {
+        own = run_state(code, w, plan, start);
+    }
     let symbol = symbol_at(w, own.at, own.n, level.position);
     let cells = composed_len(level.cells, base_at(s, 9 * level.from, level.cells), own.n);
     let room = plan[ROOM_S];

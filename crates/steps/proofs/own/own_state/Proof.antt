@@ -1,45 +1,34 @@
 -- `own_state`: the state is held, or the block is run. Assumes nothing.
+use Rattle.steps.proofs.Helds.{own-leads, own-held, own-ran}
 use borrow.Author.Needs.{needs}
-use Rattle.steps.proofs.Helds.{held-inside, own-held, own-holds, own-ran}
 use Rattle.steps.proofs.own.own_state.Statement.{statement}
 use Rattle.steps.proofs.own.own_state.Tie as tie
 
-get16-requires-2 : tie.Need-get16-requires-2
-get16-requires-2 c κs =
-    let at-link = c .before .before .before in
-    let at-links = at-link .before .before in
-    held-inside (at-links .before .before .before .pre) (at-links .links-at .ensures) (at-link .get16 .ensures) (c .before .before .if1 .taken)
+-- src/own.rt:110:9
+held-state-requires : tie.Need-held-state-requires
+held-state-requires c κs = search own-leads
 
+-- src/own.rt:112:9
+run-state-requires : tie.Need-run-state-requires
+run-state-requires c κs = search needs
+
+-- src/own.rt:112:9
+same-length : tie.Need-same-length
+same-length c = search needs
+
+-- src/own.rt:112:9
 returns : tie.Need-returns
-returns c = search own-held
+returns c = search own-ran
 
-hold-requires : tie.Need-hold-requires
-hold-requires c κs = search own-holds
+-- src/own.rt:106:1
+same-length-2 : tie.Need-same-length-2
+same-length-2 c = search needs
 
+-- src/own.rt:106:1
 returns-2 : tie.Need-returns-2
-returns-2 c = search own-ran
+returns-2 c = search own-held
 
 pub own-state-spec : {M : Type 1} → statement M
 own-state-spec =
     tie.close
-    (tie.spec
-    (λ c κs. search needs)
-    (λ c. search needs)
-    (λ c. search needs)
-    (λ c κs. search needs)
-    (λ c. search needs)
-    (λ c. search needs)
-    (λ c. search needs)
-    (λ c. search needs)
-    (λ c. search needs)
-    (λ c. search needs)
-    (λ c. search needs)
-    (λ c. search needs)
-    (λ c. search needs)
-    get16-requires-2
-    (λ c. search needs)
-    returns
-    (λ c κs. search needs)
-    hold-requires
-    (λ c. search needs)
-    returns-2)
+    (tie.spec held-state-requires run-state-requires same-length returns same-length-2 returns-2)
