@@ -30,11 +30,12 @@ use Rattle.initial.specs.Rows.{typeOf, kindAt, blockAt, rowBlocks, blocksFrom}
 use Rattle.theorems.proofs.Sides.{Within, block-within, node-within}
 use Rattle.initial.proofs.Types.{Good, good}
 use Rattle.initial.proofs.Rows.{here-empty, here-block, by-row, from-one, block-in}
+use Rattle.initial.proofs.Listing.{list-more}
 use Rattle.parents.specs.Rows.{ownBytes, linkBytes, takerIn, edgeTo, firstTo, ownOf, linksOf, nodesHere, nodesFrom}
 use Rattle.parents.specs.Writes.{linkSides, place, manyPast, goesAt}
 use Rattle.parents.specs.Contracts.{Lent, LentStarts, Number, Beside, Sides, Wrote, Settles, Settled, PreparesRow, PreparedRow}
 use Rattle.parents.proofs.Slots.{own, first, links, entry, own-type, Rows, rows-ran, rows-as, rows-sides, rows-placed}
-use Rattle.parents.proofs.prepare.Proof.Starts.{Last, last-start, no-start, starts-none, starts-snoc}
+use Rattle.parents.proofs.prepare.Proof.Starts.{Last, last-start, no-start, starts-none}
 use Rattle.parents.proofs.prepare.Proof.Settling.{none-own, none-links, slot-zero, no-first, no-entry, block-own, block-links, looks, settles}
 
 -- the block that starts at an address, with its own run
@@ -359,7 +360,7 @@ module _ {mode : ℕ} {code w₀ : List ℕ} {end blocks : ℕ} (l : Lent code w
       found =
           let e : i ≡ suc (i - 1) = omega arith in
           last-start w₀ (k .at) (startsAt w₀ (length code) 0 (i - 1)) b
-          (sym (k .ahead) ∙ ap (startsAt w₀ (length code) 0) e ∙ starts-snoc w₀ (length code) 0 (i - 1) ∙ rw (zero-add, read-is))
+          (sym (k .ahead) ∙ ap (startsAt w₀ (length code) 0) e ∙ list-more (length code) w₀ 0 (i - 1) ∙ rw (zero-add, read-is))
 
       back : Pass mode code w₀ end w (suc b) many
       back = pass-down l (suc b) (k .at) (k .pass) (omega (arith, found .below)) (λ x g h. found .none-past x g h)

@@ -2,12 +2,10 @@
 use mathlib.Core.Path.{_≡_, refl, sym, ap, _∙_}
 use mathlib.Core.List.{List, [], _∷_, _++_, append-nil, map-append, nil≢cons, head-eq-of-cons-eq, tail-eq-of-cons-eq}
 use Prim.Native.Nat.{ℕ, zero, suc, _+_, _<_}
-use native.Mathlib.Nat.{add-zero, zero-add}
+use native.Mathlib.Nat.{zero-add}
 use native.Mathlib.Omega.{arith}
 use native.Mathlib.Decide.{ℕ-discrete}
 use Rattle.spec.specs.Blocks.{Block, starts}
-use Rattle.lent.specs.Bytes.{numAt}
-use Rattle.layout.specs.Parts.{startPlace}
 use Rattle.layout.specs.Rows.{tagAt, startsAt}
 use Rattle.initial.specs.Rows.{rowBlocks, blocksFrom}
 use Rattle.initial.proofs.Rows.{from-split, here-empty, here-block}
@@ -33,13 +31,6 @@ module _ (w : List ℕ) (n : ℕ) where
   pub starts-none : (i : ℕ) → startsAt w n i 0 ≡ []
   unfolding startsAt
   starts-none i = refl
-
-  pub starts-snoc : (i m : ℕ) → startsAt w n i (suc m) ≡ startsAt w n i m ++ numAt 2 w (startPlace n (i + m)) ∷ []
-  unfolding startsAt
-  starts-snoc i zero = rw add-zero
-  starts-snoc i (suc m) =
-      let e : suc i + m ≡ i + suc m = omega arith in
-      ap (λ (l : List ℕ). numAt 2 w (startPlace n i) ∷ l) (rw e at (starts-snoc (suc i) m))
 
 -- ---- the blocks that start below an address
 
