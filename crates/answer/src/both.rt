@@ -12,7 +12,7 @@ use json_text::{text_fits, write_text};
 use lent::units;
 
 // The number of a refusal and twice 0, or 0 and the bytes written, of entries and of text.
-#[derive(Drop)]
+#[derive(Clone, Copy)]
 pub struct Both {
     pub number: usize,
     pub written: usize,

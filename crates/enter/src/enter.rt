@@ -28,7 +28,7 @@ use tables::{Counts, Entry};
 pub const SHORT_P: usize = 4;
 
 // Whether a level opens, and the level.
-#[derive(Drop)]
+#[derive(Clone, Copy)]
 pub struct Deeper {
     pub opens: bool,
     pub level: Level,

@@ -7,7 +7,7 @@ ghost use Rattle.entries.specs.Families.{family_of};
 use layout::{MISSING, MISSING_WIDE, NARROW};
 
 // The kinds of a block's entry, of a record without its number and of one with it; and the number of a missing destination.
-#[derive(Drop)]
+#[derive(Clone, Copy)]
 pub struct Family {
     pub way: usize,
     pub plain: usize,

@@ -4,7 +4,7 @@ ghost use Rattle.spec.specs.Opcodes.{row};
 ghost use Rattle.evm.specs.Rows.{RowIs, SizeIs, ArgumentIs, WordsAre, each};
 
 // An instruction's bytes of code, the words that it takes and gives, and whether its byte is known.
-#[derive(Drop)]
+#[derive(Clone, Copy)]
 pub struct Row {
     pub size: u8,
     pub taken: u8,

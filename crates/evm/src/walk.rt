@@ -8,7 +8,7 @@ ghost use Rattle.evm.specs.Step.{next_at, step_at};
 use crate::rows::size_of;
 
 // A whole instruction, with the place of the next one; or none: the code ends, or ends before the instruction does.
-#[derive(Drop)]
+#[derive(Clone, Copy)]
 pub enum Step {
     Whole { pc: usize, op: u8, next: usize },
     End,

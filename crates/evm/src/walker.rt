@@ -6,7 +6,7 @@ ghost use Rattle.evm.specs.Walker.{walker_at};
 
 use crate::walk::{Step, next_at, step_at};
 
-#[derive(Drop)]
+#[derive(Clone, Copy)]
 pub struct Walker<'a> {
     pub code: &'a [u8],
     pub at: usize,

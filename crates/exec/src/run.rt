@@ -16,21 +16,21 @@ use state::cell::{get_cell, put_cell};
 use state::sym::StackSym;
 
 // The symbol that the run's jump takes, if it ends with one.
-#[derive(Drop)]
+#[derive(Clone, Copy)]
 pub enum Goes {
     To(StackSym),
     Nowhere,
 }
 
 // Where a run ended: the stack in hand, and where it goes.
-#[derive(Drop)]
+#[derive(Clone, Copy)]
 struct End {
     top: Top,
     goes: Goes,
 }
 
 // A block's own state, in n cells from `at` on, and where it goes.
-#[derive(Drop)]
+#[derive(Clone, Copy)]
 pub struct Own {
     pub at: usize,
     pub n: usize,

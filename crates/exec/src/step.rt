@@ -21,7 +21,7 @@ use evm::walk::argument_at;
 use state::sym::StackSym;
 
 // What an instruction leaves: the run goes on, ends, or jumps to where a symbol says.
-#[derive(Drop)]
+#[derive(Clone, Copy)]
 pub enum Stepped {
     On(Top),
     Ends(Top),

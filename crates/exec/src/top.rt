@@ -9,7 +9,7 @@ ghost use Rattle.exec.specs.Working.{stack_of, popped, Free, Near, Reads, Pops, 
 use state::cell::{get_cell, put_cell};
 use state::sym::StackSym;
 
-#[derive(Drop)]
+#[derive(Clone, Copy)]
 pub struct Top {
     pub at: usize,
     pub n: usize,

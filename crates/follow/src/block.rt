@@ -7,7 +7,7 @@ ghost use Rattle.follow.specs.Blocks.{seen_of, next_block};
 use reader::{Entry, Walk, next};
 
 // Where a block's destinations stand: so many static sides, the first of them and the second, then the 7s from an offset on.
-#[derive(Drop)]
+#[derive(Clone, Copy)]
 pub struct Named {
     pub many: usize,
     pub first: usize,
@@ -16,7 +16,7 @@ pub struct Named {
 }
 
 // A block: from its start to its end, its destinations, and the offset of its own entry.
-#[derive(Drop)]
+#[derive(Clone, Copy)]
 pub struct Block {
     pub start: usize,
     pub end: usize,
@@ -25,13 +25,13 @@ pub struct Block {
 }
 
 // What an entry is to the follower: a block by its start, its end, how many static sides, the first and the second; or another entry.
-#[derive(Drop)]
+#[derive(Clone, Copy)]
 pub enum Seen {
     Block(usize, usize, usize, usize, usize),
     Other,
 }
 
-#[derive(Drop)]
+#[derive(Clone, Copy)]
 pub enum Next {
     Block(Block),
     Over,

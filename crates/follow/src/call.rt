@@ -18,7 +18,7 @@ const UNEVEN: usize = 14;
 const SHORT: usize = 15;
 
 // 0 and the place, or the number of the refusal; with 12 the offset of the first bad entry.
-#[derive(Drop)]
+#[derive(Clone, Copy)]
 pub struct Followed {
     pub number: usize,
     pub value: usize,

@@ -7,7 +7,7 @@ use crate::block::Named;
 use reader::{Destination, Entry, Walk, next};
 
 // An entry as a 7 of the block: with its destination, with none, or no 7.
-#[derive(Drop)]
+#[derive(Clone, Copy)]
 pub enum Out {
     To(usize),
     Missing,
@@ -15,14 +15,14 @@ pub enum Out {
 }
 
 // The next destination of the 7s, and the offset behind it.
-#[derive(Drop)]
+#[derive(Clone, Copy)]
 pub enum Seven {
     To { to: usize, behind: usize },
     Over,
 }
 
 // The next destination, and the others behind it.
-#[derive(Drop)]
+#[derive(Clone, Copy)]
 pub enum Dest {
     To { to: usize, rest: Named },
     Over,

@@ -13,7 +13,7 @@ use crate::place::{Place, fresh, seek};
 use lent::{get64, put64};
 
 // Where the 16 entries of an edge begin; or there is no room for so many.
-#[derive(Drop)]
+#[derive(Clone, Copy)]
 pub enum Shelf {
     At(usize),
     Lacking,

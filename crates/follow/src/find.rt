@@ -8,7 +8,7 @@ use crate::place::many;
 use lent::get64;
 
 // The block, with the place of its count among all counts; or no block starts there.
-#[derive(Drop)]
+#[derive(Clone, Copy)]
 pub enum Found {
     At { block: Block, slot: usize },
     Nowhere,

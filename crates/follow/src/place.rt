@@ -10,7 +10,7 @@ use crate::block::Named;
 use crate::destination::{Dest, dest_of};
 
 // The place of the one that is asked for; or how many there are.
-#[derive(Drop)]
+#[derive(Clone, Copy)]
 pub enum Place {
     At(usize),
     Not(usize),

@@ -8,7 +8,7 @@ use crate::block::{Next, block_from};
 use crate::place::many;
 
 // So many counts there are; or more than fit.
-#[derive(Drop)]
+#[derive(Clone, Copy)]
 pub enum Room {
     Fits(usize),
     Short,

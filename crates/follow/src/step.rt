@@ -14,7 +14,7 @@ use crate::place::Place;
 use evm::rows::size_of;
 
 // Before the log's first step; or behind a step at pc, in a block with its count's place.
-#[derive(Drop)]
+#[derive(Clone, Copy)]
 pub enum Stand {
     Outside,
     Inside {
@@ -25,7 +25,7 @@ pub enum Stand {
 }
 
 // What a step does: it is not in the map; it goes on in the block; it begins, with a block; it takes an edge, with the place of its count, and enters a block.
-#[derive(Drop)]
+#[derive(Clone, Copy)]
 pub enum Move {
     No,
     Stays {

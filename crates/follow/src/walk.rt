@@ -11,7 +11,7 @@ use lent::{get64, put64};
 use std::num::wrapping_add_usize;
 
 // The step is in the map, and the follower stands so behind it; or it is not.
-#[derive(Drop)]
+#[derive(Clone, Copy)]
 pub enum Went {
     On(Stand),
     Off,

@@ -10,7 +10,7 @@ use evm::walk::argument_at;
 use layout::row::{BlockType, DYNAMIC_JUMP, DYNAMIC_JUMPI, JUMP, JUMPI};
 
 // Where a jump goes: to a number that was pushed, one over 0xffff kept as 0xffff, or to what only the stack can say.
-#[derive(Drop)]
+#[derive(Clone, Copy)]
 pub enum Target {
     Static(usize),
     Dynamic,

@@ -16,7 +16,7 @@ use evm::rows::known;
 use layout::row::{BlockType, JUMP, SUCCESS, TERMINATE};
 
 // What an instruction is to the cutting; what ends a block for good does so with success or without.
-#[derive(Drop)]
+#[derive(Clone, Copy)]
 pub enum Cut {
     Jumpdest,
     Jumpi,
@@ -27,7 +27,7 @@ pub enum Cut {
 }
 
 // How the walk stands: a block is open from its start on, a JUMPDEST is waited for, or cutting has ended for the whole code.
-#[derive(Drop)]
+#[derive(Clone, Copy)]
 pub enum Walking {
     Opened(usize),
     Waiting,
@@ -35,7 +35,7 @@ pub enum Walking {
 }
 
 // What an instruction does in the open block: it goes on, or closes the block, whose last instruction is at end.
-#[derive(Drop)]
+#[derive(Clone, Copy)]
 pub enum Effect {
     Goes(Walking),
     Closes {

@@ -20,7 +20,7 @@ const BAD: usize = 12;
 const WRONG: usize = 17;
 
 // 0, or the number of the refusal; with 12 and 17 the entry's offset.
-#[derive(Drop)]
+#[derive(Clone, Copy)]
 pub struct Inspected {
     pub number: usize,
     pub value: usize,

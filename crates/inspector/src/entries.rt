@@ -12,14 +12,14 @@ use exec::mode::Mode;
 use reader::{Destination, Entry, Walk, next};
 
 // What an entry shows, with the start of the block before it: a path with a destination, of the block at `owner`; or the block that 7s behind it are of.
-#[derive(Drop)]
+#[derive(Clone, Copy)]
 pub enum Shown {
     Path { owner: usize, path: Path },
     Of(usize),
 }
 
 // None is wrong; or the first that is, by its offset and the place in its path, with the offset behind it and the start of the block before that.
-#[derive(Drop)]
+#[derive(Clone, Copy)]
 pub enum Finding {
     Right,
     Wrong {

@@ -14,7 +14,7 @@ use reader::address;
 use state::sym::StackSym;
 
 // A path: where its addresses stand, how many they are, and its destination.
-#[derive(Drop)]
+#[derive(Clone, Copy)]
 pub struct Path {
     pub at: usize,
     pub count: usize,
@@ -22,7 +22,7 @@ pub struct Path {
 }
 
 // "the place in the path of the first block that fails, 0 if the path is empty or only the symbol differs"
-#[derive(Drop)]
+#[derive(Clone, Copy)]
 pub enum Place {
     Right,
     Fails(usize),

@@ -9,7 +9,7 @@ ghost use Rattle.inspector.specs.Edges.{sight_by, sight_of, Stands, Sought};
 use reader::{Destination, Entry, Walk, next};
 
 // What an entry is to an edge that is looked for: it has the edge, it is of the block that the edge leaves, or of another.
-#[derive(Drop)]
+#[derive(Clone, Copy)]
 pub enum Sight {
     Edge,
     Own,

@@ -42,7 +42,7 @@ pub const DYNAMIC_JUMP: usize = 5;
 pub const DYNAMIC_JUMPI: usize = 6;
 
 // A block's type: its kind, where it goes (the true side), and its false side; a side that the kind does not have is 0.
-#[derive(Drop)]
+#[derive(Clone, Copy)]
 pub struct BlockType {
     pub kind: usize,
     pub to: usize,

@@ -5,7 +5,7 @@ ghost use Rattle.reader.specs.Classes.{class_of, start_of, block_step, way_step,
 use crate::entry::Entry;
 
 // A block by its start, a dynamic one also by its count; a record by its form; or an entry that is bad wherever it stands.
-#[derive(Drop)]
+#[derive(Clone, Copy)]
 pub enum Class {
     Bad,
     Head,
@@ -17,7 +17,7 @@ pub enum Class {
 
 // Behind the head: blocks may come, from a start on; or also 7s of the dynamic block at `block`, of whose count so many are left; or records
 // alone, of the form of those before.
-#[derive(Drop)]
+#[derive(Clone, Copy)]
 pub enum Order {
     Blocks {
         low: usize,
@@ -33,7 +33,7 @@ pub enum Order {
 }
 
 // An entry may come, and then the order goes on so; or it may not.
-#[derive(Drop)]
+#[derive(Clone, Copy)]
 pub enum Step {
     To(Order),
     Stop,

@@ -7,7 +7,7 @@ ghost use Rattle.reader.specs.Dests.{goes_to};
 use layout::{MISSING, MISSING_WIDE};
 
 // None, or an address.
-#[derive(Drop)]
+#[derive(Clone, Copy)]
 pub enum Destination {
     Missing,
     At(usize),

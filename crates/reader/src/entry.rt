@@ -12,7 +12,7 @@ use crate::lead::{Lead, lead_at};
 // Its numbers, by its kind; the two families of kinds give the same. A path is told by where its addresses of 2 bytes stand and how many they are.
 // A record's form is where the path length stands in its body: 4 in kind 8; 8 in kind 9, behind its number, which is 0 in kind 8.
 // Or what is wrong with it by itself: its kind is not known, its body is "longer or shorter than" its kind says, or it is cut.
-#[derive(Drop)]
+#[derive(Clone, Copy)]
 pub enum Entry {
     Head {
         size: usize,

@@ -8,7 +8,7 @@ ghost use Rattle.reader.specs.Sorts.{sort_of, path_sort};
 use layout::NARROW;
 use lent::get16;
 
-#[derive(Drop)]
+#[derive(Clone, Copy)]
 pub enum Sort {
     Head,
     Terminate,

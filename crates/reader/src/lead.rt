@@ -6,7 +6,7 @@ ghost use Rattle.reader.specs.Shapes.{lead_at, behind_at};
 use lent::{get16, get32};
 
 // What they say of a whole entry; or it is cut: too few bytes are left, for them or for the body that they announce.
-#[derive(Drop)]
+#[derive(Clone, Copy)]
 pub enum Lead {
     Says { kind: usize, length: usize },
     Short,

@@ -13,14 +13,14 @@ use crate::run::stopped;
 const BAD: usize = 12;
 
 // 0, or the number of the refusal and the offset of the first bad entry.
-#[derive(Drop)]
+#[derive(Clone, Copy)]
 pub struct Reading {
     pub number: usize,
     pub offset: usize,
 }
 
 // Where the scan stands: the offset of the next entry, what may come, and the blocks and records so far.
-#[derive(Drop)]
+#[derive(Clone, Copy)]
 pub struct Scan {
     pub at: usize,
     pub place: Order,
@@ -29,7 +29,7 @@ pub struct Scan {
 }
 
 // The scan behind an entry; or the offset of the first bad one.
-#[derive(Drop)]
+#[derive(Clone, Copy)]
 pub enum Passed {
     On(Scan),
     Bad(usize),

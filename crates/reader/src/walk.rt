@@ -9,7 +9,7 @@ use crate::lead::end_of;
 use lent::get16;
 
 // The entry at the walk's offset, and the offset behind it; or the bytes are over.
-#[derive(Drop)]
+#[derive(Clone, Copy)]
 pub enum Walk {
     Here { entry: Entry, behind: usize },
     Over,

@@ -7,7 +7,7 @@ ghost use Rattle.report.specs.Counts.{none_counted, Shut, Longer, Recorded, Coun
 use reader::{Destination, Entry};
 
 // The totals of a map, but for the number of maps and the energy.
-#[derive(Drop)]
+#[derive(Clone, Copy)]
 pub struct Counts {
     pub terminate: usize,
     pub jump: usize,
@@ -23,7 +23,7 @@ pub struct Counts {
 }
 
 // The block at hand: not dynamic; or dynamic with no destination yet, with this one alone, or with several.
-#[derive(Drop)]
+#[derive(Clone, Copy)]
 pub enum Open {
     Static,
     NoneYet,

@@ -8,7 +8,7 @@ const MOST: usize = 0xFFFF_FFFF_FFFF_FFFF;
 // The place of the longest path among the totals.
 const LONGEST: usize = 11;
 
-#[derive(Drop)]
+#[derive(Clone, Copy)]
 pub enum Sum {
     Is(usize),
     TooLarge,

@@ -9,7 +9,7 @@ use crate::count::{Counts, Open, counted, none_counted, opened, shut};
 use reader::{Order, Passed, Scan, entry_at, last, one};
 
 // A map's totals; or it is refused, with the offset of its first bad entry, and what was counted is dropped.
-#[derive(Drop)]
+#[derive(Clone, Copy)]
 pub enum Pass {
     Whole(Counts),
     Bad(usize),

@@ -4,7 +4,7 @@ ghost use Rattle.std.specs.Prelude.{◌≡◌};
 ghost use Rattle.spec.specs.Report as definitions;
 ghost use Rattle.report.specs.Numbers.{share_of};
 
-#[derive(Drop)]
+#[derive(Clone, Copy)]
 pub struct Share {
     pub part: usize,
     pub whole: usize,

@@ -13,7 +13,7 @@ use reachable::expand;
 const BATCH: usize = 64;
 
 // How many targets are in a batch, and the record that the next one starts from.
-#[derive(Drop)]
+#[derive(Clone, Copy)]
 struct Batch {
     many: usize,
     next: usize,

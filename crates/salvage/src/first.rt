@@ -8,7 +8,7 @@ ghost use Rattle.salvage.specs.Promises.{Headed, runs, over_of, closed_of, first
 use reader::{Entry, Order, Passed, Scan, end_of, entry_at, last, one, seven_at};
 
 // It reads whole, and has so many bytes; or it does not, and its first bad entry stands at an offset.
-#[derive(Drop)]
+#[derive(Clone, Copy)]
 pub enum First {
     Whole(usize),
     Bad(usize),

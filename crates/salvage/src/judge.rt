@@ -7,7 +7,7 @@ ghost use Rattle.salvage.specs.Promises.{judged_of};
 use crate::first::{First, first_map};
 
 // How many maps are copied and how many bytes they have, and "the offset of the first bad entry, or the input's length".
-#[derive(Drop)]
+#[derive(Clone, Copy)]
 pub struct Judged {
     pub maps: usize,
     pub bytes: usize,

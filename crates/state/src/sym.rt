@@ -7,7 +7,7 @@ ghost use Rattle.state.specs.Symbols.{sym_of, known_of};
 use evm::op::JUMPDEST;
 
 // What is known of a word: the word at a depth on entry, a value, a value that is a place to jump to, or where it was made.
-#[derive(Drop)]
+#[derive(Clone, Copy)]
 pub enum StackSym {
     Before(usize),
     Constant(usize),
@@ -16,7 +16,7 @@ pub enum StackSym {
 }
 
 // A symbol's value, if it is known.
-#[derive(Drop)]
+#[derive(Clone, Copy)]
 pub enum Known {
     Value(usize),
     Unknown,

@@ -12,7 +12,7 @@ use tables::Counts;
 
 // A level: the addresses of its path in P, the stack position that it asks for, the place and the length in S, in cells, of the path's state, and 256 less
 // the path's weight.
-#[derive(Drop)]
+#[derive(Clone, Copy)]
 pub struct Level {
     pub np: usize,
     pub position: usize,
@@ -22,7 +22,7 @@ pub struct Level {
 }
 
 // How a search goes: 0 or the number of a refusal, the energy used, and what is in use.
-#[derive(Drop)]
+#[derive(Clone, Copy)]
 pub struct Run {
     pub code: usize,
     pub energy: usize,

@@ -9,7 +9,7 @@ use tables::row::{Seen, find_row, stamp_of};
 use tables::{Counts, Rooms};
 
 // 0 or 6 where T is short, whether it was met before, and the counts.
-#[derive(Drop)]
+#[derive(Clone, Copy)]
 pub struct Meeting {
     pub code: usize,
     pub met: bool,

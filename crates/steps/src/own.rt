@@ -16,7 +16,7 @@ use lent::{copy_within, get16, get32, put16, put32};
 const LAST_LINK: usize = 0xFFFF;
 
 // Where a state stands in W, and how many cells it has.
-#[derive(Drop)]
+#[derive(Clone, Copy)]
 pub struct StateAt {
     pub at: usize,
     pub n: usize,

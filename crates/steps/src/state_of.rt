@@ -19,7 +19,7 @@ use state::sym::StackSym;
 use tables::Counts;
 
 // 0 or 5 where S is short, how many cells the new state has, right after those in use, and the symbol.
-#[derive(Drop)]
+#[derive(Clone, Copy)]
 pub struct Taken {
     pub code: usize,
     pub cells: usize,

@@ -13,7 +13,7 @@ pub use record::end_before;
 pub use recording::record_entry;
 
 // How many units of each buffer count as lent.
-#[derive(Drop)]
+#[derive(Clone, Copy)]
 pub struct Rooms {
     pub p: usize,
     pub s: usize,
@@ -23,7 +23,7 @@ pub struct Rooms {
 }
 
 // How much is in use: records, addresses in Q, kept cells at the top of S, other cells at its bottom, and remembered rows.
-#[derive(Drop)]
+#[derive(Clone, Copy)]
 pub struct Counts {
     pub records: usize,
     pub addresses: usize,
@@ -33,7 +33,7 @@ pub struct Counts {
 }
 
 // What is to be recorded: the turn's start, the destination or `NOWHERE`, the place and the length in S, in cells, of the state to keep, and the energy so far.
-#[derive(Drop)]
+#[derive(Clone, Copy)]
 pub struct Entry {
     pub start: usize,
     pub to: usize,
@@ -43,7 +43,7 @@ pub struct Entry {
 }
 
 // 0 or the number of a refusal, and the counts.
-#[derive(Drop)]
+#[derive(Clone, Copy)]
 pub struct Reply {
     pub code: usize,
     pub counts: Counts,

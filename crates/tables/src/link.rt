@@ -15,7 +15,7 @@ use lent::{get32, put16, put32};
 
 // What a record's row says: its turn's start, its destination or `NOWHERE`, the ends of its path in Q and of its kept cells in S, its path's sum, and
 // its number.
-#[derive(Drop)]
+#[derive(Clone, Copy)]
 pub struct Fields {
     pub start: usize,
     pub to: usize,

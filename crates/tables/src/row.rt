@@ -19,7 +19,7 @@ use state::sym::StackSym;
 use std::num::wrapping_add_u32;
 
 // What is remembered: the path's last block, the symbol read there, and the place and the length of the state in S, in cells.
-#[derive(Drop)]
+#[derive(Clone, Copy)]
 pub struct Seen {
     pub last: usize,
     pub symbol: StackSym,
@@ -28,7 +28,7 @@ pub struct Seen {
 }
 
 // The two sums of a row, worked out together.
-#[derive(Drop)]
+#[derive(Clone, Copy)]
 struct Sums {
     sum: u32,
     mark: u32,

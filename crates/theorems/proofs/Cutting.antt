@@ -359,8 +359,8 @@ module _ {row : ℕ → Row} (ok : Lawful row) (code : List ℕ) where
       both (Ordered row code i.pc) (eqb i.op 0x5B)
       (λ e. cuts-ordered w (λ j n. sub j (there n)) (opened i.pc i.pc) i.pc _ (omega arith) (begun s (sub i here) refl w (eqb-true _ _ e)))
       (λ _. ordered-from (omega arith) (cuts-ordered w (λ j n. sub j (there n)) waiting i.pc _ (omega arith) tt))
-  cuts-ordered (steps {i} s w) sub (opened id start) prev push p o =
-      closes-ordered s (sub i here) refl w _ (λ m r. cuts-ordered w (λ j n. sub j (there n)) m i.pc _ (omega arith) r) push o p
+  cuts-ordered (steps {i} {is} s w) sub (opened id start) prev push p o =
+      closes-ordered s (sub i here) refl w (λ m. cuts row is m i.pc (pushed i)) (λ m r. cuts-ordered w (λ j n. sub j (there n)) m i.pc (pushed i) (omega arith) r) push o p
 
   -- "Afterwards" only kinds change, and no Terminate does.
   made-kind : (k : Kind) {b : Block} → Made code b → Made code (with_kind k b)
@@ -396,10 +396,12 @@ ordered ok (b ∷ code) =
 made_in : {row : ℕ → Row} {code : List ℕ} {lo : ℕ} {bs : List Block} {b : Block} → Ordered row code lo bs → In b bs → Made code b
 made_in (then l m h r) here = m
 made_in (then l m h r) (there n) = made_in r n
+made_in {row = row} {code = code} {b = b} (no_more {lo = lo}) x4 = elim x4 [ ]
 
 whole_in : {row : ℕ → Row} {code : List ℕ} {lo : ℕ} {bs : List Block} {b : Block} → Ordered row code lo bs → In b bs → Whole row code b
 whole_in (then l m h r) here = h
 whole_in (then l m h r) (there n) = whole_in r n
+whole_in {row = row} {code = code} {b = b} (no_more {lo = lo}) x4 = elim x4 [ ]
 
 rise : {row : ℕ → Row} {code : List ℕ} {lo : ℕ} {bs : List Block} → Ordered row code lo bs → Rising lo (starts bs)
 rise no_more = none_left
@@ -429,12 +431,14 @@ starts-rise ok code = rise (ordered ok code)
 from-lo : {row : ℕ → Row} {code : List ℕ} {lo : ℕ} {bs : List Block} {b : Block} → Ordered row code lo bs → In b bs → lo ≤ b.start
 from-lo (then l m h r) here = l
 from-lo (then l m h r) (there n) = let k = from-lo r n in omega arith
+from-lo {row = row} {code = code} {b = b} (no_more {lo = lo}) x4 = elim x4 [ ]
 
 once : {row : ℕ → Row} {code : List ℕ} {lo : ℕ} {bs : List Block} {b c : Block} → Ordered row code lo bs → In b bs → In c bs → b.start ≡ c.start → b ≡ c
 once (then l m h r) here here e = refl
 once (then l m h r) here (there n) e = absurd (let k = from-lo r n in omega arith)
 once (then l m h r) (there n) here e = absurd (let k = from-lo r n in omega arith)
 once (then l m h r) (there n) (there k) e = once r n k e
+once {row = row} {code = code} {b = b} {c = c} (no_more {lo = lo}) x10 _ e = elim x10 [ ]
 
 pub one-start : {row : ℕ → Row} → Lawful row → (code : List ℕ) {b c : Block} → In b (blocks row code (instructions code)) → In c (blocks row code (instructions code)) → b.start ≡ c.start → b ≡ c
 one-start ok code = once (ordered ok code)

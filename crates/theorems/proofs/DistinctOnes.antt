@@ -80,6 +80,7 @@ no-others t (u ∷ us) h = if-false (not (eqb t u)) _ _ (ap not (eq-eqb t u (h u
 all_same : (t : ℕ) (ts : List ℕ) → all_are t ts ≡ true → (u : ℕ) → In u ts → t ≡ u
 all_same t (x ∷ ts) e u here = eqb-true t x (and_both (eqb t x) _ e).0
 all_same t (x ∷ ts) e u (there i) = all_same t ts (and_both (eqb t x) _ e).1 u i
+all_same t [] e u x'' = elim x'' [ ]
 
 one-other : (t : ℕ) (ts : List ℕ) → all_are t ts ≡ false → (u : ℕ) × In u ts × (t ≡ u → ⊥)
 one-other t [] e = never (cc)

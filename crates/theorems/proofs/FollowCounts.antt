@@ -161,6 +161,7 @@ none-start (f ∷ fs) (rises l r) a h =
 pub above : (fs : List Final) {lo : ℕ} → Rising lo (finals-at fs) → (g : Final) → In g fs → lo ≤ starts_at g
 above (f ∷ fs) (rises l r) g here = l
 above (f ∷ fs) (rises l r) g (there i) = let k = above fs r g i in omega arith
+above [] {lo = lo} _ g x3 = elim x3 [ ]
 
 pub one-starts : (fs : List Final) {lo : ℕ} → Rising lo (finals-at fs) → (g : Final) → In g fs → starts-here (starts_at g) fs ≡ 1
 unfolding starts-here
@@ -168,6 +169,7 @@ one-starts (f ∷ fs) (rises l r) g here = ap₂ (λ (x : Bool) (n : ℕ). flag 
 one-starts (f ∷ fs) (rises l r) g (there i) =
     let k = above fs r g i in
     ap₂ (λ (x : Bool) (n : ℕ). flag x + n) (ne_eqb (starts_at g) (starts_at f) (λ e. omega arith)) (one-starts fs r g i)
+one-starts [] {lo = lo} _ g x3 = elim x3 [ ]
 
 module _ (m : Map) (code : List ℕ) (rising : Rising 0 (finals-at m.blocks)) where
   entered-once : {at : Stand} {q : ℕ} {v : Move} → InMap m code at q v → total (λ (f : Final). flag (enters-at (starts_at f) v)) m.blocks ≡ flag (enters v)
@@ -196,6 +198,7 @@ one_block (x ∷ fs) (rises l r) f g here here e = refl
 one_block (x ∷ fs) (rises l r) f g here (there j) e = let k = above fs r g j in absurd (omega arith)
 one_block (x ∷ fs) (rises l r) f g (there i) here e = let k = above fs r f i in absurd (omega arith)
 one_block (x ∷ fs) (rises l r) f g (there i) (there j) e = one_block fs r f g i j e
+one_block [] {lo = lo} _ f g x5 _ e = elim x5 [ ]
 
 module _ (m : Map) (code : List ℕ) (rising : Rising 0 (finals-at m.blocks)) where
   in-map-once : {at : Stand} {q : ℕ} {v w : Move} → InMap m code at q v → InMap m code at q w → v ≡ w

@@ -129,6 +129,7 @@ starts-of = map (λ (c : Counts). c.start)
 above : (cs : List Counts) {lo : ℕ} → Rising lo (starts-of cs) → (c : Counts) → In c cs → lo ≤ c.start
 above (d ∷ cs) (one_more l r) c here = l
 above (d ∷ cs) (one_more l r) c (there i) = let k = above cs r c i in omega arith
+above [] {lo = lo} _ c x3 = elim x3 [ ]
 
 pub rising-others : (xs : List Counts) (c : Counts) (ys : List Counts) {lo : ℕ} → Rising lo (starts-of (xs ++ c ∷ ys)) → Others c.start xs × Others c.start ys
 rising-others [] c ys (one_more l r) = (λ d i e. elim i [ ], λ d i e. let k = above ys r d i in omega arith)

@@ -2,7 +2,7 @@
 -- were before are defined here only. Assumes nothing.
 use Prim.Native.Nat.{ℕ, ◌≤◌}
 use native.Mathlib.Omega.{arith}
-use mathlib.Core.Path.{◌≡◌, refl, sym, ap, ap₂, ◌∙◌}
+use mathlib.Core.Path.{◌≡◌, refl, sym, ap, ap₂, subst, ◌∙◌}
 use mathlib.Core.Bool.{Bool, true, false}
 use mathlib.Core.List.{List, [], ◌∷◌, ◌++◌, map}
 use lib.Dec.{eqb, leb, ltb}
@@ -108,7 +108,8 @@ same-shown e es (dynamic_jumpi f) =
 pub same_bytes : (m : Map) → m.size ≤ old-longest → bytes m ≡ old-bytes m
 unfolding bytes entries old-bytes
 same_bytes m h =
-    rw (le-ltb old-longest m.size h)
+    subst (λ (w : Bool). joined (head m ∷ gather (λ (f : Final). shown w (extent f.block) f.entries f.block.kind) m.blocks ++ map (record_entry w m.numbered) m.recs) ≡ old-bytes m)
+    (sym (le-ltb old-longest m.size h))
     (ap₂ (λ (x y : List (List ℕ)). joined (head m ∷ x ++ y))
     (gather-same _ _ (λ (f : Final). same-shown (extent f.block) f.entries f.block.kind) m.blocks)
     (map_same (record_entry false m.numbered) (old-record_entry m.numbered) (same-record m.numbered) m.recs))

@@ -318,6 +318,7 @@ module _ (rules : Rules) (ok : Lawful rules.row) where
             subst (λ (o : Option ℕ). In x (or_next e.offset (all_wrong rules code m ds) o)) (sym fault-is)
             (subst (λ (n : ℕ). In x (record { offset = n; place = x.place } ∷ all_wrong rules code m ds)) (sym h.offset_is) here)
         go (e ∷ ds) (there i) = or-there e.offset (all_wrong rules code m ds) (fault_of rules code m e.entry) (go ds i)
+        go [] x'' = elim x'' [ ]
 
   -- ---- the call
 

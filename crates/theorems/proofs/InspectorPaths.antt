@@ -102,6 +102,7 @@ module _ (rules : Rules) (ok : Lawful rules.row) where
   all_same : {x : ℕ} (t : ℕ) (ts : List ℕ) → all_are t ts ≡ true → In x ts → t ≡ x
   all_same t (u ∷ ts) e here = eqb-true t u (and_both (eqb t u) _ e).0
   all_same t (u ∷ ts) e (there i) = all_same t ts (and_both (eqb t u) _ e).1 i
+  all_same t [] e x3 = elim x3 [ ]
 
   one-target : {x : ℕ} (t : ℕ) (ts : List ℕ) → all_are t ts ≡ true → In x (t ∷ ts) → In x (t ∷ [])
   one-target t ts e here = here
@@ -190,7 +191,7 @@ module _ (rules : Rules) (ok : Lawful rules.row) where
     side-edge : {n : Node} → In n (prepared rules code) → (x y : ℕ) → leads_to x y n ≡ true → Edge rules ok shown x y
     side-edge {n} i x y e =
         let h = and_both (eqb y n.block.start) _ e in
-        subst (Edge rules ok shown x) (sym (eqb-true y _ h.0)) (final-edge i (side-kept n.block _ n.block.kind (mem-in x _ h.1)))
+        subst (Edge rules ok shown x) (sym (eqb-true y _ h.0)) (final-edge i (side-kept n.block (entries_of n.block.start recs) n.block.kind (mem-in x _ h.1)))
 
     -- every record is of a block that takes turns
     recs-turning : {r : Rec} → In r recs → Turning (prepared rules code) r.start

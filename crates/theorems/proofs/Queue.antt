@@ -14,7 +14,7 @@ use Rattle.spec.specs.Lists.{if, mem, total}
 use Rattle.spec.specs.Ending.{Final}
 use Rattle.laws.proofs.Branch.{both, if-true, if-false, and_then}
 use Rattle.laws.proofs.Members.{In, here, there, in_mem, mem-in, or_right}
-use Rattle.laws.proofs.Lists.{Rising, one_more}
+use Rattle.laws.proofs.Lists.{Rising, none_left, one_more}
 use Rattle.theorems.proofs.Answered.{finals-at}
 
 -- ---- the loop
@@ -76,6 +76,7 @@ new-or F c set h k a m = first-or F h (λ b i. k b (in_mem b i)) (mem-in a (c �
 pub rising-above : {lo a : ℕ} {ns : List ℕ} → Rising lo ns → In a ns → lo ≤ a
 rising-above (one_more h r) here = h
 rising-above (one_more h r) (there i) = let k = rising-above r i in omega arith
+rising-above {a = a} (none_left {lo = lo}) x4 = elim x4 [ ]
 
 pub start_in : {f : Final} {fs : List Final} → In f fs → In f.block.start (finals-at fs)
 start_in here = here

@@ -401,9 +401,9 @@ module _ (wide : Bool) where
   got-records : (numbered : Bool) (rs : List Rec) → ((r : Rec) → In r rs → RecFits wide r) → {p : Place} → Late (path-at numbered) p → (at : ℕ) → Got p (map (a_record numbered) rs) at
   got-records numbered [] h p at = got-none p at
   got-records false (r ∷ rs) h p at =
-      got-one (a_record false r) (map (a_record false) rs) (record_kind wide) (RECORD 4 (absent wide)) _ (reads-record r (h r here)) (record-next 4 p _) (got-records false rs (λ q i. h q (there i)) in_records _) refl refl
+      got-one (a_record false r) (map (a_record false) rs) (record_kind wide) (RECORD 4 (absent wide)) _ (reads-record r (h r here)) (record-next 4 p (start_in (little 2 r.start ++ little 2 (destination wide r.to) ++ path_bytes r.path))) (got-records false rs (λ q i. h q (there i)) in_records _) refl refl
   got-records true (r ∷ rs) h p at =
-      got-one (a_record true r) (map (a_record true) rs) (numbered_kind wide) (RECORD 8 (absent wide)) _ (reads-numbered r (h r here)) (record-next 8 p _) (got-records true rs (λ q i. h q (there i)) in_records _) refl refl
+      got-one (a_record true r) (map (a_record true) rs) (numbered_kind wide) (RECORD 8 (absent wide)) _ (reads-numbered r (h r here)) (record-next 8 p (start_in (little 2 r.start ++ little 2 (destination wide r.to) ++ little 4 r.energy ++ path_bytes r.path))) (got-records true rs (λ q i. h q (there i)) in_records _) refl refl
 
   got-ways : (es : List Rec) → ((r : Rec) → In r es → RecFits wide r) → {low : ℕ} (is : List Item) → ((at : ℕ) → Got (blocks low true) is at) → (at : ℕ)
       → Got (blocks low true) (map way_for es ++ is) at

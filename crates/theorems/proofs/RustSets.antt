@@ -128,6 +128,7 @@ module _ (cut : List ℕ → List (List ℕ)) (limit : ℕ) (ns : List Node) whe
 length-joined : (bs : List (List ℕ)) {b : List ℕ} → In b bs → length b ≤ length (joined bs)
 length-joined (b ∷ bs) here = omega (arith, length-append b (joined bs))
 length-joined (b ∷ bs) (there i) = omega (arith, length-append b (joined bs), length-joined bs i)
+length-joined [] {b = b} x' = elim x' [ ]
 
 if_some : {A : Type 0} (b : Bool) (x y : A) → if b (some x) (some y) ≡ some (if b x y)
 unfolding if

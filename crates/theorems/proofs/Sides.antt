@@ -48,6 +48,7 @@ module _ (n : ℕ) where
   all_in : {b : Block} {bs : List Block} → All bs → In b bs → Falls n b.kind
   all_in (and_more f a) here = f
   all_in (and_more f a) (there i) = all_in a i
+  all_in {b = b} no_more x3 = elim x3 [ ]
 
   branching-falls : (push : Option ℕ) (f : ℕ) → 1 ≤ f → f ≤ n → Falls n (branching push f)
   branching-falls none f o h = (o, h)
