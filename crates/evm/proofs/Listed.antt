@@ -4,7 +4,6 @@ use mathlib.Core.Logic.{⊎_elim}
 use mathlib.Core.Bool.{Bool, true, false, ◌||◌, beq}
 use mathlib.Core.List.{List, [], ◌∷◌}
 use Prim.Native.Nat.{ℕ, suc, ◌+◌, ◌≤◌, ◌<◌}
-use borrow.Author.Rules.{zero≤}
 use lib.ListN.{get_or}
 use lib.Dec.{T, leb, eqb, leb→le, eqb→eq}
 use mir.Facts.{or_yes}
@@ -13,7 +12,7 @@ use types.Run.{OneOf, hit}
 use Rattle.spec.specs.Lists.{if}
 use Rattle.spec.specs.Opcodes.{argument, row}
 use Rattle.evm.specs.Rows.{RowIs, SizeIs, taken_in, given_in, known_in, WordsAre}
-use Rattle.evm.proofs.Table.{◌both◌, left, right, each_of, each_at, every, every-at}
+use Rattle.evm.proofs.Table.{◌both◌, left, right, each_of, each_at, every, every-at, zero-below}
 
 beq→eq : (a b : Bool) → T (beq a b) → a ≡ b
 beq→eq true true t = refl
@@ -102,7 +101,7 @@ sized k = eqb (row k).size (suc (argument k))
 
 pub row-size : (x : ℕ) → x < 256 → (row x).size ≡ suc (argument x)
 unfolding sized every row if ◌both◌
-row-size x h = eqb→eq _ _ (every-at sized 256 0 x tt zero≤ h)
+row-size x h = eqb→eq _ _ (every-at sized 256 0 x tt zero-below h)
 
 pub row_is : {x s w : ℕ} {b : Bool} → x < 256 → SizeIs x s → WordsAre x w → b ≡ known_in w → RowIs x (record { size = s; taken = taken_in w; given = given_in w; known = b })
 row_is {x} h s w e =

@@ -51,3 +51,7 @@ module _ (f : ℕ → Bool) where
       go : Dec (a < x) → (suc a ≤ x → x < suc a + n → T (f x)) → T (f x)
       go (yes l) later = later l (omega arith)
       go (no l) later = subst (λ (k : ℕ). T (f k)) (let e : a ≡ x = omega arith in e) (left (f a) (every (suc a) n) t)
+
+-- no number is below none
+pub zero-below : {n : ℕ} → 0 ≤ n
+zero-below = omega arith

@@ -1,0 +1,14 @@
+-- `evm::walk::spell` meets its contract: the bytes passed so far are spelt. The measure is what is left of n. Assumes nothing.
+use Prim.Native.Nat.{◌-◌}
+use borrow.Author.Rules.{rules}
+use Rattle.evm.proofs.Spelling.{Spells, spells-none, spells-more, spelled}
+use Rattle.evm.proofs.walk.spell.Goals as goal
+
+pub loop-i-init : goal.loop-i-init
+loop-i-init c = search spells-none
+
+pub loop-i-preserved : goal.loop-i-preserved
+loop-i-preserved c = search spells-more
+
+pub returns : goal.returns
+returns c = search spelled

@@ -1,0 +1,25 @@
+-- `class_of` meets its contract: each way out is a law of the class. Assumes nothing.
+use Rattle.reader.proofs.Classing.{class-fair, class-unfair, class-jump, class-jumpi, class-dynamic_jump, class-dynamic_jumpi, class-record}
+use borrow.Author.Rules.{rules}
+use Rattle.reader.proofs.class.class_of.Goals as goal
+
+pub returns-then-success-le1 : goal.returns-then-success-le1
+returns-then-success-le1 c = search class-fair
+
+pub returns-else-success-le1 : goal.returns-else-success-le1
+returns-else-success-le1 c = search class-unfair
+
+pub returns-in-Jump : goal.returns-in-Jump
+returns-in-Jump c = search class-jump
+
+pub returns-in-Jumpi : goal.returns-in-Jumpi
+returns-in-Jumpi c = search class-jumpi
+
+pub returns-in-DynamicJump : goal.returns-in-DynamicJump
+returns-in-DynamicJump c = search class-dynamic_jump
+
+pub returns-in-DynamicJumpi : goal.returns-in-DynamicJumpi
+returns-in-DynamicJumpi c = search class-dynamic_jumpi
+
+pub returns-in-Record : goal.returns-in-Record
+returns-in-Record c = search class-record

@@ -1,0 +1,14 @@
+-- `seven_at` meets its contract: the leading bytes of a whole entry tell. Assumes nothing.
+use Rattle.reader.proofs.Sorting.{no_seven}
+use Rattle.reader.proofs.Leads.{seven-cut, seven-there, seven-other}
+use borrow.Author.Rules.{rules}
+use Rattle.reader.proofs.run.seven_at.Goals as goal
+
+pub returns-in-Way : goal.returns-in-Way
+returns-in-Way c = search seven-there
+
+pub returns-in_default : goal.returns-in_default
+returns-in_default c = let h = c.in_default in ?
+
+pub returns-in-Short : goal.returns-in-Short
+returns-in-Short c = search seven-cut
