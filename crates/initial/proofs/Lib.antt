@@ -8,3 +8,6 @@ mod Jumping
 mod Turning
 mod Cutting
 mod Checking
+pub mod Taking
+pub mod Joining
+pub mod Bytes

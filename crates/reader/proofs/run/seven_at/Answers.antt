@@ -8,7 +8,7 @@ pub returns-in-Way : goal.returns-in-Way
 returns-in-Way c = search seven-there
 
 pub returns-in_default : goal.returns-in_default
-returns-in_default c = let h = c.in_default in ?
+returns-in_default c = search seven-other
 
 pub returns-in-Short : goal.returns-in-Short
 returns-in-Short c = search seven-cut

@@ -26,7 +26,7 @@ pub loop-kind-preserved : goal.loop-kind-preserved
 loop-kind-preserved c = search count-more
 
 pub returns-in_default : goal.returns-in_default
-returns-in_default c = let other = no_seven c.sort_of.result c.in-Way.keys2 in search count-other
+returns-in_default c = search count-other
 
 pub returns-in-Short : goal.returns-in-Short
 returns-in-Short c = search count_cut

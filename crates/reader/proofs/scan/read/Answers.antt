@@ -11,4 +11,4 @@ pub returns-in-Head : goal.returns-in-Head
 returns-in-Head c = search read_head
 
 pub returns-in_default : goal.returns-in_default
-returns-in_default c = read_none _ c.entry_at-entry.ensures (another _ c.in-Head.keys2)
+returns-in_default c = read_none _ c.entry_at-entry.ensures c.in_default.not-Head

@@ -1,0 +1,10 @@
+-- `falling` meets its contract: its true side is landed on, or is not. Assumes nothing.
+use borrow.Author.Rules.{rules}
+use Rattle.initial.proofs.Checking.{jumpi-kept, jumpi-falls}
+use Rattle.initial.proofs.check.falling.Goals as goal
+
+pub returns-then-lands : goal.returns-then-lands
+returns-then-lands c = search jumpi-kept
+
+pub returns : goal.returns
+returns c = search jumpi-falls
