@@ -24,6 +24,7 @@ pub fn composed_len(upper: usize, base: usize, lower: usize) -> usize
 }
 
 // A child's symbol over the parent whose state is in the `lower` cells from `parent` on.
+#[tactic(auto, unfolding(spec::specs::Stacks::through))]
 fn resolved(bytes: &[u8], parent: usize, lower: usize, symbol: StackSym) -> StackSym
     requires { Resolves bytes.now parent lower (sym_of symbol) }
     ensures { sym_of result ≡ through (stack_at bytes.now parent lower) (sym_of symbol) }

@@ -4,7 +4,7 @@ use borrow.Author.Rules.{rules}
 use Rattle.initial.proofs.initial_blocks.Goals as goal
 
 pub check-requires : goal.check-requires
-check-requires c = (search rules, search cut_apart)
+check-requires c = record { rows = search rules; apart = search cut_apart }
 
 pub returns : goal.returns
 returns c = search joined

@@ -9,7 +9,7 @@ pub loop-start-init : goal.loop-start-init
 loop-start-init c = search check-none
 
 pub check_row-end-requires : goal.check_row-end-requires
-check_row-end-requires c = (search check-rows, search rules)
+check_row-end-requires c = record { rows = search check-rows; start_in_bounds = search rules }
 
 pub list_row-many-requires : goal.list_row-many-requires
 list_row-many-requires c = search check-listing

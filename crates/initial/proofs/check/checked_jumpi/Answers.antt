@@ -4,7 +4,7 @@ use Rattle.initial.proofs.Checking.{side-starts, jumpi-ends}
 use Rattle.initial.proofs.check.checked_jumpi.Goals as goal
 
 pub falling-requires : goal.falling-requires
-falling-requires c = (search rules, search side-starts)
+falling-requires c = record { code_in_bounds = search rules; code_value = search side-starts }
 
 pub returns-then-starts : goal.returns-then-starts
 returns-then-starts c = search

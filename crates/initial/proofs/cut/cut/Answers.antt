@@ -18,7 +18,7 @@ pub returns-in-End : goal.returns-in-End
 returns-in-End c = search cut-last
 
 pub turn-walking-requires : goal.turn-walking-requires
-turn-walking-requires c = (search cut-ready, search cut_stands)
+turn-walking-requires c = record { ready = search cut-ready; stands = search cut_stands }
 
 pub returns-in-Ended : goal.returns-in-Ended
 returns-in-Ended c = search cut-stops
