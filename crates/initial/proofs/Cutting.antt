@@ -54,11 +54,11 @@ push-idle id start prev push pc on b low =
 
 module _ (code : List ℕ) where
   first-push : cuts row (walk (drop 0 code) 0 0) (opened 0 0) 0 none ≡ cuts row (walk (drop 0 code) 0 0) (opened 0 0) 0 (pushed_at code 0)
-  unfolding cuts
+  unfolding cuts pushed_at row walk
   first-push = go (dec_le (next code 0) (length code))
     where
       go : Dec (next code 0 ≤ length code) → cuts row (walk (drop 0 code) 0 0) (opened 0 0) 0 none ≡ cuts row (walk (drop 0 code) 0 0) (opened 0 0) 0 (pushed_at code 0)
-      go (yes h) = rw (walk-whole code 0 h) (push-idle 0 0 0 (pushed_at code 0) 0 _ (get_or code 0 0) (λ l. sym (push-low code 0 l)))
+      go (yes h) = rw (walk-whole code 0 h) (push-idle 0 0 0 (pushed_at code 0) 0 (λ m. cuts row (walk (drop (next code 0) code) (next code 0) 0) m 0 (pushed_at code 0)) (get_or code 0 0) (λ l. sym (push-low code 0 l)))
       go (no h) = rw (walk_end code 0 (omega arith))
 
 cutting-some : (code : List ℕ) → (length code ≡ 0 → ⊥) → map clipped (cutting code) ≡ ahead code 0 (Opened 0) 0

@@ -13,7 +13,7 @@ use Rattle.spec.specs.Lists.{if}
 use Rattle.spec.specs.Opcodes.{argument, row}
 use Rattle.spec.specs.Walk.{ins, walk}
 use Rattle.spec.specs.Blocks as spec
-use Rattle.spec.specs.Blocks.{Block, JUMPDEST, JUMPI, JUMP, UNKNOWN, OTHER, ENDS, cut, closes, cuts}
+use Rattle.spec.specs.Blocks.{Block, JUMPDEST, JUMPI, JUMP, UNKNOWN, OTHER, ENDS, cut, closes, cuts, pushed}
 use Rattle.evm.proofs.Walks.{walk-whole}
 use Rattle.laws.proofs.Branch.{if-true, if-false}
 use Rattle.initial.specs.Turn.{clipped, pushed_at, cut_of, turn_of, closed, then, resume, ahead}
@@ -53,7 +53,10 @@ module _ (code : List ℕ) (pc op : ℕ) (i : Stands code pc op) (prev : ℕ) wh
       → ahead code pc (Opened start) prev
       ≡ closed start (turn_of start prev (pushed_at code prev) pc (cut_of (cut row op))) ++ ahead code (pc + suc (argument op)) (then (turn_of start prev (pushed_at code prev) pc (cut_of (cut row op)))) pc
   unfolding ahead cuts pushed_at
-  ahead-open start h = rw (first, i.byte) (closes-turn start prev (pushed_at code prev) pc _ (cut row (get_or code pc 0)) h).same
+  ahead-open start h = 
+    let x = get_or code pc 0 in
+    let on = λ (m : spec.Mode). cuts row (walk (drop (pc + suc (argument x)) code) (pc + suc (argument x)) 0) m pc (pushed (ins pc x (drop (pc + 1) code))) in
+    rw (first, i.byte) (closes-turn start prev (pushed_at code prev) pc on (cut row x) h).same
 
   pub ahead-found : op ≡ 0x5B → ahead code pc Waiting prev ≡ ahead code (pc + suc (argument op)) (Opened pc) pc
   unfolding ahead cuts pushed_at

@@ -15,3 +15,4 @@ pub mod Turns
 pub mod Uses
 pub mod Alike
 pub mod Once
+pub mod Adds

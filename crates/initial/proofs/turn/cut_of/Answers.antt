@@ -4,6 +4,7 @@ use mathlib.Core.Logic.{⊎_elim}
 use borrow.Author.Rules.{rules}
 use Rattle.spec.specs.Lists.{if}
 use Rattle.initial.proofs.turn.cut_of.Goals as goal
+use Rattle.initial.proofs.turn.cut_of.Goals.{in_default-via-then-op-lt95, in_default-via-else-op-lt95+else-op-lt160+then-op-lt253}
 
 pub returns-in-91 : goal.returns-in-91
 unfolding if
@@ -27,9 +28,15 @@ pub returns-in-253 : goal.returns-in-253
 returns-in-253 c = search cut-fails
 
 pub returns-then-known : goal.returns-then-known
-returns-then-known c = let low = ⊎_elim (λ t. far-below t.taken) (λ e. e.2.taken) c.if-op-lt95.branch in
-    search cut-other
+returns-then-known c =
+    elim c.in_default.branch [
+      in_default-via-then-op-lt95 w ↦ search (cut-other, far-below)
+    | in_default-via-else-op-lt95+else-op-lt160+then-op-lt253 w ↦ search cut-other
+    ]
 
 pub returns-else-known : goal.returns-else-known
-returns-else-known c = let low = ⊎_elim (λ t. far-below t.taken) (λ e. e.2.taken) c.if-op-lt95.branch in
-    search cut-unknown
+returns-else-known c =
+    elim c.in_default.branch [
+      in_default-via-then-op-lt95 w ↦ search (cut-unknown, far-below)
+    | in_default-via-else-op-lt95+else-op-lt160+then-op-lt253 w ↦ search cut-unknown
+    ]

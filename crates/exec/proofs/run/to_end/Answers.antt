@@ -1,0 +1,29 @@
+-- `to_end` meets its contract: what is left to run ends where the whole run does. The measure is what is left of the code. Assumes nothing.
+use Prim.Native.Nat.{◌-◌}
+use native.Mathlib.Omega.{arith}
+use lib.ListN.{length}
+use borrow.Author.Rules.{rules}
+use Rattle.exec.specs.Modes.{mode_of}
+use Rattle.exec.proofs.Owns.{Running, running-start, running-steps, running-less, running-on, ended-none, ended-ends, ended-jumps}
+use Rattle.exec.proofs.run.to_end.Goals as goal
+
+pub loop-pc-init : goal.loop-pc-init
+loop-pc-init c = search running-start
+
+pub returns-in-End : goal.returns-in-End
+returns-in-End c = search ended-none
+
+pub step-requires : goal.step-requires
+step-requires c = search running-steps
+
+pub loop-pc-smaller : goal.loop-pc-smaller
+loop-pc-smaller c = search running-less
+
+pub loop-pc-preserved : goal.loop-pc-preserved
+loop-pc-preserved c = search (running-on, arith)
+
+pub returns-in-Ends : goal.returns-in-Ends
+returns-in-Ends c = search (ended-ends, arith)
+
+pub returns-in-Jumps : goal.returns-in-Jumps
+returns-in-Jumps c = search (ended-jumps, arith)

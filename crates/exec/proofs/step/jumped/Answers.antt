@@ -1,0 +1,7 @@
+-- `jumped` meets its contract: the top is read, and words are taken. Assumes nothing.
+use borrow.Author.Rules.{rules}
+use Rattle.exec.proofs.Turns.{jumps-by}
+use Rattle.exec.proofs.step.jumped.Goals as goal
+
+pub returns : goal.returns
+returns c = search jumps-by

@@ -1,0 +1,7 @@
+-- `dup` meets its contract: the symbol that was read is pushed. Assumes nothing.
+use borrow.Author.Rules.{rules}
+use Rattle.exec.proofs.Working.{becomes-read}
+use Rattle.exec.proofs.top.Top.dup.Goals as goal
+
+pub returns : goal.returns
+returns c = ?

@@ -1,0 +1,14 @@
+-- `path_sum`: the sums so far, with the addresses left, are the whole. Assumes nothing.
+use Rattle.std.proofs.Common.{◌≡◌, ◌+◌, ◌-◌, ◌^◌, ◌<◌, ◌≤◌, rules}
+use Rattle.tables.specs.Addrs.{addrs, turns, path_sum}
+use Rattle.tables.proofs.Addrs.{sum_first, sum-again, sum_done}
+use Rattle.tables.proofs.path.path_sum.Goals as goal
+
+pub loop-i-init : goal.loop-i-init
+loop-i-init c = (search rules, sum_first _ _)
+
+pub loop-i-preserved : goal.loop-i-preserved
+loop-i-preserved c = (search rules, search sum-again)
+
+pub returns : goal.returns
+returns c = search sum_done

@@ -1,0 +1,17 @@
+-- `same_path`: what is left to compare decides the whole. Assumes nothing.
+use Rattle.std.proofs.Common.{◌-◌, rules}
+use Rattle.tables.specs.Addrs.{Left}
+use Rattle.tables.proofs.Addrs.{path-differs, path-again, path-same}
+use Rattle.tables.proofs.path.same_path.Goals as goal
+
+pub loop-i-init : goal.loop-i-init
+loop-i-init c = search rules
+
+pub returns-then-get16 : goal.returns-then-get16
+returns-then-get16 c = search path-differs
+
+pub loop-i-preserved : goal.loop-i-preserved
+loop-i-preserved c = path-again _ _ _ _ c.loop-i.invariant c.loop-i-test.true c.get16.ensures c.get16-in-loop-i.ensures c.if-get16.false
+
+pub returns : goal.returns
+returns c = search path-same

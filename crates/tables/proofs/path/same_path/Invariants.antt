@@ -1,0 +1,11 @@
+-- `same_path`: what is left to compare decides the whole. Assumes nothing.
+use Rattle.std.proofs.Common.{◌-◌, rules}
+use Rattle.tables.specs.Addrs.{Left}
+use Rattle.tables.proofs.Addrs.{path-differs, path-again, path-same}
+use Rattle.tables.proofs.path.same_path.Given as goal
+
+abbrev pub invariant-loop-i : goal.invariant-loop-i
+invariant-loop-i l = Left l.p l.np l.q l.at l.i
+
+abbrev pub decreases-loop-i : goal.decreases-loop-i
+decreases-loop-i l = l.np - l.i

@@ -1,0 +1,15 @@
+-- `sum_cells`: both sums so far, with the symbols left, are the whole. Assumes nothing.
+use Rattle.std.proofs.Common.{◌≡◌, ◌+◌, ◌-◌, ◌*◌, ◌<◌, ◌≤◌, rules}
+use Rattle.state.specs.Cells.{syms_at}
+use Rattle.tables.specs.Sums.{sym_sums}
+use Rattle.tables.proofs.Stamps.{cells-first, cells-again, both-done}
+use Rattle.tables.proofs.row.sum_cells.Goals as goal
+
+pub loop-i-init : goal.loop-i-init
+loop-i-init c = (search rules, cells-first 37 _ _ _ _, cells-first 3 _ _ _ _)
+
+pub loop-i-preserved : goal.loop-i-preserved
+loop-i-preserved c = (search rules, search cells-again, search cells-again)
+
+pub returns : goal.returns
+returns c = search both-done

@@ -1,0 +1,7 @@
+-- `mix`: 37 times the sum by doubling it, and the number. Assumes nothing.
+use Rattle.std.proofs.Common.{rules}
+use Rattle.tables.proofs.Sums.{mixing}
+use Rattle.tables.proofs.sum.mix.Goals as goal
+
+pub returns : goal.returns
+returns c = search mixing
