@@ -18,3 +18,4 @@ pub mod Linked
 pub mod Within
 pub mod Finals
 pub mod Once
+pub mod SeedsLoop

@@ -4,4 +4,4 @@ use Rattle.exec.proofs.Turns.{jumps-by}
 use Rattle.exec.proofs.step.jumped.Goals as goal
 
 pub returns : goal.returns
-returns c = search jumps-by
+returns g c = rw (← c.requires.0) (search jumps-by)

@@ -8,6 +8,7 @@ use Rattle.exec.specs.Modes.{mode_of}
 use Rattle.exec.proofs.Decides.{does-halts, halts-key, plain-low, plain-mid, plain-high, trades-halts, trades-plain}
 use Rattle.exec.proofs.Turns.{steps-ready, steps-dups, steps-deepens, steps-pushes, on_value, on-zero, on-pc, on-dup, on-swap, on_and, on-add, on-plain, ends-halts, leaps-jump, leaps-jumpi, on-lands, ends-lands}
 use Rattle.exec.proofs.step.step.Goals as goal
+use Rattle.exec.proofs.step.step.Goals.{in_default-via-then-op-lt95, in_default-via-else-op-lt95+else-op-lt100+then-op-lt128, in_default-via-else-op-lt95+else-op-lt100+else-op-lt128+else-op-lt144+else-op-lt160+then-op-lt253, in-0-1, in_default+else-op-lt95+else-op-lt100+else-op-lt128+else-op-lt144+else-op-lt160+else-op-lt253}
 
 pub push_zero-requires : goal.push_zero-requires
 push_zero-requires c = search steps-ready
@@ -22,10 +23,10 @@ pub add-requires : goal.add-requires
 add-requires c = search steps-ready
 
 pub jumped-requires : goal.jumped-requires
-jumped-requires c = record { ready = search steps-ready; near = search rules }
+jumped-requires c = (search rules, search rules)
 
 pub jumped-requires-in-87 : goal.jumped-requires-in-87
-jumped-requires-in-87 c = record { ready = search steps-ready; near = search rules }
+jumped-requires-in-87 c = (search rules, search rules)
 
 pub returns-then-pc-start : goal.returns-then-pc-start
 returns-then-pc-start c = search on-lands
@@ -40,11 +41,20 @@ pub swapped-requires : goal.swapped-requires
 swapped-requires c = search steps-deepens
 
 pub trade-requires : goal.trade-requires
-trade-requires c = let d = ⊎_elim {C = does (mode_of c.args.mode) c.args.op ≡ plain} (λ x. search plain-low) (λ x. ⊎_elim (λ y. search plain-mid) (λ y. search plain-high) x) c.if-op-lt95.branch in
+trade-requires c =
+    let d : does (mode_of c.args.mode) c.args.op ≡ plain = elim c.in_default.branch [
+      in_default-via-then-op-lt95 w ↦ search plain-low
+    | in_default-via-else-op-lt95+else-op-lt100+then-op-lt128 w ↦ search plain-mid
+    | in_default-via-else-op-lt95+else-op-lt100+else-op-lt128+else-op-lt144+else-op-lt160+then-op-lt253 w ↦ search plain-high
+    ] in
     record { ready = search steps-ready; one = (trades-plain _ _ (omega arith) d).0 }
 
 pub trade-requires-in-0 : goal.trade-requires-in-0
-trade-requires-in-0 c = let d = ⊎_elim {C = does (mode_of c.args.mode) c.args.op ≡ halts} (λ x. search halts-key) (λ x. search (does-halts, arith)) c.in-95.branch in
+trade-requires-in-0 c =
+    let d : does (mode_of c.args.mode) c.args.op ≡ halts = elim c.in-0-1.branch [
+      in-0-1 w ↦ search halts-key
+    | in_default+else-op-lt95+else-op-lt100+else-op-lt128+else-op-lt144+else-op-lt160+else-op-lt253 w ↦ search (does-halts, arith)
+    ] in
     record { ready = search steps-ready; one = (trades-halts _ _ (omega arith) d).0 }
 
 pub returns-in-95 : goal.returns-in-95
@@ -78,9 +88,18 @@ pub returns-in-144-to-159 : goal.returns-in-144-to-159
 returns-in-144-to-159 c = search on-swap
 
 pub returns-in_default : goal.returns-in_default
-returns-in_default c = let d = ⊎_elim {C = does (mode_of c.args.mode) c.args.op ≡ plain} (λ x. search plain-low) (λ x. ⊎_elim (λ y. search plain-mid) (λ y. search plain-high) x) c.if-op-lt95.branch in
+returns-in_default c =
+    let d : does (mode_of c.args.mode) c.args.op ≡ plain = elim c.in_default.branch [
+      in_default-via-then-op-lt95 w ↦ search plain-low
+    | in_default-via-else-op-lt95+else-op-lt100+then-op-lt128 w ↦ search plain-mid
+    | in_default-via-else-op-lt95+else-op-lt100+else-op-lt128+else-op-lt144+else-op-lt160+then-op-lt253 w ↦ search plain-high
+    ] in
     search on-plain
 
 pub returns-in-0 : goal.returns-in-0
-returns-in-0 c = let d = ⊎_elim {C = does (mode_of c.args.mode) c.args.op ≡ halts} (λ x. search halts-key) (λ x. search (does-halts, arith)) c.in-95.branch in
+returns-in-0 c =
+    let d : does (mode_of c.args.mode) c.args.op ≡ halts = elim c.in-0-1.branch [
+      in-0-1 w ↦ search halts-key
+    | in_default+else-op-lt95+else-op-lt100+else-op-lt128+else-op-lt144+else-op-lt160+else-op-lt253 w ↦ search (does-halts, arith)
+    ] in
     search ends-halts

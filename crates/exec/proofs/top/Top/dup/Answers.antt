@@ -4,4 +4,4 @@ use Rattle.exec.proofs.Working.{becomes-read}
 use Rattle.exec.proofs.top.Top.dup.Goals as goal
 
 pub returns : goal.returns
-returns c = ?
+returns g c = rw (← c.requires.0) (search becomes-read)

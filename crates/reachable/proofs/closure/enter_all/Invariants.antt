@@ -1,0 +1,13 @@
+-- `enter_all`: the seeds are taken, one after another. Assumes nothing.
+use Rattle.reachable.proofs.SeedsLoop.{Taking, take-start, take-going, take-turn, take_done}
+use Prim.Native.Nat.{◌-◌}
+use native.Mathlib.Omega.{arith}
+use lib.ListN.{length}
+use borrow.Author.Rules.{rules}
+use Rattle.reachable.proofs.closure.enter_all.Given as goal
+
+abbrev pub invariant-loop-i : goal.invariant-loop-i
+invariant-loop-i l = Taking l.size l.initial.w l.seeds l.when l.i l.w l.count
+
+abbrev pub decreases-loop-i : goal.decreases-loop-i
+decreases-loop-i l = length l.seeds - l.i

@@ -1,0 +1,16 @@
+-- `link`: the rows from i on are linked. Assumes nothing.
+use borrow.Author.Rules.{rules}
+use Rattle.reachable.proofs.Chaining.{Linking, link_start, link-room, link_row, link-few, link-turn, link-done}
+use Rattle.reachable.proofs.link.link.Goals as goal
+
+pub loop-row-init : goal.loop-row-init
+loop-row-init c = search link_start
+
+pub link_row-requires : goal.link_row-requires
+link_row-requires c = (search link-room, (search link_row, (search rules, search link-few)))
+
+pub loop-row-preserved : goal.loop-row-preserved
+loop-row-preserved c = search link-turn
+
+pub returns : goal.returns
+returns c = search link-done

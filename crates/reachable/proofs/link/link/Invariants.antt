@@ -1,0 +1,10 @@
+-- `link`: the rows from i on are linked. Assumes nothing.
+use borrow.Author.Rules.{rules}
+use Rattle.reachable.proofs.Chaining.{Linking, link_start, link-room, link_row, link-few, link-turn, link-done}
+use Rattle.reachable.proofs.link.link.Given as goal
+
+abbrev pub invariant-loop-row : goal.invariant-loop-row
+invariant-loop-row l = Linking l.size l.rows l.by l.initial.w l.initial.r l.w l.r l.row
+
+abbrev pub decreases-loop-row : goal.decreases-loop-row
+decreases-loop-row l = l.row

@@ -1,0 +1,14 @@
+-- `follow_from`: what waits is followed, until nothing waits, as `expand` does. Assumes nothing.
+use Prim.Native.Nat.{◌+◌, ◌-◌, ◌*◌}
+use lib.ListN.{length}
+use borrow.Author.Rules.{rules}
+use Rattle.reachable.specs.Marks.{flagged}
+use Rattle.reachable.proofs.Pruned.{Going-on, prune-start, prune-fits, prune-going, prune-turn, prune-done}
+use Rattle.reachable.proofs.Spreading.{turn-few, turn-less}
+use Rattle.reachable.proofs.pruning.follow_from.Given as goal
+
+abbrev pub invariant-loop-count : goal.invariant-loop-count
+invariant-loop-count l = Going-on l.size l.rows l.r l.initial.w l.w l.count l.flags
+
+abbrev pub decreases-loop-count : goal.decreases-loop-count
+decreases-loop-count l = 2 * (l.size + 1 - length (flagged l.w l.size)) + l.count
