@@ -5,3 +5,7 @@ pub mod Slots
 pub mod Chains
 pub mod Knows
 pub mod Once
+pub mod Settling
+pub mod Starts
+pub mod PrepareLoop
+pub mod Ends

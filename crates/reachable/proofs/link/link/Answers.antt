@@ -7,7 +7,7 @@ pub loop-row-init : goal.loop-row-init
 loop-row-init c = search link_start
 
 pub link_row-requires : goal.link_row-requires
-link_row-requires c = (search link-room, (search link_row, (search rules, search link-few)))
+link_row-requires c = record { room = search link-room; edge_row = search link_row; key = search rules; row_bound = search link-few }
 
 pub loop-row-preserved : goal.loop-row-preserved
 loop-row-preserved c = search link-turn

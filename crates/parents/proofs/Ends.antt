@@ -29,7 +29,7 @@ use Rattle.parents.specs.Rows.{turns_of, first_to, own_of, links_of, nodes_here,
 use Rattle.parents.specs.Promises.{Lent, LentStarts, Prepared}
 use Rattle.parents.proofs.Goals.{Goes, run-goes}
 use Rattle.parents.proofs.Slots.{own, first, links, entry, slot_is, own-tag, own-end, own-type}
-use Rattle.parents.proofs.prepare.Proof.PrepareLoop.{Pass, Walk, walk_over, node_at, block_of, nodes-split, nodes-end, good-within}
+use Rattle.parents.proofs.PrepareLoop.{Pass, Walk, walk_over, node_at, block_of, nodes-split, nodes-end, good-within}
 use Rattle.parents.proofs.Chains.{small-parents, shape, Entered, entered-later, more-takers, more-parents}
 
 -- a part of the row, and the part behind it

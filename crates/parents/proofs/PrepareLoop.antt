@@ -35,8 +35,8 @@ use Rattle.parents.specs.Rows.{own_bytes, link_bytes, taker_in, edge_to, first_t
 use Rattle.parents.specs.Writes.{link_sides, place, many_past, goes_at}
 use Rattle.parents.specs.Promises.{Lent, LentStarts, Number, Beside, Sides, Wrote, Settles, Settled, PreparesRow, PreparedRow}
 use Rattle.parents.proofs.Slots.{own, first, links, entry, own-type, Rows, rows-ran, rows_as, rows-sides, rows-placed}
-use Rattle.parents.proofs.prepare.Proof.Starts.{Last, last-start, no_start, starts_none}
-use Rattle.parents.proofs.prepare.Proof.Settling.{none-own, none-links, slot-zero, no-first, no-entry, block-own, block-links, looks, settles}
+use Rattle.parents.proofs.Starts.{Last, last-start, no_start, starts_none}
+use Rattle.parents.proofs.Settling.{none-own, none-links, slot-zero, no-first, no-entry, block-own, block-links, looks, settles}
 
 -- the block that starts at an address, with its own run
 abbrev pub node_at : ℕ → List ℕ → List ℕ → ℕ → Node
