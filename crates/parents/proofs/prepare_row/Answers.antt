@@ -6,10 +6,11 @@ use borrow.Author.Rules.{rules}
 use Rattle.layout.specs.Rows.{type_at}
 use Rattle.parents.specs.Writes.{link_sides}
 use Rattle.parents.specs.Promises.{Sides, Wrote, Settled, PreparesRow, PreparedRow}
+use Rattle.parents.proofs.prepare_row.Goals as goal
+
 module _ {mode : ℕ} {code w : List ℕ} {end a many : ℕ} (p : PreparesRow mode code w end a many) where
   row-sides : {v : List ℕ} {r : ℕ} → Settled mode code w end a many v r → Sides v a
   row-sides {v} {r} s = p.sides v r s
-use Rattle.parents.proofs.prepare_row.Goals as goal
 
   row-both : {v w' : List ℕ} {r : ℕ} → Settled mode code w end a many v r → Wrote v w' (link_sides v a (type_at v a)) → PreparedRow mode code w end a many w' r
   row-both {v} s d = record { between = v; settled = s; linked = d; kept = d.kept ∙ s.kept }
