@@ -14,3 +14,4 @@ pub mod Helds
 pub mod Takes
 pub mod Lands
 pub mod Once
+pub mod Meets

@@ -1,0 +1,10 @@
+-- `uncount`: the counts are those of the addresses left. Assumes nothing.
+use borrow.Author.Rules.{rules}
+use Rattle.steps.proofs.Counting.{Along, uncount-first, uncount-room, uncount-some, uncount-turn, uncount-done}
+use Rattle.steps.proofs.path.uncount.Given as goal
+
+abbrev pub invariant-loop-i : goal.invariant-loop-i
+invariant-loop-i l = Along l.size l.initial.w l.p l.from l.to l.i l.w
+
+abbrev pub decreases-loop-i : goal.decreases-loop-i
+decreases-loop-i l = l.i
