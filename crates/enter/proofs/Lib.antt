@@ -3,3 +3,9 @@ pub mod LevelKept
 pub mod TurnKept
 pub mod PathEnds
 pub mod Once
+pub mod ArriveWays
+pub mod StepsTwoAndThree
+pub mod EntryBySymbol
+pub mod StepsFourToSix
+pub mod FollowWays
+pub mod Skipping

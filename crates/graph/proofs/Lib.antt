@@ -8,3 +8,4 @@ pub mod Sides
 pub mod Asking
 pub mod Fitting
 pub mod Once
+pub mod Finished

@@ -30,7 +30,7 @@ use Rattle.steps.specs.declared.state_of.Taken.{Taken}
 use Rattle.steps.specs.declared.meet.Meeting.{Meeting}
 use Rattle.steps.proofs.Sound.{sound-read}
 use Rattle.enter.proofs.TurnKept.{fits-within, fits-taken, fits-met}
-use Rattle.enter.proofs.enter.follow.Proof.StepsFourToSix.{last-of, follow-short, follow-met, follow-full, follow-opens, follow-ends}
+use Rattle.enter.proofs.StepsFourToSix.{last-of, follow-short, follow-met, follow-full, follow-opens, follow-ends}
 
 module _ {code : List ℕ} {k : Plan} {start : ℕ} {l : Level} {at np : ℕ} {w p s t r q : List ℕ} {o : Run} (h : Following code k start l at np (buffers w p s t r q) o)
     {w' s' : List ℕ} {x : Taken} (a : Took code w s k o.counts l (stack_cursor k.mode code r s k.rooms.s at) w' s' x) where

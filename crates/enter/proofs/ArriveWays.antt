@@ -68,6 +68,7 @@ module _ {p : List ℕ} {np start : ℕ} {k : Plan} {m : tables.Mem} {l : Level}
       new-at m.s (record { start = start; to = t; from = x.from; cells = x.cells; energy = o.energy }) b.ready.tables.few (b.lands t g)
   entry_found b (constant v) g at_constant = new-nowhere m.s (no_entry start o.energy) refl
   entry_found b (other pc) g at_other = new-nowhere m.s (no_entry start o.energy) refl
+  entry_found b (before _) {z = z} g x4 = elim x4 [ ]
 
   -- anything but a Before has one
   pub arrived-ended : {m' : tables.Mem} {a : Reply} {e : Opening} {y : Entry} → Arriving p np k m start l x o → OneOf but-before (tag_of the_type x.symbol)

@@ -1,0 +1,11 @@
+-- `merge`: the blocks of the first i records are merged. The measure is the records left. Assumes nothing.
+use Prim.Native.Nat.{◌-◌}
+use borrow.Author.Rules.{rules}
+use Rattle.graph.proofs.Merging.{Merging, merge-start, merge-room, merge_in, merge-start-of, merge-turn, merge-done}
+use Rattle.graph.proofs.merge.merge.Given as goal
+
+abbrev pub invariant-loop-row : goal.invariant-loop-row
+invariant-loop-row l = Merging l.size l.records l.r l.initial.w l.w l.row
+
+abbrev pub decreases-loop-row : goal.decreases-loop-row
+decreases-loop-row l = l.records - l.row

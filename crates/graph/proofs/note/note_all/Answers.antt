@@ -1,0 +1,26 @@
+-- `note_all`: the first i records are noted. Assumes nothing.
+use Prim.Native.Nat.{◌-◌}
+use borrow.Author.Rules.{rules}
+use Rattle.graph.proofs.Notes.{Noting, note-start, note-room, note-row, note-turn, note-done}
+use Rattle.graph.proofs.note.note_all.Goals as goal
+
+pub loop-row-init : goal.loop-row-init
+loop-row-init c = search note-start
+
+pub note-requires : goal.note-requires
+note-requires c = record { room = search note-room; starts = search note-row }
+
+pub overflow_add-row : goal.overflow_add-row
+overflow_add-row c = search rules
+
+pub loop-row-smaller : goal.loop-row-smaller
+loop-row-smaller c = search rules
+
+pub loop-row-preserved : goal.loop-row-preserved
+loop-row-preserved c = search note-turn
+
+pub shape_of-w : goal.shape_of-w
+shape_of-w c = search rules
+
+pub returns : goal.returns
+returns c = search note-done
