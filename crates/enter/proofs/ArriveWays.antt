@@ -3,15 +3,12 @@ use mathlib.Core.Path.{◌≡◌, refl, ap, subst, ◌∙◌}
 use Prim.Native.Nat.{ℕ, ◌*◌}
 use native.Mathlib.Omega.{arith}
 use mathlib.Core.List.{List, [], ◌∷◌}
-use types.Run.{OneOf, miss}
-use denote.Enum.Declared.{tag_of}
 use Rattle.spec.specs.Stacks.{Sym, before, constant, jumpdest, other}
 use Rattle.spec.specs.Search.{Found}
 use Rattle.state.specs.Symbols.{sym_of}
 use Rattle.state.specs.Cells.{tag, value, stack_at}
 use Rattle.state.specs.declared.sym.StackSym.TheVariants.{Before, Constant, Jumpdest, Other}
 use Rattle.state.specs.declared.sym.StackSym.{StackSym}
-use Rattle.state.specs.contracts.sym.StackSym.{the_type}
 use Rattle.tables.specs.Tables as tables
 use Rattle.tables.specs.Tables.{new_found, no_entry, enters}
 use Rattle.tables.specs.declared.Entry.{Entry}
@@ -26,12 +23,8 @@ use Rattle.steps.specs.declared.Run.{Run}
 use Rattle.enter.specs.declared.enter.Deeper.{Deeper}
 use Rattle.enter.proofs.PathEnds.{ended-with}
 
--- the tags of what is no Before
-abbrev but-before : List ℕ
-but-before = 1 ∷ 2 ∷ 3 ∷ []
-
-no-before : (c : StackSym) → OneOf but-before (tag_of the_type c) → (n : ℕ) → sym_of c ≡ before n → ⊥
-no-before (Before n) o m h = miss but-before 0 tt o
+no-before : (c : StackSym) → ((n : ℕ) → c ≡ Before n → ⊥) → (n : ℕ) → sym_of c ≡ before n → ⊥
+no-before (Before n) o m h = o n refl
 no-before (Constant v) o m h = omega (arith, ap tag h)
 no-before (Jumpdest t) o m h = omega (arith, ap tag h)
 no-before (Other pc) o m h = omega (arith, ap tag h)
@@ -71,7 +64,7 @@ module _ {p : List ℕ} {np start : ℕ} {k : Plan} {m : tables.Mem} {l : Level}
   entry_found b (before _) {z = z} g x4 = elim x4 [ ]
 
   -- anything but a Before has one
-  pub arrived-ended : {m' : tables.Mem} {a : Reply} {e : Opening} {y : Entry} → Arriving p np k m start l x o → OneOf but-before (tag_of the_type x.symbol)
+  pub arrived-ended : {m' : tables.Mem} {a : Reply} {e : Opening} {y : Entry} → Arriving p np k m start l x o → ((n : ℕ) → x.symbol ≡ Before n → ⊥)
       → y ≡ entry_of start x o.energy (sym_of x.symbol) → Noted p np k m o.counts y.start y.energy (new_found m.s y) m' a → e ≡ ended_with o a l
       → Arrived p np k m start l x o m' e
   arrived-ended {m'} {a} {e} {y} b others i n f =

@@ -11,4 +11,4 @@ pub landed-requires : goal.landed-requires
 landed-requires c = arriving-lands c.requires c.entry_of-entry.ensures
 
 pub returns : goal.returns
-returns c = arrived-ended c.requires c.in-Before.keys2 c.entry_of-entry.ensures c.landed.ensures.noted (ended-in c.landed.ensures c.shut.ensures)
+returns c = arrived-ended c.requires c.in_default.not-Before c.entry_of-entry.ensures c.landed.ensures.noted (ended-in c.landed.ensures c.shut.ensures)

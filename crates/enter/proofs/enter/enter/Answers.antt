@@ -31,4 +31,4 @@ pub returns : goal.returns
 returns c = entered-follows c.requires c.skipped.ensures c.if-skipped.false c.grow-np.ensures c.if-np-eq0.false c.if-level-eq0.false c.follow.ensures
 
 pub shape_of-p-then-level-eq0 : goal.shape_of-p-then-level-eq0
-shape_of-p-then-level-eq0 c = c.grow-np.auto.0
+shape_of-p-then-level-eq0 c = c.grow-np.auto.p

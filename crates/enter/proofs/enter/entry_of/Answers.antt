@@ -5,7 +5,7 @@ use borrow.Author.Rules.{rules}
 use Rattle.enter.proofs.enter.entry_of.Goals as goal
 
 pub returns-in_default : goal.returns-in_default
-returns-in_default c = c.no_entry.ensures ∙ entry-nowhere _ _ _ c.in-Jumpdest.keys2
+returns-in_default c = c.no_entry.ensures ∙ entry-nowhere _ _ _ c.in_default.not-Jumpdest
 
 pub returns : goal.returns
 returns c = search entry-jumpdest

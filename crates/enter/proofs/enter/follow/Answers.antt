@@ -37,10 +37,10 @@ pub arrive-requires : goal.arrive-requires
 arrive-requires c = follow-arriving c.requires c.take_state-taken.ensures c.seen-seen.ensures c.if-taken-ne0.false c.meet-meeting.ensures c.if-meeting.false c.if-meeting-ne0.false c.after.ensures
 
 pub shape_of-w : goal.shape_of-w
-shape_of-w c = c.arrive.kept.0 ∙ c.take_state-taken.ensures.long_w
+shape_of-w c = c.arrive.auto.w ∙ c.take_state-taken.ensures.long_w
 
 pub shape_of-s : goal.shape_of-s
-shape_of-s c = c.arrive.kept.1.1.0 ∙ c.take_state-taken.ensures.long_s
+shape_of-s c = c.arrive.auto.s ∙ c.take_state-taken.ensures.long_s
 
 pub returns : goal.returns
 returns c = followed-arrived c.requires c.take_state-taken.ensures c.seen-seen.ensures c.if-taken-ne0.false c.meet-meeting.ensures c.if-meeting.false c.if-meeting-ne0.false c.after.ensures c.arrive.ensures

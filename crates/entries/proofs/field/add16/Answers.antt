@@ -1,0 +1,7 @@
+-- `add16`: a number, counted or stored. Assumes nothing.
+use borrow.Author.Rules.{rules}
+use Rattle.entries.proofs.Puts.{counted-number}
+use Rattle.entries.proofs.field.add16.Goals as goal
+
+pub returns-then-out-end : goal.returns-then-out-end
+returns-then-out-end c = search (counted-number 2)

@@ -1,0 +1,7 @@
+-- `add_goal`: a number, and a path. Assumes nothing.
+use borrow.Author.Rules.{rules}
+use Rattle.entries.proofs.Paths.{goal-put}
+use Rattle.entries.proofs.row.add_goal.Goals as goal
+
+pub returns : goal.returns
+returns c = search goal-put

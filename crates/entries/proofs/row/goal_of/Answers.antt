@@ -1,0 +1,10 @@
+-- `goal_of`: the row has its mark, or an address. Assumes nothing.
+use borrow.Author.Rules.{rules}
+use Rattle.entries.proofs.Paths.{goal-none, goal-some}
+use Rattle.entries.proofs.row.goal_of.Goals as goal
+
+pub returns-then-to-eq-NOWHERE : goal.returns-then-to-eq-NOWHERE
+returns-then-to-eq-NOWHERE c = search goal-none
+
+pub returns : goal.returns
+returns c = search goal-some

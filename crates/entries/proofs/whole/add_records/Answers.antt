@@ -1,0 +1,17 @@
+-- `add_records`: the first i are put. Assumes nothing.
+use Rattle.entries.proofs.RecordsLoop.{Recording, record-start, record-row, record-turn, record-done}
+use borrow.Author.Rules.{rules}
+use Prim.Native.Nat.{◌-◌}
+use Rattle.entries.proofs.whole.add_records.Goals as goal
+
+pub loop-row-init : goal.loop-row-init
+loop-row-init c = search record-start
+
+pub add_record-end-requires : goal.add_record-end-requires
+add_record-end-requires c = search record-row
+
+pub loop-row-preserved : goal.loop-row-preserved
+loop-row-preserved c = search record-turn
+
+pub returns : goal.returns
+returns c = search record-done
