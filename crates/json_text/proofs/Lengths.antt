@@ -182,6 +182,7 @@ in-upto : {x : ℕ} (k i : ℕ) → In x (upto i k) → x < i + k
 unfolding upto
 in-upto (suc k) i here = omega arith
 in-upto (suc k) i (there m) = omega (arith, in-upto k (suc i) m)
+in-upto zero i x'' = elim x'' [ ]
 
 pub text-few : {w r q : List ℕ} (n : ℕ) {m : ℕ} → Bytes w → Bytes r → Bytes q → RowsIn r q m → n < 65536
     → length (map_text w r q n m) ≤ 2 + 100 * length (flagged w n) + 23 * m + 6 * end_at r m

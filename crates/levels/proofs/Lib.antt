@@ -2,3 +2,9 @@ pub mod Sequence
 pub mod SixLengths
 pub mod WorkKept
 pub mod Once
+pub mod CountsAlone
+pub mod LevelByParents
+pub mod LevelHalfway
+pub mod LevelLoop
+pub mod ParentAtCursor
+pub mod ParentDeeper

@@ -17,9 +17,9 @@ use Rattle.steps.specs.Plans.{Plan}
 use Rattle.steps.specs.declared.Level.{Level}
 use Rattle.steps.specs.declared.Run.{Run}
 use Rattle.levels.proofs.Sequence.{did-same, did_then}
-use Rattle.levels.proofs.levels.+level_parent.Proof.LevelByParents.{deeper-later}
+use Rattle.levels.proofs.LevelByParents.{deeper-later}
 use Rattle.enter.proofs.LevelKept.{stays-counts, stays_then, stays-less, path-stays, stands-stay, its-counts}
-use Rattle.levels.proofs.levels.+level_parent.Proof.CountsAlone.{fits-recounted, stands-count, stands-uncount}
+use Rattle.levels.proofs.CountsAlone.{fits-recounted, stands-count, stands-uncount}
 
 module _ {code : List ℕ} {k : Plan} {start : ℕ} {l : Level} {at : ℕ} {m : Mem} {o : Run} (pre : Entering code k start l at m o)
     {w₁ p₁ s₁ t₁ r₁ q₁ : List ℕ} {e : Opening} (entered : Entered code k start l at m o (buffers w₁ p₁ s₁ t₁ r₁ q₁) e) where

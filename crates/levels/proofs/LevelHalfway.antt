@@ -30,7 +30,7 @@ use Rattle.steps.specs.declared.Run.{Run}
 use Rattle.steps.proofs.Cursors.{direct-rows}
 use Rattle.steps.proofs.Nexts.{NextLeft, next-left}
 use Rattle.levels.proofs.Sequence.{did-same, did_then, did-stops}
-use Rattle.levels.proofs.levels.+level_parent.Proof.LevelByParents.{trying, onto, trying-passes, trying-next, trying-later, keep-this, keep-not}
+use Rattle.levels.proofs.LevelByParents.{trying, onto, trying-passes, trying-next, trying-later, keep-this, keep-not}
 use Rattle.enter.proofs.LevelKept.{stays_then, path-stays, level-stays}
 
 -- ---- what document 01's level does, for the level l at its opening

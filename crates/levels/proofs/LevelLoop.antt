@@ -27,10 +27,10 @@ use Rattle.steps.proofs.Nexts.{last-addrs, NextLeft}
 use Rattle.steps.proofs.Splits.{inside-at}
 use Rattle.levels.proofs.Sequence.{did_nothing, did-same}
 use Rattle.levels.proofs.SixLengths.{Long, long_same, long-then}
-use Rattle.levels.proofs.levels.+level_parent.Proof.LevelByParents.{trying-none, level-tries}
+use Rattle.levels.proofs.LevelByParents.{trying-none, level-tries}
 use Rattle.enter.proofs.LevelKept.{stays-none, stands-stay, its-counts}
-use Rattle.levels.proofs.levels.+level_parent.Proof.ParentAtCursor.{parental}
-use Rattle.levels.proofs.levels.+level_parent.Proof.LevelHalfway.{those, tried?, unreached, Halfway, half-next, half-live, half-skips, half-passes, half-refused, half-tried}
+use Rattle.levels.proofs.ParentAtCursor.{parental}
+use Rattle.levels.proofs.LevelHalfway.{those, tried?, unreached, Halfway, half-next, half-live, half-skips, half-passes, half-refused, half-tried}
 
 -- it is halfway in every turn that fits
 pub record Going (code : List ℕ) (k : Plan) (start : ℕ) (l : Level) (m₀ : Mem) (o : Run) (b high : ℕ) (m : Mem) (cur : Run) (at : ℕ) : Type 0 where

@@ -1,0 +1,7 @@
+-- `add_named`: a text, and a number. Assumes nothing.
+use borrow.Author.Rules.{rules}
+use Rattle.json_text.proofs.Ways.{named_put}
+use Rattle.json_text.proofs.field.add_named.Goals as goal
+
+pub returns : goal.returns
+returns c = search named_put

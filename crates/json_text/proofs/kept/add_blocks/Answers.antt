@@ -1,0 +1,20 @@
+-- `add_blocks`: those of the entries that are passed are put. Assumes nothing.
+use borrow.Author.Rules.{rules}
+use Prim.Native.Nat.{◌-◌}
+use Rattle.json_text.proofs.Rowed.{Lining, line-start, line-room, line-far, line-tag, line-block, line-turn, line-done}
+use Rattle.json_text.proofs.kept.add_blocks.Goals as goal
+
+pub loop-i-init : goal.loop-i-init
+loop-i-init c = search line-start
+
+pub start_at-start-requires : goal.start_at-start-requires
+start_at-start-requires c = search line-room
+
+pub add_kept-end-requires : goal.add_kept-end-requires
+add_kept-end-requires c = (search line-block, search line-tag, search line-far)
+
+pub loop-i-preserved : goal.loop-i-preserved
+loop-i-preserved c = search line-turn
+
+pub returns : goal.returns
+returns c = search line-done

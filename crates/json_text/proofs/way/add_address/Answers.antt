@@ -1,0 +1,7 @@
+-- `add_address`: a comma, and a number. Assumes nothing.
+use borrow.Author.Rules.{rules}
+use Rattle.json_text.proofs.Ways.{address-put}
+use Rattle.json_text.proofs.way.add_address.Goals as goal
+
+pub returns : goal.returns
+returns c = search address-put

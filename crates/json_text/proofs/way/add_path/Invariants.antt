@@ -1,0 +1,11 @@
+-- `add_path`: i addresses are put. Assumes nothing.
+use borrow.Author.Rules.{rules}
+use Prim.Native.Nat.{◌-◌}
+use Rattle.json_text.proofs.Ways.{Pathing, path-start, path_room, path-turn, path-done}
+use Rattle.json_text.proofs.way.add_path.Given as goal
+
+abbrev pub invariant-loop-i : goal.invariant-loop-i
+invariant-loop-i l = Pathing l.q l.from l.count l.initial.out l.at l.out l.end l.i
+
+abbrev pub decreases-loop-i : goal.decreases-loop-i
+decreases-loop-i l = l.count - l.i
