@@ -3,3 +3,14 @@ pub mod ClosedSet
 pub mod PathOfOne
 pub mod PassedRefused
 pub mod Once
+pub mod RoundLoop
+pub mod AfterSettle
+pub mod RoundsLoop
+pub mod SearchBegins
+pub mod GatherLoop
+pub mod SettleLoop
+pub mod BatchExpands
+pub mod Placing
+pub mod TakerRow
+pub mod TurnBegins
+pub mod TurnDone

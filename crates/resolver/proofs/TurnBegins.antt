@@ -30,7 +30,7 @@ use Rattle.steps.specs.declared.Run.{Run}
 use Rattle.enter.specs.Fits.{Fits, level_of, Stands, prepared_in}
 use Rattle.resolver.specs.Turns.{Idle, begun_with, Places, Placed}
 use Rattle.levels.proofs.WorkKept.{Alike, alike_then, alike-counts, alike-run, counts-run, alike-marks, alike-known, alike-room}
-use Rattle.resolver.proofs.turn.turn.Proof.TakerRow.{Taking}
+use Rattle.resolver.proofs.TakerRow.{Taking}
 use Rattle.resolver.proofs.PathOfOne.{path-one, inside_one}
 
 module _ {code : List ℕ} {k : Plan} {reached : List ℕ} {since : ℕ} {m : Mem} {o : Run} (idle : Idle code k reached since m o) where

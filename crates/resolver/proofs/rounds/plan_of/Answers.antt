@@ -11,33 +11,13 @@ use Rattle.exec.specs.declared.mode.Mode.{Mode}
 use Rattle.tables.specs.declared.Rooms.{Rooms}
 use Rattle.steps.specs.Plans.{plan_in}
 use Rattle.resolver.specs.Turns.{buckets_for, plan_of}
-use Rattle.resolver.proofs.rounds.plan_of.Statement.{statement}
-use Rattle.resolver.proofs.rounds.plan_of.Tie as tie
-
--- The moment that the answer cites, from a later one: it is found by its type.
-abbrev to-entry : tie.Joined1 → tie.Start
-to-entry c = search
-
-abbrev to-if1 : tie.After-buckets-of → tie.Joined1
-to-if1 c = search
+use Rattle.resolver.proofs.rounds.plan_of.Goals as goal
 
 plan-is : (mode : Mode) (size limit many : ℕ) (rooms : Rooms) {shelves number buckets : ℕ} → shelves ≡ min rooms.t 0x10000 → number ≡ mode_of mode → buckets ≡ buckets_for size rooms.r
     → plan_in (size ∷ starts_place size ∷ many ∷ buckets ∷ shelves ∷ limit ∷ rooms.p ∷ rooms.s ∷ rooms.t ∷ rooms.r ∷ rooms.q ∷ number ∷ []) ≡ plan_of mode size limit many rooms
 plan-is mode size limit many rooms e f g = rw (e, f, g)
 
-returns : tie.Need-returns
-returns c =
-    let at-if1 = to-if1 c in
-    let args = (to-entry at-if1).args in
-    let few : at-if1.if1.shelves ≡ min args.rooms.t 0x10000 = ⊎_elim (λ y. omega (arith, y)) (λ y. omega (arith, y)) at-if1.if1.came in
-    plan-is args.mode args.size args.limit args.many args.rooms few c.before.number_of_lem.ensures c.buckets-of.ensures
-
-pub plan-of-spec : {M : Type 1} → statement M
-plan-of-spec =
-    tie.close
-    (tie.spec
-    (λ c κs. search rules)
-    (λ c κs. search rules)
-    (λ c. search rules)
-    (λ c. search rules)
-    returns)
+pub returns : goal.returns
+returns c = let args = c.args in
+    let few : c.if-rooms-lt-MOST_SHELVES.shelves ≡ min args.rooms.t 0x10000 = ⊎_elim (λ y. omega (arith, y)) (λ y. omega (arith, y)) c.if-rooms-lt-MOST_SHELVES.came in
+    plan-is args.mode args.size args.limit args.many args.rooms few c.number_of_lem.ensures c.buckets_of-buckets.ensures

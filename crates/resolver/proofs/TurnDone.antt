@@ -39,8 +39,8 @@ use Rattle.enter.specs.Enters.{refused_with}
 use Rattle.resolver.specs.Turns.{Idle, Passed, begun_with, ended_with, Places, Placed, TurnAsks, Turned}
 use Rattle.levels.proofs.Sequence.{did_then, did-stops, did-same, did-from, did-need, did-short}
 use Rattle.levels.proofs.WorkKept.{Alike, alike-counts, alike-marks, alike-known, alike-room}
-use Rattle.resolver.proofs.turn.turn.Proof.TakerRow.{Taking, taking}
-use Rattle.resolver.proofs.turn.turn.Proof.TurnBegins as begins
+use Rattle.resolver.proofs.TakerRow.{Taking, taking}
+use Rattle.resolver.proofs.TurnBegins as begins
 use Rattle.resolver.proofs.PathOfOne.{inside_one}
 use Rattle.resolver.proofs.PassedRefused.{passed-refused}
 

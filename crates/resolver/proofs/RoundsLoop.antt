@@ -22,7 +22,7 @@ use Rattle.enter.specs.Fits.{prepared_in}
 use Rattle.resolver.specs.Turns.{Idle, Passed, Between, RoundAsks, Rounded, HandsOver, HandedAll, last_since, Rounds}
 use Rattle.steps.specs.Plans.{Plan}
 use Rattle.steps.specs.declared.Run.{Run}
-use Rattle.resolver.proofs.rounds.rounds.Proof.AfterSettle.{renew-settles, renew-flags, renewed}
+use Rattle.resolver.proofs.AfterSettle.{renew-settles, renew-flags, renewed}
 use Rattle.levels.proofs.Sequence.{did_nothing, did-same, did_then, did-stops}
 use Rattle.levels.proofs.SixLengths.{Long, long_same, long-then}
 

@@ -1,0 +1,17 @@
+-- `hand_all`: the destinations from `since` on are expanded, batch after batch. Assumes nothing.
+use Rattle.resolver.proofs.SettleLoop.{Settling, settle-start, settle-hands, settle-turn, settle-done}
+use Prim.Native.Nat.{◌-◌}
+use borrow.Author.Rules.{rules}
+use Rattle.resolver.proofs.settle.hand_all.Goals as goal
+
+pub loop-i-init : goal.loop-i-init
+loop-i-init c = search settle-start
+
+pub hand_over-i-requires : goal.hand_over-i-requires
+hand_over-i-requires c = (search settle-hands, search rules)
+
+pub loop-i-preserved : goal.loop-i-preserved
+loop-i-preserved c = search settle-turn
+
+pub returns : goal.returns
+returns c = search settle-done
