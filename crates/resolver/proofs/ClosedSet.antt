@@ -13,7 +13,7 @@ use Rattle.reachable.specs.Promises.{Closed}
 use Rattle.reachable.proofs.Seeds.{closure-test}
 use Rattle.reachable.proofs.Expanding.{edge-side}
 
-closed-reached : {n x : ℕ} {w : List ℕ} → Closed w n → Reached (row_edges w n) (flagged w n) x → mem x (flagged w n) ≡ true
+closed-reached : {n : ℕ} {w : List ℕ} {x : ℕ} → Closed w n → Reached (row_edges w n) (flagged w n) x → mem x (flagged w n) ≡ true
 closed-reached c (seed h) = h
 closed-reached {n} {w = w} c (along e i p q) = c.sides e.place e.to (closed-reached c p) (edge-side w n i (inl refl))
 

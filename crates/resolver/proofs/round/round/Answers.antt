@@ -22,24 +22,6 @@ is_marked-requires c = round-address c.loop-left.invariant c.loop-left-test.true
 pub turn-cur-requires : goal.turn-cur-requires
 turn-cur-requires c = round-turns c.loop-left.invariant c.loop-left-test.true c.taker_at-start.ensures c.requires c.if-cur-plan.true
 
-pub shape_of-w-then-cur-ne0 : goal.shape_of-w-then-cur-ne0
-shape_of-w-then-cur-ne0 c = c.turn-cur.kept.1.0 ∙ c.loop-left.invariant.long.w
-
-pub shape_of-p-then-cur-ne0 : goal.shape_of-p-then-cur-ne0
-shape_of-p-then-cur-ne0 c = c.turn-cur.kept.1.1.0 ∙ c.loop-left.invariant.long.p
-
-pub shape_of-s-then-cur-ne0 : goal.shape_of-s-then-cur-ne0
-shape_of-s-then-cur-ne0 c = c.turn-cur.kept.1.1.1.0 ∙ c.loop-left.invariant.long.s
-
-pub shape_of-t-then-cur-ne0 : goal.shape_of-t-then-cur-ne0
-shape_of-t-then-cur-ne0 c = c.turn-cur.kept.1.1.1.1.0 ∙ c.loop-left.invariant.long.t
-
-pub shape_of-r-then-cur-ne0 : goal.shape_of-r-then-cur-ne0
-shape_of-r-then-cur-ne0 c = c.turn-cur.kept.1.1.1.1.1.0 ∙ c.loop-left.invariant.long.r
-
-pub shape_of-q-then-cur-ne0 : goal.shape_of-q-then-cur-ne0
-shape_of-q-then-cur-ne0 c = c.turn-cur.kept.1.1.1.1.1.1.0 ∙ c.loop-left.invariant.long.q
-
 pub returns-then-cur-ne0 : goal.returns-then-cur-ne0
 returns-then-cur-ne0 c = round-refused c.loop-left.invariant c.loop-left-test.true c.taker_at-start.ensures c.is_marked.ensures c.if-is_marked.true c.if-cur-plan.true c.turn-cur.ensures c.if-cur-ne0.true
 
@@ -47,9 +29,9 @@ pub loop-left-smaller-else-cur-ne0 : goal.loop-left-smaller-else-cur-ne0
 loop-left-smaller-else-cur-ne0 c = omega (arith, c.loop-left-test.true)
 
 pub loop-left-preserved-else-cur-ne0 : goal.loop-left-preserved-else-cur-ne0
-loop-left-preserved-else-cur-ne0 c = let kept = c.turn-cur.kept in
+loop-left-preserved-else-cur-ne0 c = let kept = c.turn-cur.auto in
     round-goes-on c.loop-left.invariant c.loop-left-test.true c.taker_at-start.ensures c.is_marked.ensures c.if-is_marked.true c.if-cur-plan.true c.turn-cur.ensures c.if-cur-ne0.false c.requires
-    (record { w = kept.1.0; p = kept.1.1.0; s = kept.1.1.1.0; t = kept.1.1.1.1.0; r = kept.1.1.1.1.1.0; q = kept.1.1.1.1.1.1.0 })
+    (record { w = kept.w; p = kept.p; s = kept.s; t = kept.t; r = kept.r; q = kept.q })
 
 pub loop-left-smaller-else-cur-plan : goal.loop-left-smaller-else-cur-plan
 loop-left-smaller-else-cur-plan c = omega (arith, c.loop-left-test.true)
@@ -62,24 +44,6 @@ loop-left-smaller c = omega (arith, c.loop-left-test.true)
 
 pub loop-left-preserved : goal.loop-left-preserved
 loop-left-preserved c = round-skips c.loop-left.invariant c.loop-left-test.true c.taker_at-start.ensures c.is_marked.ensures c.if-is_marked.false
-
-pub shape_of-w : goal.shape_of-w
-shape_of-w c = c.loop-left.invariant.long.w
-
-pub shape_of-p : goal.shape_of-p
-shape_of-p c = c.loop-left.invariant.long.p
-
-pub shape_of-s : goal.shape_of-s
-shape_of-s c = c.loop-left.invariant.long.s
-
-pub shape_of-t : goal.shape_of-t
-shape_of-t c = c.loop-left.invariant.long.t
-
-pub shape_of-r : goal.shape_of-r
-shape_of-r c = c.loop-left.invariant.long.r
-
-pub shape_of-q : goal.shape_of-q
-shape_of-q c = c.loop-left.invariant.long.q
 
 pub returns : goal.returns
 returns c = round-done c.loop-left.invariant c.loop-left-test.false

@@ -12,12 +12,17 @@ use Rattle.tables.specs.declared.Rooms.{Rooms}
 use Rattle.steps.specs.Plans.{plan_in}
 use Rattle.resolver.specs.Turns.{buckets_for, plan_of}
 use Rattle.resolver.proofs.rounds.plan_of.Goals as goal
+use Rattle.resolver.proofs.rounds.plan_of.Goals.{then-rooms-lt-MOST_SHELVES, else-rooms-lt-MOST_SHELVES}
 
 plan-is : (mode : Mode) (size limit many : ℕ) (rooms : Rooms) {shelves number buckets : ℕ} → shelves ≡ min rooms.t 0x10000 → number ≡ mode_of mode → buckets ≡ buckets_for size rooms.r
     → plan_in (size ∷ starts_place size ∷ many ∷ buckets ∷ shelves ∷ limit ∷ rooms.p ∷ rooms.s ∷ rooms.t ∷ rooms.r ∷ rooms.q ∷ number ∷ []) ≡ plan_of mode size limit many rooms
 plan-is mode size limit many rooms e f g = rw (e, f, g)
 
 pub returns : goal.returns
-returns c = let args = c.args in
-    let few : c.if-rooms-lt-MOST_SHELVES.shelves ≡ min args.rooms.t 0x10000 = ⊎_elim (λ y. omega (arith, y)) (λ y. omega (arith, y)) c.if-rooms-lt-MOST_SHELVES.came in
-    plan-is args.mode args.size args.limit args.many args.rooms few c.number_of_lem.ensures c.buckets_of-buckets.ensures
+returns c =
+    let args = c.args in
+    let few : c.if-rooms-lt-MOST_SHELVES.shelves ≡ min args.rooms.t 0x10000 = elim c.if-rooms-lt-MOST_SHELVES.branch [
+      then-rooms-lt-MOST_SHELVES w ↦ omega (arith, w.shelves-is)
+    | else-rooms-lt-MOST_SHELVES w ↦ omega (arith, w.shelves-is)
+    ] in
+    plan-is args.mode args.size args.limit args.many args.rooms few c.number_of.ensures c.buckets_of-buckets.ensures

@@ -19,44 +19,8 @@ hand_all-requires c = search so-far-settles
 pub round-cur-requires : goal.round-cur-requires
 round-cur-requires c = so-far-asks c.loop-left.invariant c.hand_all.ensures
 
-pub shape_of-w-then-cur-ne0 : goal.shape_of-w-then-cur-ne0
-shape_of-w-then-cur-ne0 c = c.round-cur.kept.1.0 ∙ c.hand_all.kept.0 ∙ c.loop-left.invariant.long.w
-
-pub shape_of-p-then-cur-ne0 : goal.shape_of-p-then-cur-ne0
-shape_of-p-then-cur-ne0 c = c.round-cur.kept.1.1.0 ∙ c.loop-left.invariant.long.p
-
-pub shape_of-s-then-cur-ne0 : goal.shape_of-s-then-cur-ne0
-shape_of-s-then-cur-ne0 c = c.round-cur.kept.1.1.1.0 ∙ c.loop-left.invariant.long.s
-
-pub shape_of-t-then-cur-ne0 : goal.shape_of-t-then-cur-ne0
-shape_of-t-then-cur-ne0 c = c.round-cur.kept.1.1.1.1.0 ∙ c.loop-left.invariant.long.t
-
-pub shape_of-r-then-cur-ne0 : goal.shape_of-r-then-cur-ne0
-shape_of-r-then-cur-ne0 c = c.round-cur.kept.1.1.1.1.1.0 ∙ c.loop-left.invariant.long.r
-
-pub shape_of-q-then-cur-ne0 : goal.shape_of-q-then-cur-ne0
-shape_of-q-then-cur-ne0 c = c.round-cur.kept.1.1.1.1.1.1.0 ∙ c.loop-left.invariant.long.q
-
 pub returns-then-cur-ne0 : goal.returns-then-cur-ne0
 returns-then-cur-ne0 c = so-far-short c.loop-left.invariant c.hand_all.ensures c.loop-left-test.true c.if-plan-cur.false c.round-cur.ensures c.if-cur-ne0.true
-
-pub shape_of-w-then-after-records : goal.shape_of-w-then-after-records
-shape_of-w-then-after-records c = c.round-cur.kept.1.0 ∙ c.hand_all.kept.0 ∙ c.loop-left.invariant.long.w
-
-pub shape_of-p-then-after-records : goal.shape_of-p-then-after-records
-shape_of-p-then-after-records c = c.round-cur.kept.1.1.0 ∙ c.loop-left.invariant.long.p
-
-pub shape_of-s-then-after-records : goal.shape_of-s-then-after-records
-shape_of-s-then-after-records c = c.round-cur.kept.1.1.1.0 ∙ c.loop-left.invariant.long.s
-
-pub shape_of-t-then-after-records : goal.shape_of-t-then-after-records
-shape_of-t-then-after-records c = c.round-cur.kept.1.1.1.1.0 ∙ c.loop-left.invariant.long.t
-
-pub shape_of-r-then-after-records : goal.shape_of-r-then-after-records
-shape_of-r-then-after-records c = c.round-cur.kept.1.1.1.1.1.0 ∙ c.loop-left.invariant.long.r
-
-pub shape_of-q-then-after-records : goal.shape_of-q-then-after-records
-shape_of-q-then-after-records c = c.round-cur.kept.1.1.1.1.1.1.0 ∙ c.loop-left.invariant.long.q
 
 pub returns-then-after-records : goal.returns-then-after-records
 returns-then-after-records c = so_far_last c.loop-left.invariant c.hand_all.ensures c.loop-left-test.true c.if-plan-cur.false c.round-cur.ensures c.if-cur-ne0.false c.if-after-records.true
@@ -67,7 +31,7 @@ loop-left-smaller c = omega (arith, c.loop-left-test.true)
 pub loop-left-preserved : goal.loop-left-preserved
 loop-left-preserved c = let d = c.round-cur in
     so-far-next c.loop-left.invariant c.hand_all.ensures c.loop-left-test.true c.if-plan-cur.false c.round-cur.ensures c.if-cur-ne0.false c.if-after-records.false
-    (record { w = d.kept.1.0; p = d.kept.1.1.0; s = d.kept.1.1.1.0; t = d.kept.1.1.1.1.0; r = d.kept.1.1.1.1.1.0; q = d.kept.1.1.1.1.1.1.0 })
+    (record { w = d.auto.w; p = d.auto.p; s = d.auto.s; t = d.auto.t; r = d.auto.r; q = d.auto.q })
 
 pub returns : goal.returns
 returns c = search so-far-done

@@ -8,7 +8,7 @@ use Rattle.resolver.proofs.SearchBegins.{known-within, search-room, search-heads
 use Rattle.resolver.proofs.rounds.search.Goals as goal
 
 pub reach-requires : goal.reach-requires
-reach-requires c = (search search-room, search known-within)
+reach-requires c = record { room = search search-room; sides_within = search known-within }
 
 pub overflow_add-size : goal.overflow_add-size
 overflow_add-size c = record { fits = omega (arith, c.requires.short) }
@@ -34,16 +34,13 @@ overflow_add-plan-2 c = let pre = c.requires in
     record { fits = omega (arith, (search-heads c.plan_of-plan.ensures pre).1, pre.short) }
 
 pub wipe_part-requires : goal.wipe_part-requires
-wipe_part-requires c = omega (arith, (search-heads c.plan_of-plan.ensures c.requires).0, c.reach.auto.0)
+wipe_part-requires c = omega (arith, (search-heads c.plan_of-plan.ensures c.requires).0, c.reach.auto.w)
 
 pub begin_rows-requires : goal.begin_rows-requires
 begin_rows-requires c = search-begins _ (ap (λ (x : Plan). x.shelves) c.plan_of-plan.ensures) (ap (λ (x : Rooms). x.t) c.rooms_of.ensures)
 
 pub rounds-requires : goal.rounds-requires
 rounds-requires c = search-asks c.rooms_of.ensures c.plan_of-plan.ensures c.requires c.reach.ensures c.wipe_part.ensures c.begin_rows.ensures c.begin-going.ensures
-
-pub shape_of-w : goal.shape_of-w
-shape_of-w c = c.rounds.kept.1.0 ∙ c.wipe_part.kept.0 ∙ c.reach.auto.0
 
 pub returns : goal.returns
 returns c = search-done c.rooms_of.ensures c.plan_of-plan.ensures c.requires c.reach.ensures c.wipe_part.ensures c.begin_rows.ensures c.begin-going.ensures c.rounds.ensures

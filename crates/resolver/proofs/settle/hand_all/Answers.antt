@@ -8,7 +8,7 @@ pub loop-i-init : goal.loop-i-init
 loop-i-init c = search settle-start
 
 pub hand_over-i-requires : goal.hand_over-i-requires
-hand_over-i-requires c = (search settle-hands, search rules)
+hand_over-i-requires c = record { hands_over = search settle-hands; from_lt_records = search rules }
 
 pub loop-i-preserved : goal.loop-i-preserved
 loop-i-preserved c = search settle-turn

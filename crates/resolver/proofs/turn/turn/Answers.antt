@@ -22,41 +22,20 @@ pub first_level-first-requires : goal.first_level-first-requires
 first_level-first-requires c = turn-places c.requires c.if-plan-eq0.false c.own_state-own.ensures c.if-plan-counts.false
 
 pub level-requires : goal.level-requires
-level-requires c = turn-opens c.requires c.if-plan-eq0.false c.own_state-own.ensures c.if-plan-counts.false c.first_level-first.ensures (ap run_in c.Numbers-of.ensures ∙ c.begun.ensures)
-
-pub shape_of-w-then-d-ne0 : goal.shape_of-w-then-d-ne0
-shape_of-w-then-d-ne0 c = c.level.kept.1.0 ∙ c.first_level-first.ensures.counted.only.long ∙ c.own_state-own.auto.1.0
-
-pub shape_of-p-then-d-ne0 : goal.shape_of-p-then-d-ne0
-shape_of-p-then-d-ne0 c = c.level.kept.1.1.0 ∙ c.first_level-first.ensures.put.kept
-
-pub shape_of-s-then-d-ne0 : goal.shape_of-s-then-d-ne0
-shape_of-s-then-d-ne0 c = c.level.kept.1.1.1.0 ∙ c.first_level-first.ensures.copied.kept
+level-requires c = turn-opens c.requires c.if-plan-eq0.false c.own_state-own.ensures c.if-plan-counts.false c.first_level-first.ensures (ap run_in c.numbers_of-run.ensures ∙ c.begun.ensures)
 
 pub returns-then-d-ne0 : goal.returns-then-d-ne0
 returns-then-d-ne0 c = turn-refused
-    (leveling c.if-plan-eq0.false c.own_state-own.ensures c.if-plan-counts.false c.first_level-first.ensures (ap run_in c.Numbers-of.ensures ∙ c.begun.ensures) c.level.ensures c.run_of-d.ensures) c.if-d-ne0.true
+    (leveling c.if-plan-eq0.false c.own_state-own.ensures c.if-plan-counts.false c.first_level-first.ensures (ap run_in c.numbers_of-run.ensures ∙ c.begun.ensures) c.level.ensures c.run_of-d.ensures) c.if-d-ne0.true
 
 pub uncount-requires : goal.uncount-requires
 uncount-requires c = turn-uncounts
-    (leveling c.if-plan-eq0.false c.own_state-own.ensures c.if-plan-counts.false c.first_level-first.ensures (ap run_in c.Numbers-of.ensures ∙ c.begun.ensures) c.level.ensures c.run_of-d.ensures) c.requires c.if-d-ne0.false
+    (leveling c.if-plan-eq0.false c.own_state-own.ensures c.if-plan-counts.false c.first_level-first.ensures (ap run_in c.numbers_of-run.ensures ∙ c.begun.ensures) c.level.ensures c.run_of-d.ensures) c.requires c.if-d-ne0.false
 
 pub forget-requires : goal.forget-requires
 forget-requires c = turn-forgets
-    (leveling c.if-plan-eq0.false c.own_state-own.ensures c.if-plan-counts.false c.first_level-first.ensures (ap run_in c.Numbers-of.ensures ∙ c.begun.ensures) c.level.ensures c.run_of-d.ensures) c.requires c.if-d-ne0.false
-
-pub shape_of-w : goal.shape_of-w
-shape_of-w c = c.uncount.ensures.only.long ∙ c.level.kept.1.0 ∙ c.first_level-first.ensures.counted.only.long ∙ c.own_state-own.auto.1.0
-
-pub shape_of-p : goal.shape_of-p
-shape_of-p c = c.level.kept.1.1.0 ∙ c.first_level-first.ensures.put.kept
-
-pub shape_of-s : goal.shape_of-s
-shape_of-s c = c.level.kept.1.1.1.0 ∙ c.first_level-first.ensures.copied.kept
-
-pub shape_of-t : goal.shape_of-t
-shape_of-t c = c.forget.auto.0 ∙ c.level.auto.1.1.1.1.0
+    (leveling c.if-plan-eq0.false c.own_state-own.ensures c.if-plan-counts.false c.first_level-first.ensures (ap run_in c.numbers_of-run.ensures ∙ c.begun.ensures) c.level.ensures c.run_of-d.ensures) c.requires c.if-d-ne0.false
 
 pub returns : goal.returns
 returns c = turn-done
-    (leveling c.if-plan-eq0.false c.own_state-own.ensures c.if-plan-counts.false c.first_level-first.ensures (ap run_in c.Numbers-of.ensures ∙ c.begun.ensures) c.level.ensures c.run_of-d.ensures) c.if-d-ne0.false c.uncount.ensures c.forget.ensures c.ended.ensures
+    (leveling c.if-plan-eq0.false c.own_state-own.ensures c.if-plan-counts.false c.first_level-first.ensures (ap run_in c.numbers_of-run.ensures ∙ c.begun.ensures) c.level.ensures c.run_of-d.ensures) c.if-d-ne0.false c.uncount.ensures c.forget.ensures c.ended.ensures
