@@ -56,3 +56,8 @@ module _ (b : ℕ) where
 
   pub no-push-above : 0x80 ≤ b → false ≡ ltb 0 (argument b)
   no-push-above h = sym (le-ltb 0 (argument b) (omega (arith, argument-above h)))
+
+-- the ways out of argument_of, and those of is_push
+pub ruleset argument_ways = (has-none-below, has_push, has-none-above)
+
+pub ruleset push_ways = (push-is, no-push-below, no-push-above)

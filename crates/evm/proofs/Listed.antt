@@ -1,17 +1,19 @@
 -- Document 01's list of taken and given, at the bytes that an arm of words_of is for: one test, computed at each of them. Assumes nothing.
-use mathlib.Core.Path.{◌≡◌, refl, sym, ◌∙◌}
+use mathlib.Core.Path.{◌≡◌, refl, sym, ap, ◌∙◌}
 use mathlib.Core.Logic.{⊎_elim}
-use mathlib.Core.Bool.{Bool, true, false, ◌||◌, beq}
+use mathlib.Core.Bool.{Bool, true, false, not, ◌||◌, beq}
 use mathlib.Core.List.{List, [], ◌∷◌}
-use Prim.Native.Nat.{ℕ, suc, ◌+◌, ◌≤◌, ◌<◌}
+use Prim.Native.Nat.{ℕ, suc, ◌+◌, ◌-◌, ◌≤◌, ◌<◌}
+use native.Mathlib.Omega.{arith}
 use lib.ListN.{get_or}
 use lib.Dec.{T, leb, eqb, leb→le, eqb→eq}
+use borrow.Author.Tests.{ne_eqb}
 use mir.Facts.{or_yes}
 use mir.Val.{has_key}
 use types.Run.{OneOf, hit}
 use Rattle.spec.specs.Lists.{if}
 use Rattle.spec.specs.Opcodes.{argument, row}
-use Rattle.evm.specs.Rows.{RowIs, SizeIs, taken_in, given_in, known_in, WordsAre}
+use Rattle.evm.specs.Rows.{RowIs, SizeIs, taken_in, given_in, known_in, WordsAre, each}
 use Rattle.evm.proofs.Table.{◌both◌, left, right, each_of, each_at, every, every-at, zero-below}
 
 beq→eq : (a b : Bool) → T (beq a b) → a ≡ b
@@ -93,6 +95,24 @@ named-or w k = among named k || fits (w k) k
 pub ranged : (w : ℕ → ℕ) (a n : ℕ) → T (every (named-or w) a n) → {x r : ℕ} → Others (Unit {0}) named x → a ≤ x → x < a + n → r ≡ w x → WordsAre x r
 unfolding named-or
 ranged w a n t {x} o h g e = rw e (words_are (w x) x (or_else (among named x) (fits (w x) x) (every-at (named-or w) n a x t h g) (unnamed (Unit {0}) named x o)))
+
+-- ---- LOGk, whose arm has no answer: that would go by the name of its bytes
+
+module _ (x : ℕ) (h : 0xA0 ≤ x) (g : x < 0xA5) where
+  log : WordsAre x (each (x - 0xA0 + 2) 0)
+  unfolding every row if ◌both◌
+  log = within (λ k. each (k - 0xA0 + 2) 0) 0xA0 5 tt h g refl
+
+  pub log_taken : (row x).taken ≡ x - 0xA0 + 2
+  log_taken = omega (arith, log.taken)
+
+  pub log_given : (row x).given ≡ 0
+  log_given = omega (arith, log.given)
+
+  pub log_known : (row x).known ≡ true
+  log_known = sym log.known ∙ ap not (let n : each (x - 0xA0 + 2) 0 ≡ 1024 → ⊥ = λ e. omega arith in ne_eqb (each (x - 0xA0 + 2) 0) 1024 n)
+
+pub ruleset log_row = (log_taken, log_given, log_known)
 
 -- ---- the whole row
 

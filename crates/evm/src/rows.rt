@@ -39,6 +39,7 @@ pub fn size_of(op: u8) -> usize
 }
 
 // The bytes of code after the instruction's own that belong to it: k of PUSHk, and none of another.
+#[tactic(auto, using(crate::proofs::Arguments::argument_ways))]
 fn argument_of(op: u8) -> usize
     ensures { ArgumentIs op result }
 {
@@ -49,6 +50,7 @@ fn argument_of(op: u8) -> usize
 }
 
 // "Given as taken/given, bytes in hex", in the document's order. "Every other byte is unknown."
+#[tactic(auto, using(crate::proofs::Listed::log_row))]
 fn words_of(op: u8) -> usize
     ensures { WordsAre op result }
 {

@@ -43,6 +43,7 @@ pub fn step_at(code: &[u8], at: usize) -> Step
 }
 
 // Is it PUSH1 to PUSH32, of which alone bytes of code after their own belong to the instruction?
+#[tactic(auto, using(crate::proofs::Arguments::push_ways))]
 fn is_push(op: u8) -> bool
     ensures { result ≡ ltb 0 (argument op) }
 {

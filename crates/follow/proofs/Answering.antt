@@ -1,8 +1,8 @@
 -- The follower's answers and refusals. Assumes nothing.
-use Rattle.std.proofs.Common.{◌≡◌, ℕ, suc, ◌+◌, ◌*◌, ◌/◌, ◌%◌, ◌^◌, ◌<◌, ◌≤◌, eqb, leb, List, ◌++◌, length, take, drop, replicate, sym, refl, ap, ◌∙◌, subst, ap₂, arith, length-append, length-drop, drop_at, eq-eqb, ne_eqb, le-leb}
+use Rattle.std.proofs.Common.{◌≡◌, ℕ, suc, ◌+◌, ◌*◌, ◌/◌, ◌%◌, ◌^◌, ◌<◌, ◌≤◌, eqb, leb, List, ◌++◌, length, drop, replicate, sym, refl, ap, ◌∙◌, subst, arith, drop_at, eq-eqb, ne_eqb, le-leb}
 use lib.ListN.{length-replicate}
 use borrow.Author.Tests.{lt-leb}
-use Rattle.spec.specs.Lists.{if, total}
+use Rattle.spec.specs.Lists.{total}
 use Rattle.spec.specs.Ending.{Final}
 use Rattle.spec.specs.Entries.{Map}
 use Rattle.spec.specs.Reader.{Reading as Said, holds, bad, read}
@@ -15,7 +15,7 @@ use Rattle.lent.specs.Bytes.{patch, Stored}
 use Rattle.reader.specs.Scanning.{reading_of}
 use Rattle.reader.specs.Walks.{Walking}
 use Rattle.reader.specs.declared.scan.Reading.{Reading}
-use Rattle.reader.proofs.Walked.{begins, begun}
+use Rattle.reader.proofs.Walked.{begun}
 use Rattle.follow.specs.Blocks.{finals_at}
 use Rattle.follow.specs.Finding.{slots_of, Fitting, room_in, Ready, Index, Filled}
 use Rattle.follow.specs.Walking.{Zeroed, Walked}

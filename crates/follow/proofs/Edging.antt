@@ -1,9 +1,8 @@
 -- The index of edges: what stands there is right, and what is found there is what stands there. Assumes nothing.
-use Rattle.std.proofs.Common.{◌≡◌, ℕ, ◌+◌, ◌-◌, ◌*◌, ◌/◌, ◌%◌, ◌^◌, ◌<◌, ◌≤◌, Bool, true, false, ◌&&◌, eqb, List, ◌∷◌, ◌++◌, length, sym, refl, ap, ◌∙◌, subst, mod-lt, arith, w64, Fits, eq-eqb, ne_eqb, eqb-true}
+use Rattle.std.proofs.Common.{◌≡◌, ℕ, ◌+◌, ◌-◌, ◌*◌, ◌/◌, ◌%◌, ◌^◌, ◌<◌, ◌≤◌, Bool, true, false, ◌&&◌, eqb, List, length, sym, refl, ap, ◌∙◌, subst, mod-lt, arith, w64, Fits, eq-eqb, ne_eqb, eqb-true}
 use native.Mathlib.Decide.{dec_lt}
 use borrow.Author.Tests.{eqb-false}
 use Rattle.spec.specs.Lists.{little}
-use Rattle.spec.specs.Ending.{Final}
 use Rattle.spec.specs.Counting.{distinct}
 use Rattle.spec.specs.Follow.{outgoing}
 use Rattle.theorems.proofs.ReaderPlaces.{never}
@@ -12,8 +11,8 @@ use Rattle.lent.proofs.Stored.{kept-num, read_back}
 use Rattle.reader.specs.Walks.{Walking}
 use Rattle.follow.specs.Blocks.{named_by, next_dest}
 use Rattle.follow.specs.Places.{fresh_in, PlaceOf, sought}
-use Rattle.follow.specs.Finding.{slots_of, Placed, EdgePlace, Tells, Table, Index}
-use Rattle.follow.specs.Edges.{ShelfAt, shelf_in, EntryOf, OnShelf, Looked, Known, PlaceSo, Entered, Inserted, no_free, put_at, Kept, not_kept, kept_at, Owned, Linked}
+use Rattle.follow.specs.Finding.{Tells, Table, Index}
+use Rattle.follow.specs.Edges.{ShelfAt, shelf_in, EntryOf, Looked, Known, PlaceSo, Entered, Inserted, no_free, put_at, Kept, not_kept, kept_at, Owned, Linked}
 use Rattle.follow.specs.declared.block.Named.{Named}
 use Rattle.follow.specs.declared.block.Block.{Block}
 use Rattle.follow.specs.declared.destination.Dest.{Dest}
@@ -21,7 +20,7 @@ use Rattle.follow.specs.declared.destination.Dest.TheVariants.{To as Dest-to, Ov
 use Rattle.follow.specs.declared.place.Place.{Place}
 use Rattle.follow.specs.declared.place.Place.TheVariants.{At as Place-at}
 use Rattle.follow.specs.declared.edges.Shelf.{Shelf}
-use Rattle.follow.specs.declared.edges.Shelf.TheVariants.{At, Lacking}
+use Rattle.follow.specs.declared.edges.Shelf.TheVariants.{At}
 use Rattle.follow.proofs.Going.{inside}
 use Rattle.follow.proofs.Placing.{Seeking, seek-start, seek-over, seek-on, seek-new, seek-sum, seek-passed, seek-less}
 

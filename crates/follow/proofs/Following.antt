@@ -1,10 +1,10 @@
 -- The walk along the log is the definitions': what is left to follow ends where the whole ends. Assumes nothing.
-use Rattle.std.proofs.Common.{◌≡◌, ℕ, zero, suc, ◌+◌, ◌-◌, ◌*◌, ◌/◌, ◌%◌, ◌^◌, ◌<◌, ◌≤◌, Bool, true, false, ◌&&◌, eqb, List, [], ◌∷◌, ◌++◌, map, length, get_or, take, drop, set, replicate, sym, refl, ap, ◌∙◌, subst, ap₂, add-one, arith, drop-drop}
+use Rattle.std.proofs.Common.{◌≡◌, ℕ, zero, suc, ◌+◌, ◌*◌, ◌/◌, ◌%◌, ◌^◌, ◌<◌, ◌≤◌, Bool, true, false, ◌&&◌, eqb, List, [], ◌∷◌, ◌++◌, map, length, get_or, take, drop, set, replicate, sym, refl, ap, ◌∙◌, subst, add-one, arith, drop-drop}
 use lib.ListN.{replicate-append-replicate}
-use Rattle.spec.specs.Lists.{little, number, total}
+use Rattle.spec.specs.Lists.{little, number}
 use Rattle.spec.specs.Ending.{Final}
 use Rattle.spec.specs.Entries.{Map, flag}
-use Rattle.spec.specs.Reader.{Reading, holds, bad, read, finals_in}
+use Rattle.spec.specs.Reader.{Reading, holds, bad, read}
 use Rattle.spec.specs.Eights.{eights, as_eights, over}
 use Rattle.spec.specs.Follow as spec
 use Rattle.spec.specs.Follow.{starts_at, outgoing, outside, inside, not_in_map, stays_in, begins, takes, move, Counts, none_taken, enter, take_edge, counted, Followed, onward, follow_from, follow, numbers, steps}
@@ -21,7 +21,6 @@ use Rattle.reader.specs.Shapes.{from}
 use Rattle.reader.specs.Walks.{items_from}
 use Rattle.follow.specs.Blocks.{finals_at}
 use Rattle.follow.specs.Finding.{slots_of, Ready, Placed}
-use Rattle.follow.specs.Places.{PlaceOf}
 use Rattle.follow.specs.Stepping.{StandsAs, out_there, in_block, Standing, EdgeOf, MoveAs, no_move, goes_on, begins_with, takes_to, StepsSo}
 use Rattle.follow.specs.Walking.{bump_at, bumps_of, turn_of, Turned, Zeroed, Walked}
 use Rattle.follow.specs.declared.block.Block.{Block}

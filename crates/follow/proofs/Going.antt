@@ -1,8 +1,8 @@
 -- Over the blocks of accepted bytes, and over the destinations of a block. Assumes nothing.
-use Rattle.std.proofs.Common.{◌≡◌, ℕ, zero, suc, ◌+◌, ◌-◌, ◌<◌, ◌≤◌, Bool, true, false, not, eqb, leb, List, [], ◌∷◌, ◌++◌, length, drop, sym, refl, ap, ◌∙◌, subst, ap₂, arith, eq-eqb, eqb-true, leb-false}
+use Rattle.std.proofs.Common.{◌≡◌, ℕ, zero, suc, ◌+◌, ◌-◌, ◌<◌, ◌≤◌, Bool, true, false, not, eqb, leb, List, [], ◌∷◌, ◌++◌, length, drop, sym, refl, ap, ◌∙◌, subst, arith, eq-eqb, eqb-true, leb-false}
 use native.Mathlib.Decide.{dec_le}
 use Rattle.spec.specs.Lists.{if, keep}
-use Rattle.spec.specs.Search.{Found, dests}
+use Rattle.spec.specs.Search.{dests}
 use Rattle.spec.specs.Blocks.{block, terminate, jump, jumpi, dynamic_jump, dynamic_jumpi}
 use Rattle.spec.specs.Ending.{Final}
 use Rattle.spec.specs.Forms.{announced}
@@ -23,18 +23,15 @@ use Rattle.reader.specs.declared.class.Class.TheVariants.{Bad}
 use Rattle.reader.specs.declared.walk.Walk.{Walk}
 use Rattle.reader.specs.declared.walk.Walk.TheVariants.{Here, Over}
 use Rattle.reader.proofs.Judging.{entry-cut, behind-whole}
-use Rattle.reader.proofs.Walked.{Steps, stepping, ended}
-use Rattle.follow.specs.Blocks.{finals_at, outs_at, seen_of, sides_in, named_by, BlockIs, Begins, next_block, out_of, SevenTo, next_seven, Leads, next_dest}
+use Rattle.reader.proofs.Walked.{stepping, ended}
+use Rattle.follow.specs.Blocks.{finals_at, outs_at, seen_of, sides_in, named_by, Begins, out_of, SevenTo, next_seven, Leads}
 use Rattle.follow.specs.declared.block.Named.{Named}
-use Rattle.follow.specs.declared.block.Block.{Block}
 use Rattle.follow.specs.declared.block.Seen.{Seen}
 use Rattle.follow.specs.declared.block.Seen.TheVariants.{Block as Block-seen, Other}
 use Rattle.follow.specs.declared.destination.Out.{Out}
 use Rattle.follow.specs.declared.destination.Out.TheVariants.{To as Out-to, Missing, No}
 use Rattle.follow.specs.declared.destination.Seven.{Seven}
 use Rattle.follow.specs.declared.destination.Seven.TheVariants.{To as Seven-to, Over as Sevens-over}
-use Rattle.follow.specs.declared.destination.Dest.{Dest}
-use Rattle.follow.specs.declared.destination.Dest.TheVariants.{To as Dest-to, Over as Dests-over}
 
 -- ---- a walk stands within the bytes, and an entry has 6 bytes at least
 

@@ -1,13 +1,12 @@
 -- The index's rows are right, block by block. Assumes nothing.
-use Rattle.std.proofs.Common.{◌≡◌, ℕ, zero, suc, ◌+◌, ◌-◌, ◌*◌, ◌/◌, ◌^◌, ◌<◌, ◌≤◌, Bool, true, false, eqb, List, [], ◌∷◌, ◌++◌, length, replicate, sym, refl, ap, ◌∙◌, subst, arith, w64, Fits, eqb-true}
+use Rattle.std.proofs.Common.{◌≡◌, ℕ, ◌+◌, ◌-◌, ◌*◌, ◌^◌, ◌<◌, ◌≤◌, Bool, true, false, eqb, List, [], ◌∷◌, ◌++◌, length, replicate, sym, refl, ap, ◌∙◌, subst, arith, w64, Fits, eqb-true}
 use native.Mathlib.Decide.{dec_lt}
-use mathlib.Core.Option.{Option, none, some}
+use mathlib.Core.Option.{none, some}
 use borrow.Author.Tests.{eqb-false}
 use Rattle.spec.specs.Lists.{if, little}
 use Rattle.spec.specs.Ending.{Final}
-use Rattle.spec.specs.Counting.{distinct}
 use Rattle.spec.specs.Follow.{starts_at, outgoing, starting}
-use Rattle.laws.proofs.Branch.{both, if-true, if-false}
+use Rattle.laws.proofs.Branch.{if-true, if-false}
 use Rattle.laws.proofs.Lists.{Rising, one_more}
 use Rattle.laws.proofs.Members.{here, in_right}
 use Rattle.theorems.proofs.Answered.{finals-at}
@@ -17,8 +16,8 @@ use Rattle.lent.specs.Bytes.{num_at, Stored}
 use Rattle.lent.proofs.Numbers.{num-zeros}
 use Rattle.lent.proofs.Stored.{kept-num, read_back}
 use Rattle.reader.specs.Walks.{Walking}
-use Rattle.follow.specs.Blocks.{finals_at, named_by, Begins, next_block}
-use Rattle.follow.specs.Finding.{slots_of, Ready, Spot, RowIs, Rows, RowPut, Tells, Table, Index, Filled}
+use Rattle.follow.specs.Blocks.{finals_at, Begins, next_block}
+use Rattle.follow.specs.Finding.{Ready, Spot, RowIs, Rows, RowPut, Tells, Table, Filled}
 use Rattle.follow.specs.Edges.{Owned, Linked}
 use Rattle.follow.specs.declared.block.Block.{Block}
 use Rattle.follow.specs.declared.block.Next.{Next}

@@ -1,12 +1,10 @@
 -- A step of the code is the definitions' move. Assumes nothing.
-use Rattle.std.proofs.Common.{◌≡◌, ℕ, suc, ◌+◌, ◌-◌, ◌*◌, ◌^◌, ◌<◌, ◌≤◌, Bool, true, false, ◌&&◌, ◌||◌, eqb, ltb, leb, List, [], ◌∷◌, ◌++◌, length, sym, refl, ap, ◌∙◌, subst, ap₂, arith, length-append, w64, Fits, le-ltb, lt-ltb, eq-eqb, ne_eqb, eqb-true}
-use mathlib.Core.Option.{Option, none, some}
-use borrow.Author.Tests.{eqb-false}
+use Rattle.std.proofs.Common.{◌≡◌, ℕ, suc, ◌+◌, ◌-◌, ◌<◌, ◌≤◌, Bool, true, false, ◌&&◌, eqb, ltb, leb, List, [], ◌∷◌, length, sym, refl, ap, ◌∙◌, subst, arith, length-append, w64, Fits, le-ltb, lt-ltb, eq-eqb, ne_eqb, eqb-true}
+use mathlib.Core.Option.{Option, some}
 use Rattle.spec.specs.Lists.{if, mem}
 use Rattle.spec.specs.Opcodes.{row}
 use Rattle.spec.specs.Ending.{Final}
 use Rattle.spec.specs.Entries.{Map}
-use Rattle.spec.specs.Counting.{distinct}
 use Rattle.spec.specs.Follow as spec
 use Rattle.spec.specs.Follow.{starts_at, outgoing, starting, outside, inside, not_in_map, stays_in, begins, takes, beginning, taking, size_at, move}
 use Rattle.laws.proofs.Branch.{both, if-true, if-false}
@@ -14,9 +12,8 @@ use Rattle.laws.proofs.Members.{In, here, in_right, in_mem}
 use Rattle.theorems.proofs.ReaderPlaces.{never}
 use Rattle.evm.specs.Rows.{SizeIs}
 use Rattle.evm.proofs.Listed.{row-size}
-use Rattle.reader.specs.Walks.{Walking}
-use Rattle.follow.specs.Blocks.{finals_at, named_by, BlockIs}
-use Rattle.follow.specs.Places.{PlaceOf, NoPlace, Asked, sought}
+use Rattle.follow.specs.Blocks.{finals_at}
+use Rattle.follow.specs.Places.{PlaceOf, sought}
 use Rattle.follow.specs.Finding.{slots_of, Ready, Placed, FoundAt, found_in}
 use Rattle.follow.specs.Edges.{PlaceSo}
 use Rattle.follow.specs.Stepping.{StandsAs, out_there, in_block, Stood, Standing, EdgeOf, MoveAs, no_move, goes_on, begins_with, takes_to, BeginsSo, edge_of, EdgeSo, on_of, InsideSo, StepsSo}
@@ -174,6 +171,7 @@ module _ (b code : List ℕ) (q : ℕ) where
     where
       by-stand : (m : Map) (at : spec.Stand) → m.blocks ≡ finals_at b 0 → StandsAs b Outside at → MoveAs b (move m code at q) r
       by-stand m outside g out_there = subst (λ (fs : List Final). MoveAs b (if (eqb q 0) (beginning (starting 0 fs)) not_in_map) r) (sym g) h
+      by-stand m (inside _ _) g x4 = elim x4 [ ]
 
   pub step-inside : {s : Stand} {k : Block} {slot pc : ℕ} {r : Move} → InsideSo b code k slot pc q r → s ≡ Inside k slot pc → StepsSo b code s q r
   unfolding move
@@ -182,9 +180,11 @@ module _ (b code : List ℕ) (q : ℕ) where
       by-stand : (m : Map) (at : spec.Stand) → m.blocks ≡ finals_at b 0 → StandsAs b (Inside k slot pc) at → MoveAs b (move m code at q) r
       by-stand m (inside f pc) g (in_block p) =
           subst (λ (fs : List Final). MoveAs b (if (ltb pc (length code)) (if (eqb pc f.block.end) (if (mem q (outgoing f)) (taking f (starting q fs)) not_in_map) (on_of code f pc q)) not_in_map) r) (sym g) (h.so f p)
+      by-stand m outside g x'' = elim x'' [ ]
 
 pub step-stood : {b : List ℕ} {s : Stand} {k : Block} {slot pc : ℕ} → Standing b s → s ≡ Inside k slot pc → Stood b k slot
 step-stood {b} {s} {k} {slot} {pc} d e = by-stand d.at (subst (λ (x : Stand). StandsAs b x d.at) e d.stands)
   where
     by-stand : (at : spec.Stand) → StandsAs b (Inside k slot pc) at → Stood b k slot
     by-stand (inside f pc) (in_block p) = record { final = f; placed = p }
+    by-stand outside x' = elim x' [ ]

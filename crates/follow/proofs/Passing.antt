@@ -1,17 +1,17 @@
 -- Passing over the blocks: those before, and those from here on. Assumes nothing.
-use Rattle.std.proofs.Common.{◌≡◌, ℕ, suc, ◌+◌, ◌-◌, ◌*◌, ◌^◌, ◌<◌, ◌≤◌, Bool, true, false, eqb, List, [], ◌∷◌, ◌++◌, length, sym, refl, ap, ◌∙◌, subst, append_assoc, add-one, arith, w64, Fits, eq-eqb, ne_eqb}
-use mathlib.Core.Option.{Option, none, some}
-use Rattle.spec.specs.Lists.{if, total}
+use Rattle.std.proofs.Common.{◌≡◌, ℕ, suc, ◌+◌, ◌-◌, ◌*◌, ◌<◌, ◌≤◌, Bool, true, false, eqb, List, [], ◌∷◌, ◌++◌, length, sym, refl, ap, ◌∙◌, subst, append_assoc, arith, w64, Fits, eq-eqb, ne_eqb}
+use mathlib.Core.Option.{none, some}
+use Rattle.spec.specs.Lists.{if}
 use Rattle.spec.specs.Ending.{Final}
 use Rattle.spec.specs.Counting.{distinct}
 use Rattle.spec.specs.Follow.{starts_at, outgoing, starting}
-use Rattle.laws.proofs.Branch.{both, if-true, if-false}
+use Rattle.laws.proofs.Branch.{if-true, if-false}
 use Rattle.theorems.proofs.ReaderPlaces.{never}
 use Rattle.lent.specs.Bytes.{num_at, Holds}
 use Rattle.reader.specs.Walks.{Walking}
 use Rattle.reader.proofs.Walked.{begins}
-use Rattle.follow.specs.Blocks.{finals_at, named_by, BlockIs, Begins, next_block}
-use Rattle.follow.specs.Finding.{slots_of, Fitting, room_in, Ready, Placed, FoundAt, found_in, Spot, RowIs, Indexed, Index}
+use Rattle.follow.specs.Blocks.{finals_at, named_by, Begins, next_block}
+use Rattle.follow.specs.Finding.{slots_of, Fitting, Ready, FoundAt, Spot, Indexed, Index}
 use Rattle.follow.specs.declared.block.Block.{Block}
 use Rattle.follow.specs.declared.block.Next.{Next}
 use Rattle.follow.specs.declared.block.Next.TheVariants.{Block as Block-next, Over as Blocks-over}

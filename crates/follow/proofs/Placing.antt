@@ -1,12 +1,12 @@
 -- A destination's place among the distinct ones of a list, found from the front. Assumes nothing.
-use Rattle.std.proofs.Common.{◌≡◌, ℕ, zero, suc, ◌+◌, ◌-◌, ◌*◌, ◌^◌, ◌<◌, ◌≤◌, Bool, true, false, not, ◌&&◌, ◌||◌, eqb, List, [], ◌∷◌, ◌++◌, length, take, sym, refl, ap, ◌∙◌, subst, ap₂, append_assoc, add-one, arith, length-append, take_at, w64, Fits, eq-eqb, ne_eqb, eqb-true}
+use Rattle.std.proofs.Common.{◌≡◌, ℕ, zero, suc, ◌+◌, ◌-◌, ◌*◌, ◌^◌, ◌<◌, ◌≤◌, Bool, true, false, not, ◌&&◌, ◌||◌, eqb, List, [], ◌∷◌, ◌++◌, length, take, sym, refl, ap, ◌∙◌, subst, ap₂, append_assoc, arith, length-append, take_at, w64, Fits, eq-eqb, ne_eqb, eqb-true}
 use borrow.Author.Tests.{eqb-false}
 use Rattle.spec.specs.Lists.{if, keep, mem}
 use Rattle.spec.specs.Counting.{distinct}
 use Rattle.laws.proofs.Branch.{both, if-true, if-false}
 use Rattle.laws.proofs.Members.{mem-in, in_mem}
 use Rattle.theorems.proofs.ReaderPlaces.{never}
-use Rattle.theorems.proofs.DistinctOnes.{in-distinct, distinct-in}
+use Rattle.theorems.proofs.DistinctOnes.{in-distinct}
 use Rattle.reader.specs.Walks.{Walking}
 use Rattle.follow.specs.Blocks.{named_by, Leads, next_dest}
 use Rattle.follow.specs.Places.{fresh_in, PlaceOf, NoPlace, Asked, sought}

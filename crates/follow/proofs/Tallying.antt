@@ -1,15 +1,15 @@
 -- The counts in their buffer: one more in a count is one more of the numbers. Assumes nothing.
-use Rattle.std.proofs.Common.{◌≡◌, ℕ, zero, suc, ◌+◌, ◌-◌, ◌*◌, ◌/◌, ◌%◌, ◌^◌, ◌<◌, ◌≤◌, Bool, true, false, ◌&&◌, eqb, List, [], ◌∷◌, ◌++◌, map, length, get_or, take, drop, set, replicate, sym, refl, ap, ◌∙◌, subst, ap₂, append_assoc, arith, length-append, length-take-le, drop-drop, take_at, drop_at, eq-eqb}
-use lib.ListN.{length-map, replicate-append-replicate}
+use Rattle.std.proofs.Common.{◌≡◌, ℕ, suc, ◌+◌, ◌*◌, ◌%◌, ◌^◌, ◌<◌, ◌≤◌, eqb, List, [], ◌∷◌, ◌++◌, map, length, get_or, take, drop, set, sym, refl, ap, ◌∙◌, subst, ap₂, append_assoc, arith, length-append, length-take-le, drop-drop, take_at, drop_at, eq-eqb}
+use lib.ListN.{length-map}
 use lib.Seq.{split_at, set_at}
-use Rattle.spec.specs.Lists.{little, number, total, mem}
+use Rattle.spec.specs.Lists.{little, number}
 use Rattle.spec.specs.Ending.{Final}
 use Rattle.spec.specs.Entries.{flag}
 use Rattle.spec.specs.Eights.{as_eights, over}
-use Rattle.spec.specs.Counting.{count, distinct}
+use Rattle.spec.specs.Counting.{count}
 use Rattle.spec.specs.Follow.{starts_at, outgoing, Way, Counts, enter, take_edge, numbers}
 use Rattle.laws.proofs.Lists.{Rising}
-use Rattle.laws.proofs.Members.{In, here, there, mem-in, in_mem, in_right, gather_append}
+use Rattle.laws.proofs.Members.{In, here, there, in_mem, in_right, gather_append}
 use Rattle.theorems.proofs.Answered.{finals-at}
 use Rattle.theorems.proofs.ReaderPlaces.{never}
 use Rattle.theorems.proofs.Bytes.{number-little}
@@ -17,7 +17,7 @@ use Rattle.theorems.proofs.EightsBack.{eights-long}
 use Rattle.theorems.proofs.DistinctOnes.{in-distinct, distinct-once}
 use Rattle.theorems.proofs.FollowCounts.{counts-by, map-map, numbers-many}
 use Rattle.theorems.proofs.FollowSlots.{Others, starts-of, map-append, numbers-enter, count-of-block, numbers-take, count-of-edge, rising-others}
-use Rattle.lent.specs.Bytes.{num_at, patch, Holds, Stored}
+use Rattle.lent.specs.Bytes.{num_at, patch}
 use Rattle.lent.proofs.Numbers.{length-little}
 use Rattle.follow.specs.Places.{PlaceOf}
 use Rattle.follow.specs.Finding.{slots_of}
@@ -155,6 +155,7 @@ module _ (E : ℕ → ℕ) (W : ℕ → ℕ → ℕ) (fs before : List Final) (f
         has_one : (ys : List ℕ) → In to ys → 1 ≤ count (eqb to) ys
         has_one (y ∷ ys) here = omega (arith, itself)
         has_one (y ∷ ys) (there j) = omega (arith, has_one ys j)
+        has_one [] x' = elim x' [ ]
 
         counts-one : (ys : List ℕ) → In to ys → 2 ≤ count (eqb to) (to ∷ ys)
         counts-one ys j = omega (arith, itself, has_one ys j)

@@ -3,7 +3,6 @@ use Rattle.std.specs.Prelude.{◌≡◌, ℕ, List, length, replicate}
 use Rattle.spec.specs.Entries.{Map}
 use Rattle.spec.specs.Reader.{holds, read}
 use Rattle.spec.specs.Eights.{as_eights, over}
-use Rattle.spec.specs.Follow as spec
 use Rattle.spec.specs.Follow.{follow, numbers, steps, FollowOutcome, follows, bad_map, uneven_log, no_count_room, follow_call, counts_after, work_after}
 use Rattle.follow.specs.declared.call.Followed.{Followed}
 

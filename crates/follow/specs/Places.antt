@@ -1,5 +1,5 @@
 -- Places among a block's distinct destinations. Assumes nothing.
-use Rattle.std.specs.Prelude.{◌≡◌, ℕ, Bool, true, false, List, ◌∷◌, ◌++◌, length, take}
+use Rattle.std.specs.Prelude.{◌≡◌, ℕ, Bool, false, List, ◌∷◌, ◌++◌, length, take}
 use Rattle.spec.specs.Lists.{if, mem}
 use Rattle.follow.specs.Blocks.{named_by}
 use Rattle.follow.specs.declared.block.Named.{Named}

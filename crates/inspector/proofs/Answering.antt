@@ -1,19 +1,18 @@
 -- The inspector's answers and refusals. Assumes nothing.
-use Prim.Native.Nat.{ℕ, ◌+◌, ◌*◌, ◌^◌, ◌≤◌, ◌<◌}
+use Prim.Native.Nat.{ℕ, ◌+◌, ◌*◌, ◌≤◌, ◌<◌}
 use native.Mathlib.Omega.{arith}
 use native.Mathlib.Nat.{zero-add}
-use mathlib.Core.Path.{◌≡◌, refl, sym, ap, ap₂, subst, ◌∙◌}
+use mathlib.Core.Path.{◌≡◌, refl, sym, ap, subst, ◌∙◌}
 use mathlib.Core.Bool.{Bool, true, false}
 use mathlib.Core.List.{List, [], ◌∷◌, ◌++◌}
-use lib.Dec.{eqb, leb, ltb}
+use lib.Dec.{leb, ltb}
 use lib.ListN.{length, take, drop, replicate, length-replicate}
 use lib.Seq.{take-append_seam, drop-append_seam}
-use borrow.Author.Tests.{lt-ltb, le-ltb, ltb-true, ltb-false, le-leb, lt-leb}
+use borrow.Author.Tests.{lt-ltb, le-ltb, ltb-false, le-leb, lt-leb}
 use Rattle.spec.specs.Lists.{if, little}
 use Rattle.spec.specs.Opcodes.{Rules, in_mode}
 use Rattle.spec.specs.Rooms.{longest, work_need}
 use Rattle.spec.specs.Entries.{Map}
-use Rattle.spec.specs.Forms.{wide_in}
 use Rattle.spec.specs.Reader.{Reading as Said, holds, bad, read}
 use Rattle.spec.specs.Inspector.{Inspection, refused, bad_entry, not_right, accepted, WrongPath, first_of, wrong_from, looks_at, inspect_from, inspect, number_of, place_after, rows, rows_after, work_after}
 use Rattle.laws.proofs.Branch.{both, if-true, if-false}
@@ -23,7 +22,7 @@ use Rattle.lent.proofs.Numbers.{length-little}
 use Rattle.reader.specs.Shapes.{from}
 use Rattle.reader.specs.Scanning.{reading_of}
 use Rattle.reader.specs.declared.scan.Reading.{Reading}
-use Rattle.inspector.specs.Edges.{map_in, Ready}
+use Rattle.inspector.specs.Edges.{Ready}
 use Rattle.inspector.specs.Tables.{TablesTo, Tables, Filled}
 use Rattle.inspector.specs.Symbols.{Lent}
 use Rattle.inspector.specs.Entries.{wrong_since}

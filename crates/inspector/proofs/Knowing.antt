@@ -1,14 +1,13 @@
 -- A block of a path is sound: its run, one instruction after the other, meets no unknown byte. Assumes nothing.
-use Prim.Native.Nat.{ℕ, suc, ◌+◌, ◌-◌, ◌≤◌, ◌<◌}
+use Prim.Native.Nat.{ℕ, ◌-◌, ◌≤◌, ◌<◌}
 use native.Mathlib.Omega.{arith}
 use mathlib.Core.Path.{◌≡◌, refl, sym, ap, ◌∙◌}
 use mathlib.Core.Bool.{Bool, true, false, ◌&&◌, ◌||◌, not}
-use mathlib.Core.List.{List, [], ◌∷◌}
-use lib.Dec.{eqb, ltb}
-use lib.ListN.{length, drop}
-use borrow.Author.Tests.{eq-eqb, ne_eqb, lt-ltb, le-ltb}
+use mathlib.Core.List.{List}
+use lib.Dec.{eqb}
+use lib.ListN.{length}
+use borrow.Author.Tests.{ne_eqb, lt-ltb, le-ltb}
 use Rattle.spec.specs.Opcodes.{row}
-use Rattle.spec.specs.Walk.{Ins, ins, walk}
 use Rattle.spec.specs.Meaning.{closing}
 use Rattle.spec.specs.PathMeaning.{all_known}
 use Rattle.spec.specs.Inspector.{sound}

@@ -7,3 +7,4 @@ pub mod Showing
 pub mod Rowing
 pub mod Answering
 pub mod Once
+pub mod FillLoop

@@ -2,21 +2,18 @@
 use Prim.Native.Nat.{ℕ, ◌+◌, ◌*◌, ◌^◌, ◌≤◌, ◌<◌}
 use native.Mathlib.Omega.{arith}
 use mathlib.Core.Path.{◌≡◌, refl, sym, ap, ◌∙◌}
-use mathlib.Core.Option.{Option, none, some}
-use mathlib.Core.Bool.{Bool, true, false}
+use mathlib.Core.Bool.{false}
 use mathlib.Core.List.{List}
 use lib.Dec.{eqb}
 use lib.ListN.{length}
 use Rattle.spec.specs.Opcodes.{in_mode}
-use Rattle.spec.specs.Stacks.{Sym, before, constant, jumpdest, other, read, through, own, eq_sym}
-use Rattle.spec.specs.Rooms.{longest, work_need}
+use Rattle.spec.specs.Stacks.{jumpdest, read, through, own, eq_sym}
 use Rattle.state.specs.Symbols.{sym_of}
 use Rattle.state.specs.Cells.{stack_at, depth, reach}
 use Rattle.state.specs.Stored.{Readable}
-use Rattle.exec.specs.Owns.{goes_of, far, room_of, Runs, Inside, Owned}
+use Rattle.exec.specs.Owns.{goes_of, far, Runs, Owned}
 use Rattle.state.specs.declared.sym.StackSym.{StackSym}
 use Rattle.state.specs.declared.sym.StackSym.TheVariants.{Before, Constant, Jumpdest, Other}
-use Rattle.exec.specs.declared.run.Goes.{Goes}
 use Rattle.exec.specs.declared.run.Goes.TheVariants.{To, Nowhere}
 use Rattle.exec.specs.declared.run.Own.{Own}
 use Rattle.state.proofs.Reach.{depth-read}

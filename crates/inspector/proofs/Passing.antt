@@ -1,13 +1,13 @@
 -- A path entry, one block after the other: what is left to judge ends as the whole does. Assumes nothing.
-use Prim.Native.Nat.{ℕ, zero, suc, ◌+◌, ◌*◌, ◌-◌, ◌^◌, ◌≤◌, ◌<◌}
+use Prim.Native.Nat.{ℕ, zero, suc, ◌+◌, ◌*◌, ◌-◌, ◌≤◌, ◌<◌}
 use native.Mathlib.Omega.{arith}
 use native.Mathlib.Numerals.{add-one}
-use mathlib.Core.Path.{◌≡◌, refl, sym, ap, ap₂, subst, ◌∙◌}
+use mathlib.Core.Path.{◌≡◌, refl, sym, ap, ap₂, ◌∙◌}
 use mathlib.Core.Bool.{Bool, true, false, ◌&&◌, not}
 use mathlib.Core.Option.{Option, none, some}
 use mathlib.Core.List.{List, [], ◌∷◌}
 use lib.Dec.{eqb, ltb}
-use lib.ListN.{length, get_or, take, drop}
+use lib.ListN.{length, take, drop}
 use lib.Seq.{drop-cons}
 use borrow.Author.Tests.{eq-eqb, ne_eqb, ltb-true}
 use Rattle.spec.specs.Lists.{if}
@@ -24,7 +24,7 @@ use Rattle.state.specs.Symbols.{sym_of}
 use Rattle.state.specs.Cells.{depth}
 use Rattle.state.specs.declared.sym.StackSym.{StackSym}
 use Rattle.reader.specs.Walks.{Address}
-use Rattle.inspector.specs.Edges.{map_in, Ready, edge_in}
+use Rattle.inspector.specs.Edges.{map_in, Ready}
 use Rattle.inspector.specs.Tables.{Tables, Filled, Between, Joined}
 use Rattle.inspector.specs.Symbols.{Lent, step, taken_of, Taken, Looks, Looked}
 use Rattle.inspector.specs.Judging.{path_in, place_of, rest_of, InPath, Begins, Along, Judged}

@@ -10,20 +10,19 @@ use lib.Dec.{leb}
 use lib.ListN.{length, take, drop, take-append-drop, length-drop}
 use lib.Seq.{drop-drop}
 use borrow.Author.Tests.{leb-true, leb-false, le-leb, lt-leb}
-use Rattle.spec.specs.Lists.{if, little}
+use Rattle.spec.specs.Lists.{little}
 use Rattle.spec.specs.Inspector.{WrongPath, first_of, rows}
 use Rattle.laws.proofs.Branch.{if-true, if-false}
 use Rattle.theorems.proofs.ReaderPlaces.{never}
 use Rattle.lent.specs.Bytes.{Stored}
 use Rattle.lent.proofs.Stored.{stored-join, kept-drop, read_take}
 use Rattle.reader.specs.Walks.{Walking}
-use Rattle.inspector.specs.Edges.{Ready}
 use Rattle.inspector.specs.Tables.{Tables, Filled}
 use Rattle.inspector.specs.Entries.{wrong_since, wrong_in, LooksAt}
-use Rattle.inspector.specs.Listing.{rows_at, Rowed, Rest, first_in, Listed}
+use Rattle.inspector.specs.Listing.{rows_at, Rowed, Rest, Listed}
 use Rattle.inspector.specs.declared.entries.Finding.{Finding}
 use Rattle.inspector.specs.declared.entries.Finding.TheVariants.{Right, Wrong}
-use Rattle.inspector.proofs.Seeking.{off, on, ready-walks}
+use Rattle.inspector.proofs.Seeking.{off, on}
 use Rattle.inspector.proofs.Tabling.{filled-same, filled-then}
 
 -- ---- rows

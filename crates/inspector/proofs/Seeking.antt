@@ -1,18 +1,18 @@
 -- The edges of the map, an entry after the other: what is left to look through ends as the whole does. Assumes nothing.
-use Prim.Native.Nat.{ℕ, ◌+◌, ◌-◌, ◌≤◌, ◌<◌}
+use Prim.Native.Nat.{ℕ, ◌-◌, ◌≤◌, ◌<◌}
 use native.Mathlib.Omega.{arith}
 use mathlib.Core.Path.{◌≡◌, refl, sym, ap, subst, ◌∙◌}
 use mathlib.Core.Bool.{Bool, true, false, ◌&&◌, ◌||◌, not}
-use mathlib.Core.List.{List, [], ◌∷◌, ◌++◌}
+use mathlib.Core.List.{List, [], ◌∷◌}
 use lib.Dec.{eqb, leb}
 use lib.ListN.{length}
 use borrow.Author.Tests.{eq-eqb, ne_eqb, eqb-true, leb-true}
 use Rattle.spec.specs.Lists.{if, mem, some?}
 use Rattle.spec.specs.Blocks.{jumpi}
-use Rattle.spec.specs.Search.{sides, Found, Rec, dest, dests}
+use Rattle.spec.specs.Search.{sides, dest, dests}
 use Rattle.spec.specs.Ending.{Final}
 use Rattle.spec.specs.Entries.{Map}
-use Rattle.spec.specs.Reader.{Reading, holds, bad, Item, a_head, a_block, a_way, a_record, no_item, items, ways, finals_in, read}
+use Rattle.spec.specs.Reader.{holds, Item, a_head, a_block, a_way, a_record, no_item, ways, finals_in, read}
 use Rattle.spec.specs.Inspector.{targets, edge?}
 use Rattle.laws.proofs.Branch.{both, if-true, if-false}
 use Rattle.laws.proofs.Lists.{Rising, one_more}

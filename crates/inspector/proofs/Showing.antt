@@ -6,16 +6,14 @@ use native.Mathlib.Nat.{le_refl}
 use mathlib.Core.Path.{◌≡◌, refl, sym, ap, subst, ◌∙◌}
 use mathlib.Core.Bool.{Bool, true, false, not}
 use mathlib.Core.Option.{Option, none, some}
-use mathlib.Core.List.{List, [], ◌∷◌}
+use mathlib.Core.List.{List, ◌∷◌}
 use lib.Dec.{leb}
-use lib.ListN.{length, get_or, take, drop}
+use lib.ListN.{length, take, drop}
 use borrow.Author.Tests.{leb-true, leb-false}
 use Rattle.spec.specs.Lists.{if}
 use Rattle.spec.specs.Opcodes.{in_mode}
-use Rattle.spec.specs.Search.{Found, Rec}
-use Rattle.spec.specs.Entries.{Map}
 use Rattle.spec.specs.Forms.{wide_in, announced, entry, sort}
-use Rattle.spec.specs.Reader.{Item, a_head, a_block, a_way, a_record, no_item, item_for, items, addresses}
+use Rattle.spec.specs.Reader.{Item, item_for, items, addresses}
 use Rattle.spec.specs.BadEntries.{Whole}
 use Rattle.spec.specs.Inspector.{fault, PathEntry, shows, path_entries, WrongPath, or_next, all_wrong, since}
 use Rattle.laws.proofs.Branch.{both}
@@ -46,7 +44,7 @@ use Rattle.inspector.specs.declared.path.Place.TheVariants as place
 use Rattle.inspector.specs.declared.entries.Shown.{Shown}
 use Rattle.inspector.specs.declared.entries.Shown.TheVariants.{Path as Shows, Of}
 use Rattle.inspector.specs.declared.entries.Finding.TheVariants as finding
-use Rattle.inspector.proofs.Seeking.{off, on}
+use Rattle.inspector.proofs.Seeking.{on}
 use Rattle.inspector.proofs.Tabling.{filled-same, filled-then}
 
 -- ---- shown
@@ -135,18 +133,18 @@ module _ (mode : ℕ) (map code : List ℕ) (lo : ℕ) where
       go true Missing = refl
       go true (At t) = refl
 
-  shown_by : (b at : ℕ) (on : ℕ → List PathEntry) (e : Entry) → wrong (shows b at on (item_of map e)) ≡ judged_by at on b (shown_of e b (leb lo at))
-  shown_by b at on (Way d path n) = by-to at b b d path n 0 on
-  shown_by b at on (Record s d form v path n) = by-to at b s d path n v on
-  shown_by b at on (Terminate s d ok) = refl
-  shown_by b at on (Jump s d t) = refl
-  shown_by b at on (Jumpi s d t f) = refl
-  shown_by b at on (DynamicJump s d n) = refl
-  shown_by b at on (DynamicJumpi s d f n) = refl
-  shown_by b at on (Head size n m energy) = refl
-  shown_by b at on Unknown = refl
-  shown_by b at on Wrong = refl
-  shown_by b at on Cut = refl
+  shown_item : (b at : ℕ) (on : ℕ → List PathEntry) (e : Entry) → wrong (shows b at on (item_of map e)) ≡ judged_by at on b (shown_of e b (leb lo at))
+  shown_item b at on (Way d path n) = by-to at b b d path n 0 on
+  shown_item b at on (Record s d form v path n) = by-to at b s d path n v on
+  shown_item b at on (Terminate s d ok) = refl
+  shown_item b at on (Jump s d t) = refl
+  shown_item b at on (Jumpi s d t f) = refl
+  shown_item b at on (DynamicJump s d n) = refl
+  shown_item b at on (DynamicJumpi s d f n) = refl
+  shown_item b at on (Head size n m energy) = refl
+  shown_item b at on Unknown = refl
+  shown_item b at on Wrong = refl
+  shown_item b at on Cut = refl
 
 -- ---- the entries that stand in the bytes
 
@@ -238,7 +236,7 @@ module _ {mode : ℕ} {b code : List ℕ} {lo start block : ℕ} {w₀ : List �
         let a = at_entry b at k.walking h q in
         let first : path_entries (wide_in b) owner (from b at) ≡ shows owner at (λ c. path_entries (wide_in b) c (from b to)) (item_of b e) =
         rw (a.is, a.behind) (entries-here b at owner a.good (rw (← a.is, ← a.behind) step.item)) in
-        ap (judged_by mode b code lo at on-from owner) x ∙ sym (shown_by mode b code lo owner at on-from e)
+        ap (judged_by mode b code lo at on-from owner) x ∙ sym (shown_item mode b code lo owner at on-from e)
         ∙ ap (λ (l : List PathEntry). all_wrong (in_mode mode) code (map_in b) (since lo l)) (sym first) ∙ k.rest
 
     pub looking-of : {a : ℕ} → s ≡ Of a → Looking mode b code lo start block w₀ to a w

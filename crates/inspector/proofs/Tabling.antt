@@ -1,5 +1,5 @@
 -- The tables stay true: where a number is put, where a block is run, and where W is wiped. Assumes nothing.
-use Prim.Native.Nat.{ℕ, ◌+◌, ◌*◌, ◌-◌, ◌/◌, ◌%◌, ◌^◌, ◌≤◌, ◌<◌}
+use Prim.Native.Nat.{ℕ, ◌+◌, ◌*◌, ◌-◌, ◌%◌, ◌^◌, ◌≤◌, ◌<◌}
 use native.Mathlib.Omega.{arith}
 use native.Mathlib.Nat.{mod-lt, le_refl}
 use native.Mathlib.Decide.{dec_lt}
@@ -12,10 +12,9 @@ use lib.Dec.{eqb}
 use lib.ListN.{length, replicate, length-replicate}
 use borrow.Author.Tests.{eqb-true, eqb-false}
 use Rattle.spec.specs.Lists.{little}
-use Rattle.spec.specs.Rooms.{longest, work_need}
+use Rattle.spec.specs.Rooms.{work_need}
 use Rattle.spec.specs.Forms.{wide_in}
 use Rattle.spec.specs.Reader.{Piece, items}
-use Rattle.theorems.proofs.ReaderPlaces.{never}
 use Rattle.lent.specs.Bytes.{num_at, Holds, Stored}
 use Rattle.lent.proofs.Numbers.{num-zeros, num-prefix}
 use Rattle.lent.proofs.Stored.{kept-num, read_back}

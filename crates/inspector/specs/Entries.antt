@@ -11,7 +11,6 @@ use Rattle.reader.specs.declared.entry.Entry.{Entry}
 use Rattle.reader.specs.declared.entry.Entry.TheVariants.{Head, Terminate, Jump, Jumpi, DynamicJump, DynamicJumpi, Way, Record, Unknown, Wrong, Cut}
 use Rattle.inspector.specs.Edges.{map_in}
 use Rattle.inspector.specs.Tables.{Filled}
-use Rattle.inspector.specs.declared.path.Path as path
 use Rattle.inspector.specs.declared.entries.Shown.{Shown}
 use Rattle.inspector.specs.declared.entries.Shown.TheVariants.{Path, Of}
 use Rattle.inspector.specs.declared.entries.Finding.{Finding}

@@ -1,4 +1,6 @@
 // The map inspector (document 02, No. 12): it replays the paths of a stored map, whoever made it.
+#![tactic(auto)]
+
 mod call;
 mod edge;
 mod entries;

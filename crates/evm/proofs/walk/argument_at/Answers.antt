@@ -1,5 +1,4 @@
 -- `evm::walk::argument_at` meets its contract: one byte or two at once, or by the loop. Assumes nothing.
-use borrow.Author.Rules.{rules}
 use Rattle.evm.proofs.Spelling.{spelled-one, spelled-two}
 use Rattle.evm.proofs.walk.argument_at.Goals as goal
 

@@ -1,5 +1,4 @@
 -- `evm::walk::next_at` meets its contract: each way out is a law of the step. Assumes nothing.
-use borrow.Author.Rules.{rules}
 use Rattle.evm.proofs.Steps.{next-whole, next-none}
 use Rattle.evm.proofs.walk.next_at.Goals as goal
 

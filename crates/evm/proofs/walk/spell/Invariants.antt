@@ -1,7 +1,6 @@
 -- `evm::walk::spell` meets its contract: the bytes passed so far are spelt. The measure is what is left of n. Assumes nothing.
 use Prim.Native.Nat.{◌-◌}
-use borrow.Author.Rules.{rules}
-use Rattle.evm.proofs.Spelling.{Spells, spells-none, spells-more, spelled}
+use Rattle.evm.proofs.Spelling.{Spells}
 use Rattle.evm.proofs.walk.spell.Given as goal
 
 abbrev pub invariant-loop-i : goal.invariant-loop-i

@@ -1,5 +1,4 @@
 -- `evm::walk::step_at` meets its contract: each way out is a law of the step. Assumes nothing.
-use borrow.Author.Rules.{rules}
 use Rattle.evm.proofs.Steps.{step_past, step-one, step-short, step-whole}
 use Rattle.evm.proofs.walk.step_at.Goals as goal
 

@@ -1,5 +1,4 @@
 -- `evm::rows::Row::of` meets its contract: its size is the instruction's, and the rest what the list says. Assumes nothing.
-use borrow.Author.Rules.{rules}
 use Rattle.evm.proofs.Listed.{row_is}
 use Rattle.evm.proofs.rows.Row.of.Goals as goal
 

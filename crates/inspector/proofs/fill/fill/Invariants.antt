@@ -1,0 +1,11 @@
+-- `fill` meets its contract: each way out is a law of its own. Assumes nothing.
+use Rattle.inspector.proofs.FillLoop.{Filling}
+use lib.ListN.{length}
+use Prim.Native.Nat.{◌-◌}
+use Rattle.inspector.proofs.fill.fill.Given as goal
+
+abbrev pub invariant-loop-entry : goal.invariant-loop-entry
+invariant-loop-entry l = Filling l.map l.code l.initial.w l.at l.w
+
+abbrev pub decreases-loop-entry : goal.decreases-loop-entry
+decreases-loop-entry l = length l.map - l.at
