@@ -1,4 +1,6 @@
 // Where everything stands in the lent buffers: the parts and the rows of W, the rows of R in its two meanings, and those of T. docs/LAYOUT.md draws them.
+#![tactic(auto)]
+
 pub mod edge;
 pub mod field;
 pub mod part;

@@ -1,4 +1,6 @@
 // Lent byte buffers: numbers and runs of bytes at a place, and what a length has room for.
+#![tactic(auto)]
+
 mod number;
 mod room;
 mod run;

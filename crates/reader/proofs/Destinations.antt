@@ -10,11 +10,11 @@ use Rattle.reader.specs.declared.dest.Destination.{Destination}
 use Rattle.reader.specs.declared.dest.Destination.TheVariants.{Missing, At}
 
 module _ {missing t x : ℕ} (h : x ≡ missing) where
-  pub goes-nowhere : t ≡ x → Missing ≡ goes_to missing t
-  goes-nowhere e = sym (if-true (eqb t missing) Missing (At t) (eq-eqb t missing (e ∙ h)))
+  pub goes_nowhere : t ≡ x → Missing ≡ goes_to missing t
+  goes_nowhere e = sym (if-true (eqb t missing) Missing (At t) (eq-eqb t missing (e ∙ h)))
 
-  pub goes-there : (t ≡ x → ⊥) → At t ≡ goes_to missing t
-  goes-there n = sym (if-false (eqb t missing) Missing (At t) (ne_eqb t missing (λ e. n (e ∙ sym h))))
+  pub goes_there : (t ≡ x → ⊥) → At t ≡ goes_to missing t
+  goes_there n = sym (if-false (eqb t missing) Missing (At t) (ne_eqb t missing (λ e. n (e ∙ sym h))))
 
 pub destined-is : (missing n : ℕ) → destined missing n ≡ found_of (goes_to missing n)
 destined-is missing n = both (λ (d : Destination). destined missing n ≡ found_of d) (eqb n missing) (λ y. if-true _ _ _ y) (λ f. if-false _ _ _ f)

@@ -10,7 +10,6 @@ use lib.Dec.{leb}
 use lib.ListN.{length, take, drop, length-drop}
 use lib.Seq.{drop-drop}
 use borrow.Author.Tests.{leb-true, leb-false, le-leb, lt-leb}
-use Rattle.spec.specs.Lists.{if}
 use Rattle.spec.specs.Forms.{wide_in, field, announced, Sort as Means, sort, UNKNOWN}
 use Rattle.spec.specs.BadEntries.{Whole}
 use Rattle.laws.proofs.Branch.{both, if-true, if-false}

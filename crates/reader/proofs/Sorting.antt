@@ -8,7 +8,7 @@ use lib.ListN.{length, take, drop, length-drop}
 use types.Run.{OneOf, miss}
 use denote.Enum.Declared.{tag_of}
 use borrow.Author.Tests.{ne_eqb, le-ltb}
-use Rattle.spec.specs.Lists.{if, number}
+use Rattle.spec.specs.Lists.{number}
 use Rattle.spec.specs.Entries.{wide_code, way_kind, record_kind, numbered_kind}
 use Rattle.spec.specs.Forms.{wide_in, field, sort, UNKNOWN}
 use Rattle.spec.specs.Reader.{goes_on}

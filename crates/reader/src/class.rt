@@ -40,6 +40,7 @@ pub enum Step {
 }
 
 // The class of an entry: bad are "unknown kinds", "success bytes over 1", "cut entries, and bodies longer or shorter than their kind says".
+#[tactic(auto, using(crate::proofs::Classing::class_fair, crate::proofs::Classing::class_unfair))]
 pub fn class_of(entry: Entry) -> Class
     ensures { result ≡ class_of entry }
 {
@@ -109,6 +110,7 @@ fn after_way(order: Order) -> Step
 }
 
 // A record, where no 7 is left to come. "After one of 8 and 9 the other is a bad entry".
+#[tactic(auto, using(crate::proofs::Classing::record_same, crate::proofs::Classing::record_other))]
 fn after_record(order: Order, form: usize) -> Step
     ensures { result ≡ record_step form order }
 {

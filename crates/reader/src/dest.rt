@@ -24,6 +24,7 @@ fn absent(wide: bool) -> usize
 }
 
 // What a number says.
+#[tactic(auto, using(crate::proofs::Destinations::goes_nowhere, crate::proofs::Destinations::goes_there))]
 pub fn destined(wide: bool, to: usize) -> Destination
     ensures { result ≡ goes_to (absent wide) to }
 {

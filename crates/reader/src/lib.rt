@@ -1,4 +1,6 @@
 // The reader of stored maps (document 02, No. 2): the entry at an offset, the judgement of a whole byte string, and the walk over an accepted one.
+#![tactic(auto)]
+
 mod body;
 mod class;
 mod dest;

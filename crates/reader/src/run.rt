@@ -52,6 +52,7 @@ fn sevens(map: &[u8], at: usize) -> usize
 
 // The offset of the first bad entry, where the one at an offset may not come: that of an open dynamic block with "a dynamic count its 7s do not meet
 // (the dynamic entry is bad; only whole 7s count)", else this one's.
+#[tactic(auto, using(crate::proofs::Classing::stops_here, crate::proofs::Classing::stops_open))]
 pub fn stopped(map: &[u8], at: usize, order: Order) -> usize
     requires { at ≤ length map.now }
     ensures { result ≡ stopped_of order at (sevens (wide_in map.now) (from map.now at)) }

@@ -1,7 +1,6 @@
 -- What an entry adds to the counts, by its kind and by the block at hand. Assumes nothing.
-use mathlib.Core.Path.{◌≡◌, refl, sym, ap, ◌∙◌}
-use Prim.Native.Nat.{ℕ, ◌+◌, ◌≤◌, ◌<◌}
-use native.Mathlib.Omega.{arith}
+use mathlib.Core.Path.{◌≡◌, sym, ap, ◌∙◌}
+use Prim.Native.Nat.{ℕ}
 use lib.Dec.{eqb}
 use borrow.Author.Tests.{eq-eqb, ne_eqb}
 use Rattle.spec.specs.Report.{Totals, join}
@@ -14,7 +13,7 @@ use Rattle.reader.specs.declared.entry.Entry.TheVariants.{Way, Record}
 use Rattle.report.specs.Counts.{totals_from, at_place, shut_of, path_of, record_of, adds_of, sees_of, seen_by, opened_by, Shut, Longer, Recorded, Counted}
 use Rattle.report.specs.declared.count.Counts.{Counts}
 use Rattle.report.specs.declared.count.Open.{Open}
-use Rattle.report.specs.declared.count.Open.TheVariants.{Static, NoneYet, Only, Several}
+use Rattle.report.specs.declared.count.Open.TheVariants.{Only, Several}
 
 -- one after the other
 then-more : (a k x : Totals) {b t : Totals} → b ≡ join a k → t ≡ join b x → t ≡ join a (join k x)
@@ -60,20 +59,11 @@ module _ {to : Destination} (n : ℕ) where
 -- ---- the block at hand
 
 module _ (o : Open) (to : ℕ) where
-  pub sees-static : o ≡ Static → Static ≡ sees_of to o
-  sees-static e = sym (ap (sees_of to) e)
+  pub sees_same : {t : ℕ} → o ≡ Only t → t ≡ to → Only t ≡ sees_of to o
+  sees_same {t} e q = sym (ap (sees_of to) e ∙ if-true (eqb t to) (Only t) Several (eq-eqb t to q))
 
-  pub sees-first : o ≡ NoneYet → Only to ≡ sees_of to o
-  sees-first e = sym (ap (sees_of to) e)
-
-  pub sees-several : o ≡ Several → Several ≡ sees_of to o
-  sees-several e = sym (ap (sees_of to) e)
-
-  pub sees-same : {t : ℕ} → o ≡ Only t → t ≡ to → Only t ≡ sees_of to o
-  sees-same {t} e q = sym (ap (sees_of to) e ∙ if-true (eqb t to) (Only t) Several (eq-eqb t to q))
-
-  pub sees-other : {t : ℕ} → o ≡ Only t → (t ≡ to → ⊥) → Several ≡ sees_of to o
-  sees-other {t} e q = sym (ap (sees_of to) e ∙ if-false (eqb t to) (Only t) Several (ne_eqb t to q))
+  pub sees_other : {t : ℕ} → o ≡ Only t → (t ≡ to → ⊥) → Several ≡ sees_of to o
+  sees_other {t} e q = sym (ap (sees_of to) e ∙ if-false (eqb t to) (Only t) Several (ne_eqb t to q))
 
 module _ (o : Open) {to : Destination} where
   pub seen-missing : to ≡ Missing → o ≡ seen_by to o

@@ -8,12 +8,12 @@ use native.Mathlib.Numerals.{add-one}
 use native.Mathlib.Omega.{arith}
 use native.Mathlib.Decide.{dec_lt}
 use lib.Dec.{ltb}
-use lib.ListN.{length, get_or, take, drop, set, length-set, length-append}
+use lib.ListN.{length, get_or, take, drop, set, length-set}
 use lib.Seq.{take-length, take-suc, take-suc-set, drop-drop, get_or-set_same, get_or-set_other}
 use borrow.Author.Tests.{lt-ltb, le-ltb}
 use Rattle.spec.specs.Lists.{if, little, number}
 use Rattle.spec.specs.Eights.{eights, as_eights, all_fit}
-use Rattle.spec.specs.Report.{Totals, join, listed, sums, totals_in}
+use Rattle.spec.specs.Report.{join, listed, sums, totals_in}
 use Rattle.laws.proofs.Branch.{and-false}
 use Rattle.laws.proofs.Members.{and-true, gather_append}
 use Rattle.lent.specs.Bytes.{num_at, Holds, Stored}

@@ -6,7 +6,6 @@ use native.Mathlib.Nat.{mod-lt, pos_of_dvd_of_pos}
 use Rattle.spec.specs.Report.{gcd_in, gcd, lowest}
 use Rattle.theorems.proofs.Lowest.{gcd-greatest}
 use Rattle.report.specs.Numbers.{share_of}
-use Rattle.report.specs.declared.share.Share.{Share}
 
 -- more steps than are enough change nothing
 enough : (n m a b : ℕ) → b ≤ n → b ≤ m → gcd_in n a b ≡ gcd_in m a b

@@ -140,6 +140,7 @@ pub fn counted(counts: Counts, hand: Open, entry: Entry) -> Counts
 }
 
 // The block at hand with an address that one of its 7s leads to.
+#[tactic(auto, using(crate::proofs::Counted::sees_same, crate::proofs::Counted::sees_other))]
 fn sees(hand: Open, to: usize) -> Open
     ensures { result ≡ sees_of to hand }
 {

@@ -4,3 +4,4 @@ pub mod Owned
 pub mod Firsts
 pub mod Printed
 pub mod Once
+pub mod Maps

@@ -8,30 +8,12 @@ use lib.ListN.{length}
 use borrow.Author.Tests.{le-leb, lt-leb, eq-eqb, ne_eqb}
 use Rattle.spec.specs.Lists.{if}
 use Rattle.laws.proofs.Branch.{if-true, if-false, and-false}
-use Rattle.reader.specs.Shapes.{seven_at}
 use Rattle.reader.specs.Scanning.{last_of}
-use Rattle.reader.specs.declared.class.Order.{Order}
-use Rattle.reader.specs.declared.class.Order.TheVariants.{Blocks, Sevens, Records}
 use Rattle.reader.specs.declared.scan.Scan.{Scan}
 use Rattle.reader.specs.declared.scan.Reading.{Reading}
 use Rattle.salvage.specs.Promises.{runs, over_of, closed_of}
 use Rattle.salvage.specs.declared.first.First.{First}
 use Rattle.salvage.specs.declared.first.First.TheVariants.{Whole, Bad}
-
--- ---- of_run
-
-module _ (b : List ℕ) (at : ℕ) {p : Order} where
-  pub run-head : {low : ℕ} → p ≡ Blocks low → low ≡ 0 → false ≡ runs p b at
-  run-head q z = sym (ap (λ (x : Order). runs x b at) q ∙ ap (λ (c : Bool). not c && seven_at b at) (eq-eqb _ 0 z))
-
-  pub run-block : {low : ℕ} {r : Bool} → p ≡ Blocks low → (low ≡ 0 → ⊥) → r ≡ seven_at b at → r ≡ runs p b at
-  run-block q n h = h ∙ sym (ap (λ (x : Order). runs x b at) q ∙ ap (λ (c : Bool). not c && seven_at b at) (ne_eqb _ 0 n))
-
-  pub run-sevens : {low block left : ℕ} {r : Bool} → p ≡ Sevens low block left → r ≡ seven_at b at → r ≡ runs p b at
-  run-sevens q h = h ∙ sym (ap (λ (x : Order). runs x b at) q)
-
-  pub run-records : {form : ℕ} → p ≡ Records form → false ≡ runs p b at
-  run-records q = sym (ap (λ (x : Order). runs x b at) q)
 
 -- ---- over
 

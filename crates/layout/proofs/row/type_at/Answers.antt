@@ -1,5 +1,4 @@
 -- `type_at` meets its contract: what is read is what stands there. Assumes nothing.
-use borrow.Author.Rules.{rules}
 use Rattle.layout.proofs.Writing.{read-type}
 use Rattle.layout.proofs.row.type_at.Goals as goal
 

@@ -1,5 +1,4 @@
 -- `get16`: two halves of one byte, by the law over the width. Assumes nothing.
-use borrow.Author.Rules.{rules}
 use Rattle.lent.proofs.Holds.{holds-twice}
 use Rattle.lent.proofs.number.get16.Goals as goal
 

@@ -1,5 +1,4 @@
 -- `get32`: two halves of two bytes, by the law over the width. Assumes nothing.
-use borrow.Author.Rules.{rules}
 use Rattle.lent.proofs.Holds.{holds-twice}
 use Rattle.lent.proofs.number.get32.Goals as goal
 

@@ -1,5 +1,4 @@
 -- `get64`: two halves of four bytes, by the law over the width. Assumes nothing.
-use borrow.Author.Rules.{rules}
 use Rattle.lent.proofs.Holds.{holds-twice}
 use Rattle.lent.proofs.number.get64.Goals as goal
 

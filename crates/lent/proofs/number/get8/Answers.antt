@@ -1,5 +1,4 @@
 -- `get8`: a byte is the number that it holds. Assumes nothing.
-use borrow.Author.Rules.{rules}
 use Rattle.lent.proofs.Holds.{holds-byte}
 use Rattle.lent.proofs.number.get8.Goals as goal
 

@@ -1,5 +1,4 @@
 -- `put16`: two halves of one byte, by the law over the width. Assumes nothing.
-use borrow.Author.Rules.{rules}
 use Rattle.lent.proofs.Stored.{stored-twice}
 use Rattle.lent.proofs.number.put16.Goals as goal
 

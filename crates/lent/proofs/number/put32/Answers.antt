@@ -1,5 +1,4 @@
 -- `put32`: two halves of two bytes, by the law over the width. Assumes nothing.
-use borrow.Author.Rules.{rules}
 use Rattle.lent.proofs.Stored.{stored-twice}
 use Rattle.lent.proofs.number.put32.Goals as goal
 

@@ -1,5 +1,4 @@
 -- `put64`: two halves of four bytes, by the law over the width. Assumes nothing.
-use borrow.Author.Rules.{rules}
 use Rattle.lent.proofs.Stored.{stored-twice}
 use Rattle.lent.proofs.number.put64.Goals as goal
 

@@ -1,5 +1,4 @@
 -- `put8`: one store is a run of one byte. Assumes nothing.
-use borrow.Author.Rules.{rules}
 use Rattle.lent.proofs.Stored.{stored-byte}
 use Rattle.lent.proofs.number.put8.Goals as goal
 

@@ -1,9 +1,6 @@
 -- `copy`: after i turns the first i bytes of the source are stored. Assumes nothing.
-use Prim.Native.Nat.{◌-◌, ◌≤◌}
 use native.Mathlib.Omega.{arith}
-use lib.ListN.{take, drop}
 use borrow.Author.Rules.{rules}
-use Rattle.lent.specs.Bytes.{Stored}
 use Rattle.lent.proofs.Stored.{stored-none}
 use Rattle.lent.proofs.Runs.{copy_more, copy_done}
 use Rattle.lent.proofs.run.copy.Goals as goal

@@ -1,11 +1,7 @@
 -- `copy_down`: after i turns the first i bytes, as they were at entry, are stored. Assumes nothing.
 use Prim.Native.Nat.{◌-◌, ◌≤◌}
-use native.Mathlib.Omega.{arith}
 use lib.ListN.{take, drop}
-use borrow.Author.Rules.{rules}
 use Rattle.lent.specs.Bytes.{Stored}
-use Rattle.lent.proofs.Stored.{stored-none}
-use Rattle.lent.proofs.Runs.{down-more, copy_done}
 use Rattle.lent.proofs.run.copy_down.Given as goal
 
 abbrev pub invariant-loop-i : goal.invariant-loop-i

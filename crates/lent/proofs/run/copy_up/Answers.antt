@@ -1,8 +1,5 @@
 -- `copy_up`: with i bytes left to move, those past them, as they were at entry, are stored. Assumes nothing.
-use Prim.Native.Nat.{◌+◌, ◌-◌, ◌≤◌}
-use lib.ListN.{take, drop}
 use borrow.Author.Rules.{rules}
-use Rattle.lent.specs.Bytes.{Stored}
 use Rattle.lent.proofs.Runs.{up_none, up_more, up_done}
 use Rattle.lent.proofs.run.copy_up.Goals as goal
 

@@ -1,9 +1,7 @@
 -- `copy_up`: with i bytes left to move, those past them, as they were at entry, are stored. Assumes nothing.
 use Prim.Native.Nat.{◌+◌, ◌-◌, ◌≤◌}
 use lib.ListN.{take, drop}
-use borrow.Author.Rules.{rules}
 use Rattle.lent.specs.Bytes.{Stored}
-use Rattle.lent.proofs.Runs.{up_none, up_more, up_done}
 use Rattle.lent.proofs.run.copy_up.Given as goal
 
 abbrev pub invariant-loop-i : goal.invariant-loop-i

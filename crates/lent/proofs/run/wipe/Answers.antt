@@ -1,5 +1,4 @@
 -- `wipe`: zeros stored over the whole are all there is. Assumes nothing.
-use borrow.Author.Rules.{rules}
 use Rattle.lent.proofs.Runs.{wiped}
 use Rattle.lent.proofs.run.wipe.Goals as goal
 

@@ -1,9 +1,6 @@
 -- `wipe_part`: after i turns the first i bytes are 0. Assumes nothing.
-use Prim.Native.Nat.{◌-◌, ◌≤◌}
 use native.Mathlib.Omega.{arith}
-use lib.ListN.{replicate}
 use borrow.Author.Rules.{rules}
-use Rattle.lent.specs.Bytes.{Stored}
 use Rattle.lent.proofs.Stored.{stored-none}
 use Rattle.lent.proofs.Runs.{wipe-more, wipe-done}
 use Rattle.lent.proofs.run.wipe_part.Goals as goal

@@ -1,6 +1,5 @@
 -- `dynamic_jump` meets its contract: each way out is a law of the body. Assumes nothing.
 use Rattle.reader.proofs.Bodies.{dynamic_jump-wrong, dynamic_jump-right}
-use borrow.Author.Rules.{rules}
 use Rattle.reader.proofs.body.dynamic_jump.Goals as goal
 
 pub returns-then-long-ne8 : goal.returns-then-long-ne8

@@ -1,6 +1,5 @@
 -- `dynamic_jumpi` meets its contract: each way out is a law of the body. Assumes nothing.
 use Rattle.reader.proofs.Bodies.{dynamic_jumpi-wrong, dynamic_jumpi-right}
-use borrow.Author.Rules.{rules}
 use Rattle.reader.proofs.body.dynamic_jumpi.Goals as goal
 
 pub returns-then-long-ne10 : goal.returns-then-long-ne10

@@ -1,6 +1,5 @@
 -- `head` meets its contract: each way out is a law of the body. Assumes nothing.
 use Rattle.reader.proofs.Bodies.{head-wrong, head-right}
-use borrow.Author.Rules.{rules}
 use Rattle.reader.proofs.body.head.Goals as goal
 
 pub returns-then-long-ne12 : goal.returns-then-long-ne12

@@ -1,6 +1,5 @@
 -- `jumpi` meets its contract: each way out is a law of the body. Assumes nothing.
 use Rattle.reader.proofs.Bodies.{jumpi-wrong, jumpi-right}
-use borrow.Author.Rules.{rules}
 use Rattle.reader.proofs.body.jumpi.Goals as goal
 
 pub returns-then-long-ne8 : goal.returns-then-long-ne8

@@ -1,6 +1,5 @@
 -- `numbered` meets its contract: each way out is a law of the body. Assumes nothing.
 use Rattle.reader.proofs.Bodies.{numbered-short, numbered-wrong, numbered-right}
-use borrow.Author.Rules.{rules}
 use Rattle.reader.proofs.body.numbered.Goals as goal
 
 pub returns-then-long-lt12 : goal.returns-then-long-lt12

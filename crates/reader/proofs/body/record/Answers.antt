@@ -1,6 +1,5 @@
 -- `record` meets its contract: each way out is a law of the body. Assumes nothing.
 use Rattle.reader.proofs.Bodies.{record-short, record-wrong, record-right}
-use borrow.Author.Rules.{rules}
 use Rattle.reader.proofs.body.record.Goals as goal
 
 pub returns-then-long-lt8 : goal.returns-then-long-lt8

@@ -1,6 +1,5 @@
 -- `terminate` meets its contract: each way out is a law of the body. Assumes nothing.
 use Rattle.reader.proofs.Bodies.{terminate-wrong, terminate-right}
-use borrow.Author.Rules.{rules}
 use Rattle.reader.proofs.body.terminate.Goals as goal
 
 pub returns-then-long-ne5 : goal.returns-then-long-ne5

@@ -1,6 +1,5 @@
 -- `way` meets its contract: each way out is a law of the body. Assumes nothing.
 use Rattle.reader.proofs.Bodies.{way-short, way-wrong, way-right}
-use borrow.Author.Rules.{rules}
 use Rattle.reader.proofs.body.way.Goals as goal
 
 pub returns-then-long-lt6 : goal.returns-then-long-lt6

@@ -1,6 +1,5 @@
 -- `after_block` meets its contract: each way out is a law of the order. Assumes nothing.
 use Rattle.reader.proofs.Classing.{block-above, block-below, block_owed, block-met-above, block-met-below}
-use borrow.Author.Rules.{rules}
 use Rattle.reader.proofs.class.after_block.Goals as goal
 
 pub returns-then-low-start : goal.returns-then-low-start

@@ -1,19 +1,12 @@
 -- `after_record` meets its contract: each way out is a law of the order. Assumes nothing.
-use Rattle.reader.proofs.Classing.{record-owed, record-met, record-blocks, record_same, record-other}
-use borrow.Author.Rules.{rules}
+use Rattle.reader.proofs.Classing.{record-owed, record-met, record-blocks}
 use Rattle.reader.proofs.class.after_record.Goals as goal
 
 pub returns-then-left-ne0 : goal.returns-then-left-ne0
 returns-then-left-ne0 c = search record-owed
-
-pub returns-then-form-before : goal.returns-then-form-before
-returns-then-form-before c = search record-other
 
 pub returns-else-left-ne0 : goal.returns-else-left-ne0
 returns-else-left-ne0 c = search record-met
 
 pub returns-in-Blocks : goal.returns-in-Blocks
 returns-in-Blocks c = search record-blocks
-
-pub returns-else-form-before : goal.returns-else-form-before
-returns-else-form-before c = search record_same

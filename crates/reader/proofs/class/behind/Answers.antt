@@ -1,6 +1,5 @@
 -- `behind` meets its contract: each arm is the law of its class. Assumes nothing.
 use Rattle.reader.proofs.Classing.{behind-static, behind-dynamic, behind-record, sum-static, sum-dynamic}
-use borrow.Author.Rules.{rules}
 use Rattle.reader.proofs.class.behind.Goals as goal
 
 pub overflow_add-start : goal.overflow_add-start

@@ -1,13 +1,6 @@
 -- `class_of` meets its contract: each way out is a law of the class. Assumes nothing.
-use Rattle.reader.proofs.Classing.{class-fair, class-unfair, class-jump, class-jumpi, class-dynamic_jump, class-dynamic_jumpi, class-record}
-use borrow.Author.Rules.{rules}
+use Rattle.reader.proofs.Classing.{class-jump, class-jumpi, class-dynamic_jump, class-dynamic_jumpi, class-record}
 use Rattle.reader.proofs.class.class_of.Goals as goal
-
-pub returns-then-success-le1 : goal.returns-then-success-le1
-returns-then-success-le1 c = search class-fair
-
-pub returns-else-success-le1 : goal.returns-else-success-le1
-returns-else-success-le1 c = search class-unfair
 
 pub returns-in-Jump : goal.returns-in-Jump
 returns-in-Jump c = search class-jump

@@ -1,6 +1,5 @@
 -- `entry_at` meets its contract: an entry of each kind is its body's. Assumes nothing.
 use Rattle.reader.proofs.Leads.{sum-6, lead-room, entry-sorted, entry-none, entry-cut}
-use borrow.Author.Rules.{rules}
 use Rattle.reader.proofs.entry.entry_at.Goals as goal
 
 pub overflow_add-body : goal.overflow_add-body

@@ -1,6 +1,5 @@
 -- `path_sort` meets its contract, in either family. Assumes nothing.
 use Rattle.reader.proofs.Sorting.{path-wide, path-narrow}
-use borrow.Author.Rules.{rules}
 use Rattle.reader.proofs.kind.path_sort.Goals as goal
 
 pub returns-then-second : goal.returns-then-second

@@ -2,7 +2,6 @@
 use Rattle.spec.specs.Lists.{if}
 use Rattle.spec.specs.Forms.{sort}
 use Rattle.reader.proofs.Sorting.{kind-path}
-use borrow.Author.Rules.{rules}
 use Rattle.reader.proofs.kind.sort_of.Goals as goal
 
 pub returns-in-1 : goal.returns-in-1

@@ -1,6 +1,5 @@
 -- `wide_in` meets its contract: the two bytes are the code length, and fewer bytes have none. Assumes nothing.
 use Rattle.reader.proofs.Sorting.{wide_short, wide-there}
-use borrow.Author.Rules.{rules}
 use Rattle.reader.proofs.kind.wide_in.Goals as goal
 
 pub returns-then-map-lt8 : goal.returns-then-map-lt8

@@ -1,6 +1,5 @@
 -- `end_of` meets its contract: each way out is a law of the leading bytes. Assumes nothing.
 use Rattle.reader.proofs.Leads.{sum-6, sum_body, next-whole, next-cut}
-use borrow.Author.Rules.{rules}
 use Rattle.reader.proofs.lead.end_of.Goals as goal
 
 pub overflow_add-result : goal.overflow_add-result

@@ -1,6 +1,5 @@
 -- `lead_at` meets its contract: each way out is a law of the leading bytes. Assumes nothing.
 use Rattle.reader.proofs.Leads.{lead-past, lead-few, lead-cut, lead-whole}
-use borrow.Author.Rules.{rules}
 use Rattle.reader.proofs.lead.lead_at.Goals as goal
 
 pub returns-then-len-at : goal.returns-then-len-at

@@ -1,7 +1,5 @@
 -- `seven_at` meets its contract: the leading bytes of a whole entry tell. Assumes nothing.
-use Rattle.reader.proofs.Sorting.{no_seven}
 use Rattle.reader.proofs.Leads.{seven-cut, seven-there, seven-other}
-use borrow.Author.Rules.{rules}
 use Rattle.reader.proofs.run.seven_at.Goals as goal
 
 pub returns-in-Way : goal.returns-in-Way

@@ -1,10 +1,6 @@
 -- `sevens` meets its contract: those counted and those still to come are the whole run. The measure is what is left of the bytes. Assumes nothing.
-use Prim.Native.Nat.{◌-◌}
-use lib.ListN.{length}
-use Rattle.reader.proofs.Sorting.{no_seven}
-use Rattle.reader.proofs.Onward.{Counting, count_none, count_cut, count-other, count-more, count_less, count_fits}
+use Rattle.reader.proofs.Onward.{count_none, count_cut, count-other, count-more, count_less, count_fits}
 use Rattle.reader.proofs.Leads.{sum-6, sum_body}
-use borrow.Author.Rules.{rules}
 use Rattle.reader.proofs.run.sevens.Goals as goal
 
 pub loop-kind-init : goal.loop-kind-init

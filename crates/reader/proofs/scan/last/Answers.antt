@@ -1,6 +1,5 @@
 -- `last` meets its contract, for each order in which the entries may end. Assumes nothing.
 use Rattle.reader.proofs.Resting.{last-owed, last-met, last-blocks, last-records}
-use borrow.Author.Rules.{rules}
 use Rattle.reader.proofs.scan.last.Goals as goal
 
 pub returns-then-left-ne0 : goal.returns-then-left-ne0

@@ -1,6 +1,5 @@
 -- `one` meets its contract: what is left to judge behind the entry ends where the whole does, or the entry is where the scan stops. Assumes nothing.
 use Rattle.reader.proofs.Turning.{one-low, sum-blocks, sum-records, one-goes, one-stops}
-use borrow.Author.Rules.{rules}
 use Rattle.reader.proofs.scan.one.Goals as goal
 
 pub behind-requires : goal.behind-requires

@@ -1,7 +1,6 @@
 -- `read` meets its contract: behind a head the rest decides; with any other first entry the offset is 0. Assumes nothing.
-use Rattle.reader.proofs.Resting.{read_head, another, read_none}
+use Rattle.reader.proofs.Resting.{read_head, read_none}
 use Rattle.reader.proofs.Turning.{one_in}
-use borrow.Author.Rules.{rules}
 use Rattle.reader.proofs.scan.read.Goals as goal
 
 pub rest-requires : goal.rest-requires

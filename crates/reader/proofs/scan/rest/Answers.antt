@@ -1,8 +1,5 @@
 -- `rest` meets its contract: what is left to judge ends where the whole does. The measure is what is left of the bytes. Assumes nothing.
-use Rattle.reader.proofs.Resting.{Scans, scan-start, scan-on, scan-less, scan-bad, scan-last}
-use lib.ListN.{length}
-use Prim.Native.Nat.{◌-◌}
-use borrow.Author.Rules.{rules}
+use Rattle.reader.proofs.Resting.{scan-start, scan-on, scan-less, scan-bad, scan-last}
 use Rattle.reader.proofs.scan.rest.Goals as goal
 
 pub loop-scan-init : goal.loop-scan-init

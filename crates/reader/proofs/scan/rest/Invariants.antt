@@ -1,8 +1,7 @@
 -- `rest` meets its contract: what is left to judge ends where the whole does. The measure is what is left of the bytes. Assumes nothing.
-use Rattle.reader.proofs.Resting.{Scans, scan-start, scan-on, scan-less, scan-bad, scan-last}
+use Rattle.reader.proofs.Resting.{Scans}
 use lib.ListN.{length}
 use Prim.Native.Nat.{◌-◌}
-use borrow.Author.Rules.{rules}
 use Rattle.reader.proofs.scan.rest.Given as goal
 
 abbrev pub invariant-loop-scan : goal.invariant-loop-scan

@@ -1,6 +1,5 @@
 -- `address` meets its contract: the two bytes at its place. Assumes nothing.
 use Rattle.reader.proofs.Paths.{addressed}
-use borrow.Author.Rules.{rules}
 use Rattle.reader.proofs.walk.address.Goals as goal
 
 pub returns : goal.returns

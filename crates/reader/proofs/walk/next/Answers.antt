@@ -1,6 +1,5 @@
 -- `next` meets its contract: each way out is a law of the walk. Assumes nothing.
 use Rattle.reader.proofs.Walked.{next-over, next_here}
-use borrow.Author.Rules.{rules}
 use Rattle.reader.proofs.walk.next.Goals as goal
 
 pub returns-then-map-at : goal.returns-then-map-at

@@ -1,5 +1,5 @@
 -- `digits`: by the powers of ten. Assumes nothing.
-use Rattle.text.proofs.Figures.{one-digit, two_digits, three-digits, four-digits, five-digits}
+use Rattle.text.proofs.Figures.{one-digit, two_digits, five-digits}
 use Rattle.text.proofs.decimal.digits.Goals as goal
 
 pub returns-then-value-lt10 : goal.returns-then-value-lt10
@@ -7,12 +7,6 @@ returns-then-value-lt10 c = search one-digit
 
 pub returns-then-value-lt100 : goal.returns-then-value-lt100
 returns-then-value-lt100 c = search two_digits
-
-pub returns-then-value-lt1000 : goal.returns-then-value-lt1000
-returns-then-value-lt1000 c = search three-digits
-
-pub returns-then-value-lt10000 : goal.returns-then-value-lt10000
-returns-then-value-lt10000 c = search four-digits
 
 pub returns : goal.returns
 returns c = search five-digits

@@ -1,6 +1,5 @@
 -- `put_decimal`: with i digits left, those past them are stored. Assumes nothing.
-use borrow.Author.Rules.{rules}
-use Rattle.text.proofs.Figures.{Storing, digits-start, digits-turn, digits-done}
+use Rattle.text.proofs.Figures.{digits-start, digits-turn, digits-done}
 use Rattle.text.proofs.decimal.put_decimal.Goals as goal
 
 pub loop-i-init : goal.loop-i-init

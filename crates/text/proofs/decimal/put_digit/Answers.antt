@@ -1,5 +1,4 @@
 -- `put_digit`: one store is a run of one byte. Assumes nothing.
-use borrow.Author.Rules.{rules}
 use Rattle.lent.proofs.Stored.{stored-byte}
 use Rattle.text.proofs.decimal.put_digit.Goals as goal
 

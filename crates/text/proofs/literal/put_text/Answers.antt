@@ -1,6 +1,5 @@
 -- `put_text`: as many bytes as there are are all. Assumes nothing.
 use Rattle.text.proofs.Texts.{text-stored}
-use borrow.Author.Rules.{rules}
 use Rattle.text.proofs.literal.put_text.Goals as goal
 
 pub returns : goal.returns

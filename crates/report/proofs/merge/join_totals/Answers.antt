@@ -1,0 +1,15 @@
+-- `join_totals` meets its contract: the places passed hold sums that fit. Assumes nothing.
+use Rattle.report.proofs.Placed.{joining-start, joining-on, joining-large, joining-end}
+use Rattle.report.proofs.merge.join_totals.Goals as goal
+
+pub loop-i-init : goal.loop-i-init
+loop-i-init c = search joining-start
+
+pub loop-i-preserved : goal.loop-i-preserved
+loop-i-preserved c = search joining-on
+
+pub returns-in-TooLarge : goal.returns-in-TooLarge
+returns-in-TooLarge c = search joining-large
+
+pub returns : goal.returns
+returns c = search joining-end
