@@ -181,10 +181,11 @@ module _ (mode : ℕ) (code map : List ℕ) (lo : ℕ) (w rs : List ℕ) where
 
 -- ---- tell
 
-module _ (place row : List ℕ) where
-  pub tells_none : length place < 8 → Tells place row place
-  tells_none h = record { is = sym (if-false (leb 8 (length place)) _ place (lt-leb 8 (length place) h)) }
+-- it is listed in src/call.rt, and no answer, which would go by the number 8
+pub untold : (front place : List ℕ) → length place < 8 → if (leb 8 (length place)) front place ≡ place
+untold front place h = if-false (leb 8 (length place)) front place (lt-leb 8 (length place) h)
 
+module _ (place row : List ℕ) where
   pub tells-there : 8 ≤ length place → {place' : List ℕ} → Stored 8 place 0 (take 8 (drop 8 row)) place' → Tells place row place'
   unfolding patch
   tells-there h s = record {

@@ -91,6 +91,7 @@ pub fn inspect_from(
 }
 
 // Copies the place in the path out of a row, where it has 8 bytes.
+#[tactic(auto, using(crate::proofs::Answering::untold))]
 fn tell(place: &mut [u8], row: &[u8])
     requires { 16 ≤ length row.now }
     ensures { Tells place.old row.now place.new }
