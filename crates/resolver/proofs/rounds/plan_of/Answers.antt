@@ -25,4 +25,4 @@ returns c =
       then-rooms-lt-MOST_SHELVES w ↦ omega (arith, w.shelves-is)
     | else-rooms-lt-MOST_SHELVES w ↦ omega (arith, w.shelves-is)
     ] in
-    plan-is args.mode args.size args.limit args.many args.rooms few c.number_of.ensures c.buckets_of-buckets.ensures
+    plan-is args.mode args.size args.limit args.many args.rooms few c.number_of-number.ensures c.buckets_of-buckets.ensures
