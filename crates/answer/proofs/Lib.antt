@@ -4,3 +4,4 @@ pub mod Mapping
 pub mod Calls
 pub mod JsonCalls
 pub mod Once
+pub mod Running

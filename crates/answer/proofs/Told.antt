@@ -78,8 +78,8 @@ module _ (w r q : List ℕ) (n : ℕ) {d : Run} (choice : ℕ) (out : List ℕ) 
 -- ---- both written, or neither
 
 -- the text fits into a room of the same size
-pub text-room : {w r q : List ℕ} {n m u v : ℕ} {b : Bool} → u ≡ v → texts.FitsRoom w r q n m u b → not b ≡ false → texts.FitsRoom w r q n m v true
-text-room {b = b} e f h = rw (e, not-false b h) at f
+pub text-room : {w r q : List ℕ} {n m u v : ℕ} {b : Bool} → u ≡ v → texts.FitsRoom w r q n m u b → b ≡ true → texts.FitsRoom w r q n m v true
+text-room e f h = rw (e, h) at f
 
 -- by whether the entries fit
 by-room : (l : Lent) (m : Map) (F : spec.Answer → Type 0) → (length (bytes m) ≤ units l.out 1 → F (answered m)) → (units l.out 1 < length (bytes m) → F (refused 9))
