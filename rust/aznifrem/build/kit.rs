@@ -11,10 +11,10 @@ pub struct Kit {
 }
 
 impl Kit {
-    /// The kit that the `rt` on the PATH is of: `rt doc` prints a file in its folder `docs`.
+    /// The kit that the `rt` on the PATH is of: `rt doc` prints a file in its folder.
     pub fn found(machine: &str) -> Result<Kit, String> {
         let printed = said(Command::new("rt").arg("doc"))?;
-        let home = Path::new(printed.trim()).parent().and_then(Path::parent);
+        let home = Path::new(printed.trim()).parent();
         let own = home.map(|home| home.join("on").join(machine));
         let kit = Kit {
             own: own.unwrap_or_default(),

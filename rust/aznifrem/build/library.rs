@@ -9,6 +9,8 @@ use std::{env, thread};
 
 pub const FOLDER: &str = "AZNIFREM_LIB_DIR";
 pub const FILE: &str = "libaznifrem.a";
+/// Where it is proved and built.
+const CRATE: &str = "crates/aznifrem";
 
 /// The folder that the caller names, else the repository's.
 pub fn folder() -> Result<PathBuf, String> {
@@ -16,7 +18,7 @@ pub fn folder() -> Result<PathBuf, String> {
         return named(PathBuf::from(folder));
     }
     let repository = repository()?;
-    let made = repository.join("target").join("staticlib");
+    let made = repository.join(CRATE).join("out");
     if !made.join(FILE).is_file() {
         // Another build of this repository may be at it: then this one waits, and finds it made.
         let locked = File::open(repository.join("crates.txt"));
@@ -27,7 +29,7 @@ pub fn folder() -> Result<PathBuf, String> {
     }
     if !made.join(FILE).is_file() {
         return Err(format!(
-            "'rt staticlib aznifrem' ended well and left no target/staticlib/{FILE}. {}",
+            "'rt lib' ended well and left no {CRATE}/out/{FILE}. {}",
             advice()
         ));
     }
@@ -51,13 +53,13 @@ pub fn named(folder: PathBuf) -> Result<PathBuf, String> {
 }
 
 fn warn_if_stale(crates: &Path, library: &Path) {
-    // Of a path that is not there, cargo would run this script at every build.
-    if crates.is_dir() {
-        println!("cargo:rerun-if-changed={}", crates.display());
+    // What `rt` makes in a crate's out/ is no source. Of a path that is not there, cargo would run this script at every build.
+    for folder in sources(crates) {
+        println!("cargo:rerun-if-changed={}", folder.display());
     }
     if let Some(newer) = newer_source(crates, library) {
         println!(
-            "cargo:warning={} is newer than target/staticlib/{FILE}: run 'rt staticlib aznifrem' at the top of the repository if it has changed",
+            "cargo:warning={} is newer than {CRATE}/out/{FILE}: run 'rt lib' in {CRATE} if it has changed",
             newer.display()
         );
     }
@@ -67,8 +69,14 @@ fn warn_if_stale(crates: &Path, library: &Path) {
 pub fn newer_source(crates: &Path, library: &Path) -> Option<PathBuf> {
     let made = changed(library)?;
     let newer = |file: &PathBuf| changed(file).is_some_and(|time| time > made);
-    let sources = entries(crates).into_iter().map(|one| one.join("src"));
+    let sources = sources(crates).into_iter();
     sources.flat_map(|folder| files(&folder)).find(newer)
+}
+
+/// The crates' folders of source.
+fn sources(crates: &Path) -> Vec<PathBuf> {
+    let folders = entries(crates).into_iter().map(|one| one.join("src"));
+    folders.filter(|folder| folder.is_dir()).collect()
 }
 
 fn changed(file: &Path) -> Option<SystemTime> {
@@ -107,29 +115,27 @@ fn repository() -> Result<PathBuf, String> {
 fn make(repository: &Path) -> Result<(), String> {
     let begun = Instant::now();
     tell(
-        "the proved library is missing: 'rt staticlib aznifrem' proves and builds it now, once. That takes five to ten minutes on two cores.",
+        "the proved library is missing: 'rt lib' in crates/aznifrem proves and builds it now, once. That takes ten to thirty minutes on two cores.",
     );
-    // This one proves crates beside each other; the next would prove them one by one.
-    run(repository, "check")?;
-    run(repository, "staticlib")?;
+    run(repository)?;
     let seconds = begun.elapsed().as_secs();
     println!(
-        "cargo:warning=the library was proved and built by 'rt staticlib aznifrem' in {seconds} s"
+        "cargo:warning=the library was proved and built by 'rt lib' in {CRATE} in {seconds} s"
     );
     Ok(())
 }
 
-/// Runs `rt WORD aznifrem`; its lines are told as they come.
-fn run(repository: &Path, word: &str) -> Result<(), String> {
+/// Runs `rt lib` in the crate's folder; its lines are told as they come.
+fn run(repository: &Path) -> Result<(), String> {
     let child = Command::new("rt")
-        .args([word, "aznifrem"])
-        .current_dir(repository)
+        .arg("lib")
+        .current_dir(repository.join(CRATE))
         .stdout(Stdio::piped())
         .stderr(Stdio::piped())
         .spawn();
     let mut child = child.map_err(|e| {
         format!(
-            "the proved library target/staticlib/{FILE} is missing and Rattle's 'rt', which makes it, cannot be run ({e}). {}",
+            "the proved library {CRATE}/out/{FILE} is missing and Rattle's 'rt', which makes it, cannot be run ({e}). {}",
             advice()
         )
     })?;
@@ -142,7 +148,7 @@ fn run(repository: &Path, word: &str) -> Result<(), String> {
         return Ok(());
     }
     Err(format!(
-        "'rt {word} aznifrem' failed; what it says stands above. {}",
+        "'rt lib' in {CRATE} failed; what it says stands above. {}",
         advice()
     ))
 }
@@ -166,6 +172,6 @@ fn tell(line: &str) {
 
 pub fn advice() -> String {
     format!(
-        "Install Rattle's toolchain and run 'rt staticlib aznifrem' at the top of the repository, or set {FOLDER} to a folder that has {FILE} for x86-64 Linux."
+        "Install Rattle's toolchain and run 'rt lib' in {CRATE}, or set {FOLDER} to a folder that has {FILE} for x86-64 Linux."
     )
 }

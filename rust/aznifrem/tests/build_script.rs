@@ -34,7 +34,7 @@ fn the_whole_path_of_the_library_is_taken_and_no_other() {
     assert!(empty.contains("no libaznifrem.a is in it"), "{empty}");
     put(&here.join("libaznifrem.a"), 0);
     assert_eq!(named(here.clone()), Ok(here));
-    for relative in ["target/staticlib", ".", ""] {
+    for relative in ["crates/aznifrem/out", ".", ""] {
         let refused = named(relative.into()).expect_err("it is relative");
         assert!(refused.contains("is a relative path"), "{refused}");
         assert!(refused.contains("Set it to the whole path"), "{refused}");
