@@ -2,3 +2,9 @@ pub mod Refusing
 pub mod Hexes
 pub mod Rendering
 pub mod Once
+pub mod DecodeLoop
+pub mod Worths
+pub mod Items
+pub mod Telling
+pub mod Cutting
+pub mod Answering

@@ -9,7 +9,7 @@ use Rattle.spec.specs.Answer.{Answer, refused, answered}
 use Rattle.spec.specs.Program.{says_refused, prints}
 use Rattle.lent.specs.Bytes.{Stored}
 use Rattle.map.specs.Promises.{Cut, Lists, Lined, Numbered, refusal, map, Told, Shows, Prints}
-use Rattle.map.proofs.lines.put_answer.Proof.Items.{entries-items}
+use Rattle.map.proofs.Items.{entries-items}
 
 -- ---- a refusal
 

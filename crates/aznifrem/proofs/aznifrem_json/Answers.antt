@@ -1,0 +1,10 @@
+-- `aznifrem_json`: the number, or both counts. Assumes nothing.
+use borrow.Author.Rules.{rules}
+use Rattle.aznifrem.proofs.Exports.{json-few, json-given}
+use Rattle.aznifrem.proofs.aznifrem_json.Goals as goal
+
+pub given_both-requires : goal.given_both-requires
+given_both-requires c = json-few c.map_json.ensures
+
+pub returns : goal.returns
+returns c = json-given c.map_json.ensures c.given_both.ensures

@@ -1,0 +1,7 @@
+-- `put_digits`: one after the other. Assumes nothing.
+use borrow.Author.Rules.{rules}
+use Rattle.map.proofs.Hexes.{hex-byte}
+use Rattle.map.proofs.lines.put_digits.Goals as goal
+
+pub returns : goal.returns
+returns c = search hex-byte

@@ -1,0 +1,13 @@
+-- `put_lines`: after some turns the entries passed are printed. Assumes nothing.
+use Rattle.map.proofs.Cutting.{Walks, walks-none, starts, puts-line, walks_more, walks-done}
+use mathlib.Core.Path.{◌≡◌, refl}
+use Prim.Native.Nat.{◌-◌}
+use lib.ListN.{length}
+use borrow.Author.Rules.{rules}
+use Rattle.map.proofs.lines.put_lines.Given as goal
+
+abbrev pub invariant-loop-at : goal.invariant-loop-at
+invariant-loop-at l = (length l.out ≡ length l.initial.out) × Walks l.raw l.count l.initial.out l.out l.at l.end
+
+abbrev pub decreases-loop-at : goal.decreases-loop-at
+decreases-loop-at l = l.count - l.at

@@ -1,0 +1,10 @@
+-- `put_map`: what the call leaves is printed. Assumes nothing.
+use Rattle.map.proofs.Answering.{shows, printed}
+use borrow.Author.Rules.{rules}
+use Rattle.map.proofs.rooms.put_map.Goals as goal
+
+pub put_answer-requires : goal.put_answer-requires
+put_answer-requires c = shows c.requires c.map_code-a.ensures
+
+pub returns : goal.returns
+returns c = printed c.requires c.map_code-a.ensures c.put_answer.ensures
