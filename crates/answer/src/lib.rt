@@ -1,4 +1,6 @@
 // The whole answer: the refusals in the documents' order, the map, with the text or without, and what stands in every lent byte afterwards.
+#![tactic(auto)]
+
 mod both;
 mod early;
 mod find;

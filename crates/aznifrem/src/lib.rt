@@ -1,6 +1,8 @@
 // The exported calls.
 // "A call returns the number and the bytes written, 0 if refused; the exported entry gives whichever isn't 0. The exported entry takes numbers and byte
 // slices."
+#![tactic(auto)]
+
 mod archive;
 mod release;
 mod second;

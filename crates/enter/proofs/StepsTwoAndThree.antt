@@ -9,7 +9,7 @@ use mathlib.Core.List.{List, [], ◌∷◌, ◌++◌}
 use lib.Dec.{eqb, ltb}
 use lib.ListN.{length, take, length-append}
 use borrow.Author.Tests.{lt-ltb, le-ltb, le-leb, lt-leb}
-use Rattle.spec.specs.Lists.{if, mem}
+use Rattle.spec.specs.Lists.{if}
 use Rattle.spec.specs.Search as search
 use Rattle.spec.specs.Search.{nowhere, P, St, need, Turn, record_nowhere, follow, loops}
 use Rattle.spec.specs.Rooms.{Lent, or_else, shortage}
@@ -25,7 +25,7 @@ use Rattle.tables.specs.Rows.{met_of}
 use Rattle.tables.specs.Tables as tables
 use Rattle.tables.specs.Tables.{new_found, no_entry, enters_nowhere}
 use Rattle.tables.specs.declared.Entry.{Entry}
-use Rattle.tables.specs.Recording.{Lends, short_of, noted, Holding}
+use Rattle.tables.specs.Recording.{Lends, short_of, Holding}
 use Rattle.tables.specs.declared.Rooms.{Rooms}
 use Rattle.tables.specs.declared.Counts.{Counts}
 use Rattle.tables.specs.declared.Reply.{Reply}

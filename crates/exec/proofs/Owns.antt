@@ -1,7 +1,6 @@
 -- A block's own run, one instruction after the other: what is left to run from here ends where the whole run ends. Assumes nothing.
 use mathlib.Core.Path.{◌≡◌, refl, sym, ap, ◌∙◌}
 use mathlib.Core.Bool.{Bool, true, false}
-use mathlib.Core.Option.{none}
 use mathlib.Core.List.{List, [], ◌∷◌}
 use Prim.Native.Nat.{ℕ, suc, ◌+◌, ◌-◌, ◌*◌, ◌≤◌, ◌<◌}
 use native.Mathlib.Omega.{arith}
@@ -17,7 +16,7 @@ use Rattle.evm.specs.Step.{step_at}
 use Rattle.evm.specs.declared.walk.Step.{Step}
 use Rattle.evm.specs.declared.walk.Step.TheVariants as step
 use Rattle.evm.proofs.Steps.{Took, took, ended}
-use Rattle.state.specs.Cells.{syms_at, Put, depth, reach, Lies}
+use Rattle.state.specs.Cells.{syms_at, Put, depth, Lies}
 use Rattle.state.specs.Symbols.{sym_of}
 use Rattle.exec.specs.Working.{stack_of, end_of, Held}
 use Rattle.exec.specs.Steps.{Next, on, ends, leaps, turn, next, go_on, next_of, top_of, Steps, Turns}

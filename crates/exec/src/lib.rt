@@ -1,4 +1,6 @@
 // A block's run on the symbolic stack, over lent bytes, in either mode.
+#![tactic(auto)]
+
 pub mod mode;
 pub mod run;
 mod step;

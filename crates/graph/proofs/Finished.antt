@@ -5,7 +5,6 @@ use Prim.Native.Nat.{ℕ, zero, suc, ◌+◌, ◌≤◌, ◌<◌}
 use native.Mathlib.Omega.{arith}
 use lib.ListN.{length, take, drop}
 use Rattle.spec.specs.Opcodes.{in_mode}
-use Rattle.spec.specs.Blocks.{blocks}
 use Rattle.spec.specs.Stacks.{Stack}
 use Rattle.spec.specs.Search.{Rec, found}
 use Rattle.spec.specs.Ending.{Final, finals}

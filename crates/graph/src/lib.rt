@@ -1,5 +1,7 @@
 // The graph after the search: blocks whose records share one destination are merged into jumps, the records become rows of edges, and what is reached is
 // flagged.
+#![tactic(auto)]
+
 mod merge;
 mod note;
 mod rewrite;

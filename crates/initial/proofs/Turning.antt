@@ -18,7 +18,6 @@ use Rattle.evm.proofs.Walks.{walk-whole}
 use Rattle.laws.proofs.Branch.{if-true, if-false}
 use Rattle.initial.specs.Turn.{clipped, pushed_at, cut_of, turn_of, closed, then, resume, ahead}
 use Rattle.initial.specs.Promises.{Stands}
-use Rattle.initial.specs.declared.turn.Walking.{Walking}
 use Rattle.initial.specs.declared.turn.Walking.TheVariants.{Opened, Waiting, Ended}
 use Rattle.initial.specs.declared.turn.Effect.{Effect}
 use Rattle.initial.proofs.Types.{kind-type}
@@ -53,10 +52,10 @@ module _ (code : List ℕ) (pc op : ℕ) (i : Stands code pc op) (prev : ℕ) wh
       → ahead code pc (Opened start) prev
       ≡ closed start (turn_of start prev (pushed_at code prev) pc (cut_of (cut row op))) ++ ahead code (pc + suc (argument op)) (then (turn_of start prev (pushed_at code prev) pc (cut_of (cut row op)))) pc
   unfolding ahead cuts pushed_at
-  ahead-open start h = 
-    let x = get_or code pc 0 in
-    let on = λ (m : spec.Mode). cuts row (walk (drop (pc + suc (argument x)) code) (pc + suc (argument x)) 0) m pc (pushed (ins pc x (drop (pc + 1) code))) in
-    rw (first, i.byte) (closes-turn start prev (pushed_at code prev) pc on (cut row x) h).same
+  ahead-open start h =
+      let x = get_or code pc 0 in
+      let on = λ (m : spec.Mode). cuts row (walk (drop (pc + suc (argument x)) code) (pc + suc (argument x)) 0) m pc (pushed (ins pc x (drop (pc + 1) code))) in
+      rw (first, i.byte) (closes-turn start prev (pushed_at code prev) pc on (cut row x) h).same
 
   pub ahead-found : op ≡ 0x5B → ahead code pc Waiting prev ≡ ahead code (pc + suc (argument op)) (Opened pc) pc
   unfolding ahead cuts pushed_at

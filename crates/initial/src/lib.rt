@@ -1,5 +1,7 @@
 // Cuts code into blocks, written as rows of the lent buffer W, checks where their jumps go, and lists their starts.
 // "cuts code into blocks; static jumps"
+#![tactic(auto)]
+
 mod check;
 mod cut;
 mod jump;

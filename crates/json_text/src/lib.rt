@@ -1,4 +1,6 @@
 // The JSON text of the answer's blocks, counted and written from what the search left in the lent buffers.
+#![tactic(auto)]
+
 mod block;
 mod field;
 mod kept;

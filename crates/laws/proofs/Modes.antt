@@ -5,7 +5,6 @@ use native.Mathlib.Decide.{dec_lt}
 use mathlib.Core.Path.{◌≡◌, refl, sym, ◌∙◌}
 use lib.Dec.{leb}
 use borrow.Author.Tests.{le-leb, lt-leb}
-use Rattle.spec.specs.Lists.{if}
 use Rattle.spec.specs.Stacks.{does}
 
 -- the first byte of the range does not matter to the others

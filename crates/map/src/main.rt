@@ -1,5 +1,7 @@
 // The program of document 01: a code in hex on standard input, its map or a refusal on standard output.
 // "The program reads hex of either case on standard input"
+#![tactic(auto)]
+
 mod digits;
 mod lines;
 mod rooms;

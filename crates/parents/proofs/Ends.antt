@@ -8,9 +8,9 @@ use native.Mathlib.Decide.{ℕ_discrete}
 use native.Mathlib.Nat.{sub-zero}
 use lib.ListN.{length, take, drop}
 use lib.Seq.{take-add, drop-drop}
-use Rattle.spec.specs.Opcodes.{row, in_mode}
+use Rattle.spec.specs.Opcodes.{in_mode}
 use Rattle.spec.specs.Walk.{instructions}
-use Rattle.spec.specs.Blocks.{Block, blocks}
+use Rattle.spec.specs.Blocks.{Block}
 use Rattle.spec.specs.Stacks.{Sym, before}
 use Rattle.spec.specs.Search.{Node, nodes, takers}
 use Rattle.spec.specs.Answer.{prepared}

@@ -13,7 +13,7 @@ use lib.ListN.{length, replicate}
 use Rattle.spec.specs.Opcodes.{row, in_mode}
 use Rattle.spec.specs.Lists.{if, little}
 use Rattle.spec.specs.Walk.{instructions}
-use Rattle.spec.specs.Blocks.{Kind, terminate, jump, jumpi, dynamic_jump, dynamic_jumpi, Block, block, blocks, starts}
+use Rattle.spec.specs.Blocks.{Kind, terminate, jump, jumpi, dynamic_jump, dynamic_jumpi, Block, blocks, starts}
 use Rattle.spec.specs.Stacks.{Sym, before, constant, jumpdest, other, run}
 use Rattle.spec.specs.Search.{Node, settled, node, nodes, takers}
 use Rattle.spec.specs.Rooms.{longest}

@@ -1,5 +1,7 @@
 // Prepares the blocks for the search: dynamic jumps that their own block settles, the blocks that take turns, and the direct parents.
 // "Those ending in Before(p) take turns, in address order ... Direct parents are stored before the first round, in address order"
+#![tactic(auto)]
+
 pub mod link;
 mod settle;
 pub mod taker;

@@ -1,15 +1,12 @@
 -- The laws of `enter_all`: more and more of the seeds are taken. Assumes nothing.
-use mathlib.Core.Path.{◌≡◌, refl, sym, ap, subst, ◌∙◌}
-use mathlib.Core.Bool.{true}
-use mathlib.Core.List.{List, [], ◌∷◌, ◌++◌}
-use Prim.Native.Nat.{ℕ, zero, suc, ◌+◌, ◌-◌, ◌≤◌, ◌<◌}
+use mathlib.Core.Path.{◌≡◌, refl, ap, subst}
+use mathlib.Core.List.{List, [], ◌∷◌}
+use Prim.Native.Nat.{ℕ, zero, suc, ◌+◌, ◌≤◌, ◌<◌}
 use native.Mathlib.Numerals.{add-one}
 use native.Mathlib.Omega.{arith}
 use lib.ListN.{length, get_or, take}
 use lib.Seq.{take-suc}
-use Rattle.spec.specs.Lists.{mem}
 use Rattle.laws.proofs.Members.{In, here, there, in_mem}
-use Rattle.reachable.specs.Marks.{flagged}
 use Rattle.reachable.specs.Promises.{Going, Took, Expands}
 use Rattle.reachable.proofs.Entering.{took-none, took-after}
 use Rattle.reachable.proofs.Spreading.{room-kept}

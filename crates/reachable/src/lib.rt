@@ -1,5 +1,7 @@
 // What is reached: marks and flags in the lent buffer W, the highest direct parents that are marked, the closure under the blocks' static sides, and
 // pruning's closure, each by a worklist.
+#![tactic(auto)]
+
 mod closure;
 mod fields;
 mod follow;

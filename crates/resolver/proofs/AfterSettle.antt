@@ -10,7 +10,7 @@ use lib.Dec.{eqb, ltb, leb}
 use lib.ListN.{length, take}
 use lib.Seq.{take_all, take-append-le}
 use borrow.Author.Tests.{eq-eqb, ne_eqb, ltb-true, lt-ltb, le-leb}
-use Rattle.spec.specs.Lists.{if, mem}
+use Rattle.spec.specs.Lists.{mem}
 use Rattle.spec.specs.Search.{Rec, dest, dests, edges, reached_by}
 use Rattle.laws.proofs.Branch.{both, if-true, if-false, and-false}
 use Rattle.laws.proofs.Members.{in_mem, mem-in, in_right, and_both, and-true, or_right, or_cases, gather_append}

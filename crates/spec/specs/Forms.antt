@@ -1,5 +1,5 @@
 -- Document 01, "Output entries", read from the bytes: an entry's leading bytes, the kinds, and what each kind says of its body. Assumes nothing.
-use Rattle.std.specs.Prelude.{ℕ, ◌+◌, ◌*◌, Bool, true, false, List, [], ◌∷◌, eqb, take, drop}
+use Rattle.std.specs.Prelude.{ℕ, ◌+◌, ◌*◌, Bool, true, false, List, eqb, take, drop}
 use Rattle.std.proofs.Math.Option.{Option, none, some}
 use Rattle.spec.specs.Lists.{if, number}
 use Rattle.spec.specs.Entries.{wide_code, way_kind, record_kind, numbered_kind, absent}

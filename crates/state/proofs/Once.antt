@@ -2,10 +2,9 @@
 use mathlib.Core.Path.{◌≡◌, refl, sym, ap, ◌∙◌}
 use mathlib.Core.Option.{Option}
 use mathlib.Core.List.{List}
-use Prim.Native.Nat.{ℕ, ◌+◌, ◌-◌, ◌*◌}
-use native.Mathlib.Omega.{arith}
+use Prim.Native.Nat.{ℕ, ◌*◌}
 use Rattle.spec.specs.Stacks.{Sym, before, constant, jumpdest, other, Stack}
-use Rattle.lent.proofs.Once.{Same, Outside, one-stored, same-both}
+use Rattle.lent.proofs.Once.{Same, one-stored, same-both}
 use Rattle.state.specs.Symbols.{sym_of, known_of}
 use Rattle.state.specs.Cells.{Put, Lies}
 use Rattle.state.specs.Composed.{Composed}

@@ -1,4 +1,6 @@
 // The steps of the search that open no level: a block's parents one after the other, the path in hand, a parent's state, what was met, what is found.
+#![tactic(auto)]
+
 pub mod cursor;
 pub mod going;
 pub mod land;

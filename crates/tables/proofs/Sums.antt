@@ -1,5 +1,5 @@
 -- The laws of sums. Assumes nothing.
-use Rattle.std.proofs.Common.{◌≡◌, ℕ, ◌+◌, ◌*◌, ◌/◌, ◌%◌, ◌^◌, ◌<◌, ◌≤◌, min, [], ◌∷◌, sym, refl, ap, ◌∙◌, ap₂, mod-lt, div-lt_iff_lt-mul, mul-le-mul, mul-lt-mul_of_pos_right, arith}
+use Rattle.std.proofs.Common.{◌≡◌, ℕ, ◌+◌, ◌*◌, ◌/◌, ◌%◌, ◌^◌, ◌<◌, ◌≤◌, min, [], ◌∷◌, refl, ap, ◌∙◌, ap₂, mod-lt, div-lt_iff_lt-mul, mul-le-mul, mul-lt-mul_of_pos_right, arith}
 use native.Mathlib.Nat.{min-le_left}
 use Rattle.spec.specs.Stacks.{Sym, before, constant, jumpdest}
 use Rattle.state.specs.Cells.{tag, value}

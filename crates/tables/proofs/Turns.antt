@@ -4,7 +4,7 @@ use borrow.Author.Tests.{lt-leb}
 use Rattle.spec.specs.Lists.{if, little, some?, total}
 use Rattle.spec.specs.Stacks.{cells}
 use Rattle.spec.specs.Search.{Met}
-use Rattle.lent.specs.Bytes.{Holds, Stored}
+use Rattle.lent.specs.Bytes.{Stored}
 use Rattle.lent.proofs.Parts.{part-prefix}
 use Rattle.lent.proofs.Stored.{read_back}
 use Rattle.layout.specs.Seens.{seen_place, T-SYMBOL, T-HEAD, block_at, place_at, cells_at, stamp_at, top_at}

@@ -1,4 +1,6 @@
 // The tables of the search in lent bytes: the path in hand, recorded paths, records and remembered rows.
+#![tactic(auto)]
+
 mod add;
 mod link;
 pub mod met;

@@ -4,11 +4,11 @@ use Prim.Native.Nat.{ℕ, suc, ◌+◌, ◌-◌, ◌/◌, ◌%◌, ◌^◌, ◌�
 use native.Mathlib.Omega.{arith}
 use native.Mathlib.Nat.{le_refl}
 use mathlib.Core.Path.{◌≡◌, refl, sym, ap, ap₂, subst, ◌∙◌}
-use mathlib.Core.Bool.{Bool, ◌&&◌}
+use mathlib.Core.Bool.{Bool}
 use mathlib.Core.Logic.{◌⊎◌, inl, inr}
 use mathlib.Core.Option.{Option, none, some}
 use mathlib.Core.List.{List, [], ◌∷◌, ◌++◌, map, append_assoc, append-nil}
-use lib.Dec.{eqb, leb, ltb}
+use lib.Dec.{leb, ltb}
 use lib.ListN.{length, drop}
 use lib.Seq.{drop-drop}
 use borrow.Author.Tests.{ltb-true, ltb-false, lt-ltb, le-ltb, le-leb}
@@ -22,7 +22,7 @@ use Rattle.spec.specs.Rooms.{longest, work_need}
 use Rattle.spec.specs.Entries.{Map}
 use Rattle.spec.specs.Forms.{wide_in, announced, entry, behind, sort}
 use Rattle.spec.specs.BadEntries.{Refused}
-use Rattle.spec.specs.Reader.{Reading, holds, bad, Piece, pieces, first, first_bad, Item, a_head, a_block, a_way, a_record, no_item, item_for, items, ways, finals_in, recs_in, held, verdict as reads, read, told}
+use Rattle.spec.specs.Reader.{Reading, holds, bad, Piece, pieces, Item, a_head, a_block, a_way, a_record, no_item, item_for, items, ways, finals_in, read, told}
 use Rattle.spec.specs.Inspector.{fault_to, fault_of, PathEntry, shows, path_entries, Inspection, refused, bad_entry, not_right, accepted, WrongPath, or_next, all_wrong, first_of, since, looks_at, inspect_from, inspect, number_of, value_of, exported}
 use Rattle.laws.proofs.Branch.{both, if-true, if-false}
 use Rattle.laws.proofs.Lists.{Rising, none_left, one_more, rising-from}

@@ -10,7 +10,7 @@ use mathlib.Core.List.{List, [], ◌∷◌, ◌++◌, map}
 use lib.Dec.{eqb}
 use lib.ListN.{length, get_or}
 use borrow.Author.Tests.{eqb-true, eq-eqb}
-use Rattle.spec.specs.Lists.{some?, gather}
+use Rattle.spec.specs.Lists.{some?}
 use Rattle.spec.specs.Opcodes.{Rules}
 use Rattle.spec.specs.Blocks.{Kind, terminate, jump, jumpi, dynamic_jump, dynamic_jumpi, Block, with_kind}
 use Rattle.spec.specs.Stacks.{Sym, before, constant, jumpdest, other, Stack}
@@ -20,7 +20,7 @@ use Rattle.spec.specs.Ending.{Final, all_are, merged, ended, entries_of}
 use Rattle.spec.specs.Rooms.{Lent}
 use Rattle.spec.specs.Entries.{Map}
 use Rattle.spec.specs.Answer.{answered, prepared, searched, mapped, answer}
-use Rattle.spec.specs.PathJoins.{begins, leads_to, brings_to, joined}
+use Rattle.spec.specs.PathJoins.{leads_to, brings_to, joined}
 use Rattle.spec.specs.Reader.{stateless, plain_rec, plain_final, plain}
 use Rattle.spec.specs.Inspector.{targets, fault, fault_to, fault_of, unpruned}
 use Rattle.laws.proofs.Branch.{both}

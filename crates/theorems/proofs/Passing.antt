@@ -4,12 +4,11 @@ use native.Mathlib.Omega.{arith}
 use mathlib.Core.Path.{◌≡◌, sym, subst, ◌∙◌}
 use mathlib.Core.Logic.{◌⊎◌, inl, inr}
 use mathlib.Core.List.{List, [], ◌∷◌, ◌++◌}
-use mathlib.Core.Option.{some}
 use lib.ListN.{length, length-append}
 use Rattle.spec.specs.Opcodes.{Rules}
 use Rattle.spec.specs.Walk.{instructions}
 use Rattle.spec.specs.Blocks.{Block, blocks}
-use Rattle.spec.specs.Stacks.{before, jumpdest, Stack, read, run, compose}
+use Rattle.spec.specs.Stacks.{jumpdest, Stack, read, run, compose}
 use Rattle.spec.specs.Search.{Node, node, sides, Parent, parent, direct, Found, nowhere, found, Rec, dest, leads, found_parents, Level, search}
 use Rattle.spec.specs.Answer.{prepared}
 use Rattle.laws.proofs.Members.{In, here, in-only, in-cases, in_map, in-gather}

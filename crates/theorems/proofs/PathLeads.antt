@@ -8,7 +8,7 @@ use mathlib.Core.Option.{Option, some}
 use mathlib.Core.List.{List, [], ◌∷◌, ◌++◌}
 use lib.ListN.{length, get_or, length-append}
 use Rattle.spec.specs.Opcodes.{Rules}
-use Rattle.spec.specs.Stacks.{Sym, before, constant, jumpdest, other, Stack, entry, read, through, Ran, runs, own}
+use Rattle.spec.specs.Stacks.{Sym, before, constant, jumpdest, other, Stack, read, through, Ran, own}
 use Rattle.spec.specs.Meaning.{executes, Means, Holds, Jump, no_jump, jumps_to, Faithful}
 use Rattle.spec.specs.PathMeaning.{fetched, all_known, unaware, Runs, along, Asks, Leads}
 use Rattle.laws.proofs.Members.{In, mem-in}

@@ -1,6 +1,6 @@
 -- Document 02, No. 7: "The whole path is true": the target that a recorded path's last jump pops is the recorded destination, on any words that meet what is
 -- asked on the way. Assumes nothing.
-use Prim.Native.Nat.{ℕ, ◌+◌}
+use Prim.Native.Nat.{ℕ}
 use native.Mathlib.Omega.{arith}
 use mathlib.Core.Path.{◌≡◌, refl, sym, ap, subst, ◌∙◌}
 use mathlib.Core.Bool.{true}

@@ -1,5 +1,4 @@
 -- `aznifrem_json`: the number, or both counts. Assumes nothing.
-use borrow.Author.Rules.{rules}
 use Rattle.aznifrem.proofs.Exports.{json-few, json-given}
 use Rattle.aznifrem.proofs.aznifrem_json.Goals as goal
 

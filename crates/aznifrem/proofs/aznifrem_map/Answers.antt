@@ -1,5 +1,4 @@
 -- `aznifrem_map`: the number, or the count. Assumes nothing.
-use borrow.Author.Rules.{rules}
 use Rattle.aznifrem.proofs.Exports.{exported-given}
 use Rattle.aznifrem.proofs.aznifrem_map.Goals as goal
 

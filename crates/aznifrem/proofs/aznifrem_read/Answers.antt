@@ -1,6 +1,5 @@
 -- `aznifrem_read` meets its contract: the number and the value as one. Assumes nothing.
 use Rattle.aznifrem.proofs.ReadExports.{read_low, read-given}
-use borrow.Author.Rules.{rules}
 use Rattle.aznifrem.proofs.aznifrem_read.Goals as goal
 
 pub told_of-requires : goal.told_of-requires

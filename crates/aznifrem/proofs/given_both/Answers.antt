@@ -1,6 +1,5 @@
 -- `given_both`: the number, or both counts. Assumes nothing.
 use mathlib.Core.Path.{refl}
-use borrow.Author.Rules.{rules}
 use Rattle.aznifrem.proofs.given_both.Goals as goal
 
 pub returns-then-b-ne0 : goal.returns-then-b-ne0

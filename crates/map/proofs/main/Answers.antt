@@ -1,5 +1,4 @@
 -- `main`: what is written lies within the buffer. Assumes nothing.
-use borrow.Author.Rules.{rules}
 use Rattle.map.proofs.Rendering.{within-buffer, whole_part}
 use Rattle.map.proofs.main.Goals as goal
 

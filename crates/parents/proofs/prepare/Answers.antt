@@ -1,7 +1,5 @@
-use Rattle.parents.proofs.PrepareLoop.{Walk, walk_none, walk-read, walk-row, walk_more}
+use Rattle.parents.proofs.PrepareLoop.{walk_none, walk-read, walk-row, walk_more}
 use Rattle.parents.proofs.Ends.{prepared-all}
-use borrow.Author.Rules.{rules}
-use Rattle.exec.specs.Modes.{mode_of}
 use Rattle.parents.proofs.prepare.Goals as goal
 
 pub loop-left-init : goal.loop-left-init

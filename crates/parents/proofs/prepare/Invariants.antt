@@ -1,6 +1,4 @@
-use Rattle.parents.proofs.PrepareLoop.{Walk, walk_none, walk-read, walk-row, walk_more}
-use Rattle.parents.proofs.Ends.{prepared-all}
-use borrow.Author.Rules.{rules}
+use Rattle.parents.proofs.PrepareLoop.{Walk}
 use Rattle.exec.specs.Modes.{mode_of}
 use Rattle.parents.proofs.prepare.Given as goal
 

@@ -1,6 +1,4 @@
 -- `map_json`: the tests that touch nothing, the map found and written, the rooms wiped. Assumes nothing.
-use mathlib.Core.Path.{◌∙◌}
-use borrow.Author.Rules.{rules}
 use Rattle.answer.proofs.Mapping.{early-lends, early-mode, both-early, both_run}
 use Rattle.answer.proofs.Told.{run_holds, both_told}
 use Rattle.answer.proofs.both.map_json.Goals as goal

@@ -1,5 +1,4 @@
 -- `put_both`: the shortage, 9, 11, or both written. Assumes nothing.
-use borrow.Author.Rules.{rules}
 use Rattle.entries.proofs.Writing.{writes-any}
 use Rattle.answer.proofs.Told.{text-room, both-short, both-nine, both-eleven, both-full, both-done}
 use Rattle.answer.proofs.both.put_both.Goals as goal

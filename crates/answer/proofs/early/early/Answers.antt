@@ -1,5 +1,4 @@
 -- `early`: four tests, in the documents' order. Assumes nothing.
-use borrow.Author.Rules.{rules}
 use Rattle.answer.proofs.Mapping.{first-long, first-over, first-moded, first-scant, first-none}
 use Rattle.answer.proofs.early.early.Goals as goal
 

@@ -1,7 +1,5 @@
 -- `find`: the stages, one after the other. Assumes nothing.
 use Rattle.answer.proofs.Running.{run-lends, run-starts, run-asks, run-graphs, run-finds}
-use borrow.Author.Rules.{rules}
-use mathlib.Core.Path.{◌∙◌}
 use Rattle.answer.proofs.find.find.Goals as goal
 
 pub runs_end-requires : goal.runs_end-requires

@@ -1,5 +1,4 @@
 -- `merge`: a search that was short is left as it is. Assumes nothing.
-use borrow.Author.Rules.{rules}
 use Rattle.answer.proofs.find.merge.Goals as goal
 
 pub returns-then-d-ne0 : goal.returns-then-d-ne0

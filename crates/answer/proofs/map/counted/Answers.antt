@@ -1,5 +1,4 @@
 -- `counted`: nothing written, or something. Assumes nothing.
-use borrow.Author.Rules.{rules}
 use mathlib.Core.Path.{refl}
 use Rattle.answer.proofs.map.counted.Goals as goal
 

@@ -1,6 +1,4 @@
 -- `map_code`: the tests that touch nothing, the map found and written, the rooms wiped. Assumes nothing.
-use mathlib.Core.Path.{◌∙◌}
-use borrow.Author.Rules.{rules}
 use Rattle.answer.proofs.Mapping.{early-lends, early-mode, mapped-early, mapped-run}
 use Rattle.answer.proofs.Told.{run_holds, run-told}
 use Rattle.answer.proofs.map.map_code.Goals as goal

@@ -1,5 +1,4 @@
 -- `put`: the shortage, or what is written. Assumes nothing.
-use borrow.Author.Rules.{rules}
 use Rattle.answer.proofs.Told.{put-short, put-done}
 use Rattle.answer.proofs.map.put.Goals as goal
 

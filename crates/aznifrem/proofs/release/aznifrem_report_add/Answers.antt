@@ -1,6 +1,5 @@
 -- `aznifrem_report_add` meets its contract: the number and the value as one. Assumes nothing.
 use Rattle.aznifrem.proofs.ReportExports.{added-low, added-given}
-use borrow.Author.Rules.{rules}
 use Rattle.aznifrem.proofs.release.aznifrem_report_add.Goals as goal
 
 pub told_of-requires : goal.told_of-requires

@@ -1,6 +1,5 @@
 -- `aznifrem_report_join` meets its contract: its number is never 12. Assumes nothing.
 use Rattle.aznifrem.proofs.ReportExports.{joined-told}
-use borrow.Author.Rules.{rules}
 use Rattle.aznifrem.proofs.release.aznifrem_report_join.Goals as goal
 
 pub returns : goal.returns

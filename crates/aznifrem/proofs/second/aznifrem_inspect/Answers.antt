@@ -1,6 +1,5 @@
 -- `aznifrem_inspect` meets its contract: the number and the value as one. Assumes nothing.
 use Rattle.aznifrem.proofs.InspectExports.{inspect-low, inspect-given}
-use borrow.Author.Rules.{rules}
 use Rattle.aznifrem.proofs.second.aznifrem_inspect.Goals as goal
 
 pub told_of-requires : goal.told_of-requires

@@ -1,6 +1,5 @@
 -- `aznifrem_follow` meets its contract: the number and the value as one. Assumes nothing.
 use Rattle.aznifrem.proofs.FollowExports.{follow-low, follow-given}
-use borrow.Author.Rules.{rules}
 use Rattle.aznifrem.proofs.trace.aznifrem_follow.Goals as goal
 
 pub told_of-requires : goal.told_of-requires

@@ -1,6 +1,5 @@
 -- `arrive`: the symbol says whether a level opens or the path ends. Assumes nothing.
 use Rattle.enter.proofs.ArriveWays.{arrived-before, arrived-ended, arriving-lands}
-use borrow.Author.Rules.{rules}
 use Rattle.enter.proofs.PathEnds.{ended-in}
 use Rattle.enter.proofs.enter.arrive.Goals as goal
 

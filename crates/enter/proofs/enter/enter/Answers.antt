@@ -1,7 +1,6 @@
 -- `enter`: skipped, short of P, past the weight, or followed. Assumes nothing.
 use Rattle.enter.proofs.StepsTwoAndThree.{enter-skips, entered-skip, enter-grows, entered-short, enter-strays, entered-stops, enter-following, entered-follows}
 use mathlib.Core.Path.{ap}
-use borrow.Author.Rules.{rules}
 use Rattle.enter.specs.Enters.{opening_of}
 use Rattle.enter.proofs.PathEnds.{ended-in}
 use Rattle.enter.proofs.enter.enter.Goals as goal

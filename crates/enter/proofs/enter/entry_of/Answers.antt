@@ -1,7 +1,6 @@
 -- `entry_of`: where a Jumpdest leads, or nowhere. Assumes nothing.
 use Rattle.enter.proofs.EntryBySymbol.{entry-jumpdest, entry-nowhere}
 use mathlib.Core.Path.{◌∙◌}
-use borrow.Author.Rules.{rules}
 use Rattle.enter.proofs.enter.entry_of.Goals as goal
 
 pub returns-in_default : goal.returns-in_default

@@ -2,7 +2,6 @@
 use Rattle.enter.proofs.StepsFourToSix.{follow-composing}
 use Rattle.enter.proofs.FollowWays.{followed-short, followed-met, followed-full, follow-sees, follow-meets, follow-arriving, followed-arrived}
 use mathlib.Core.Path.{ap, ◌∙◌}
-use borrow.Author.Rules.{rules}
 use Rattle.enter.specs.Enters.{opening_of}
 use Rattle.enter.proofs.enter.follow.Goals as goal
 

@@ -1,5 +1,4 @@
 -- `landed`: what was recorded is what is then in use. Assumes nothing.
-use borrow.Author.Rules.{rules}
 use Rattle.enter.proofs.PathEnds.{landed-in}
 use Rattle.enter.proofs.enter.landed.Goals as goal
 

@@ -1,6 +1,5 @@
 -- `skipped`: one block on the path, and no path that was found. Assumes nothing.
 use Rattle.enter.proofs.Skipping.{skip-found, skip-direct, skip-asks}
-use borrow.Author.Rules.{rules}
 use Rattle.enter.proofs.enter.skipped.Goals as goal
 
 pub returns-then-at-ge-FOUND : goal.returns-then-at-ge-FOUND

@@ -1,5 +1,4 @@
 -- `add_head`: an item for each kind. Assumes nothing.
-use borrow.Author.Rules.{rules}
 use Rattle.entries.proofs.Heads.{some-kind, terminate-put, jump-put, jumpi-put, dynamic_jump-put, dynamic_jumpi-put}
 use Rattle.entries.proofs.block.add_head.Goals as goal
 

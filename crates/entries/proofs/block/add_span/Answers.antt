@@ -1,5 +1,4 @@
 -- `add_span`: an item's beginning, and two numbers. Assumes nothing.
-use borrow.Author.Rules.{rules}
 use Rattle.entries.proofs.Heads.{span-put}
 use Rattle.entries.proofs.block.add_span.Goals as goal
 

@@ -1,5 +1,4 @@
 -- `add16`: a number, counted or stored. Assumes nothing.
-use borrow.Author.Rules.{rules}
 use Rattle.entries.proofs.Puts.{counted-number}
 use Rattle.entries.proofs.field.add16.Goals as goal
 

@@ -1,5 +1,4 @@
 -- `add32`: a number, counted or stored. Assumes nothing.
-use borrow.Author.Rules.{rules}
 use Rattle.entries.proofs.Puts.{counted-number}
 use Rattle.entries.proofs.field.add32.Goals as goal
 

@@ -1,5 +1,4 @@
 -- `add_addresses`: they are counted, or copied. Assumes nothing.
-use borrow.Author.Rules.{rules}
 use Rattle.entries.proofs.Paths.{addrs-counted}
 use Rattle.entries.proofs.Puts.{put-stored}
 use Rattle.entries.proofs.field.add_addresses.Goals as goal

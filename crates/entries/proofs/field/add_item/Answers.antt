@@ -1,5 +1,4 @@
 -- `add_item`: two numbers, one after the other. Assumes nothing.
-use borrow.Author.Rules.{rules}
 use Rattle.entries.proofs.Puts.{puts-join}
 use Rattle.entries.proofs.field.add_item.Goals as goal
 

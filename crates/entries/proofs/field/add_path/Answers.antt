@@ -1,5 +1,4 @@
 -- `add_path`: a length, and as many addresses. Assumes nothing.
-use borrow.Author.Rules.{rules}
 use Rattle.entries.proofs.Paths.{path-put}
 use Rattle.entries.proofs.field.add_path.Goals as goal
 

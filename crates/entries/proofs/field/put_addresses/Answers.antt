@@ -1,7 +1,5 @@
 -- `put_addresses`: i addresses are copied. Assumes nothing.
-use borrow.Author.Rules.{rules}
-use Prim.Native.Nat.{◌-◌}
-use Rattle.entries.proofs.Paths.{Copying, copy_start, copy-turn, copy_done}
+use Rattle.entries.proofs.Paths.{copy_start, copy-turn, copy_done}
 use Rattle.entries.proofs.field.put_addresses.Goals as goal
 
 pub loop-i-init : goal.loop-i-init

@@ -1,7 +1,6 @@
 -- `put_addresses`: i addresses are copied. Assumes nothing.
-use borrow.Author.Rules.{rules}
 use Prim.Native.Nat.{◌-◌}
-use Rattle.entries.proofs.Paths.{Copying, copy_start, copy-turn, copy_done}
+use Rattle.entries.proofs.Paths.{Copying}
 use Rattle.entries.proofs.field.put_addresses.Given as goal
 
 abbrev pub invariant-loop-i : goal.invariant-loop-i

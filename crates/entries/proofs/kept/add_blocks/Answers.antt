@@ -1,7 +1,5 @@
 -- `add_blocks`: those of the entries that are passed are put and counted. Assumes nothing.
-use borrow.Author.Rules.{rules}
-use Prim.Native.Nat.{◌-◌}
-use Rattle.entries.proofs.Blocks.{Placing, place-start, place-room, place-block, place-tag, place-few, place-turn, place-puts, place-counts}
+use Rattle.entries.proofs.Blocks.{place-start, place-room, place-block, place-tag, place-few, place-turn, place-puts, place-counts}
 use Rattle.entries.proofs.kept.add_blocks.Goals as goal
 
 pub loop-i-init : goal.loop-i-init

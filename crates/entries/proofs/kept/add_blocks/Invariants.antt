@@ -1,7 +1,6 @@
 -- `add_blocks`: those of the entries that are passed are put and counted. Assumes nothing.
-use borrow.Author.Rules.{rules}
 use Prim.Native.Nat.{◌-◌}
-use Rattle.entries.proofs.Blocks.{Placing, place-start, place-room, place-block, place-tag, place-few, place-turn, place-puts, place-counts}
+use Rattle.entries.proofs.Blocks.{Placing}
 use Rattle.entries.proofs.kept.add_blocks.Given as goal
 
 abbrev pub invariant-loop-i : goal.invariant-loop-i

@@ -1,5 +1,4 @@
 -- `is_kept`: a block starts there, so it is kept if it is flagged. Assumes nothing.
-use borrow.Author.Rules.{rules}
 use Rattle.entries.proofs.Blocks.{kept-flagged}
 use Rattle.entries.proofs.kept.is_kept.Goals as goal
 

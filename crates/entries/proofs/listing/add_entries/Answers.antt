@@ -1,9 +1,6 @@
 -- `add_entries`: what is put, and what is left, are all. Assumes nothing.
-use borrow.Author.Rules.{rules}
-use lib.ListN.{length}
-use Rattle.entries.specs.Rows.{left_of}
 use Rattle.entries.proofs.Walks.{walk-address, walk-less}
-use Rattle.entries.proofs.Listed.{Listing, list-start, list-room, list-row, list-turn, list_done}
+use Rattle.entries.proofs.Listed.{list-start, list-room, list-row, list-turn, list_done}
 use Rattle.entries.proofs.listing.add_entries.Goals as goal
 
 pub first_row-link-requires : goal.first_row-link-requires

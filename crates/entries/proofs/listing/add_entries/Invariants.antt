@@ -1,9 +1,7 @@
 -- `add_entries`: what is put, and what is left, are all. Assumes nothing.
-use borrow.Author.Rules.{rules}
 use lib.ListN.{length}
 use Rattle.entries.specs.Rows.{left_of}
-use Rattle.entries.proofs.Walks.{walk-address, walk-less}
-use Rattle.entries.proofs.Listed.{Listing, list-start, list-room, list-row, list-turn, list_done}
+use Rattle.entries.proofs.Listed.{Listing}
 use Rattle.entries.proofs.listing.add_entries.Given as goal
 
 abbrev pub invariant-loop-link : goal.invariant-loop-link

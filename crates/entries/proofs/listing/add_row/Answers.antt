@@ -1,5 +1,4 @@
 -- `add_row`: the row is listed, or not. Assumes nothing.
-use borrow.Author.Rules.{rules}
 use Rattle.entries.proofs.Listed.{row_on, row-off}
 use Rattle.entries.proofs.listing.add_row.Goals as goal
 

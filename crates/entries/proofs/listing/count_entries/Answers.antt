@@ -1,9 +1,6 @@
 -- `count_entries`: what is counted, and what is left, are all. Assumes nothing.
-use borrow.Author.Rules.{rules}
-use lib.ListN.{length}
-use Rattle.entries.specs.Rows.{left_of}
 use Rattle.entries.proofs.Walks.{walk-address, walk-less}
-use Rattle.entries.proofs.Listed.{Counting, count-start, count-few, count_room, count_turn, count-done}
+use Rattle.entries.proofs.Listed.{count-start, count-few, count_room, count_turn, count-done}
 use Rattle.entries.proofs.listing.count_entries.Goals as goal
 
 pub first_row-link-requires : goal.first_row-link-requires

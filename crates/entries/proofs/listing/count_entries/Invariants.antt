@@ -1,9 +1,7 @@
 -- `count_entries`: what is counted, and what is left, are all. Assumes nothing.
-use borrow.Author.Rules.{rules}
 use lib.ListN.{length}
 use Rattle.entries.specs.Rows.{left_of}
-use Rattle.entries.proofs.Walks.{walk-address, walk-less}
-use Rattle.entries.proofs.Listed.{Counting, count-start, count-few, count_room, count_turn, count-done}
+use Rattle.entries.proofs.Listed.{Counting}
 use Rattle.entries.proofs.listing.count_entries.Given as goal
 
 abbrev pub invariant-loop-link : goal.invariant-loop-link

@@ -1,5 +1,4 @@
 -- `count_row`: the row is listed, or not. Assumes nothing.
-use borrow.Author.Rules.{rules}
 use Rattle.entries.proofs.Listed.{count-on, count-off}
 use Rattle.entries.proofs.listing.count_row.Goals as goal
 

@@ -1,5 +1,4 @@
 -- `is_listed`: any row, or one with a destination. Assumes nothing.
-use borrow.Author.Rules.{rules}
 use Rattle.entries.proofs.Listed.{listed-any, listed-led}
 use Rattle.entries.proofs.listing.is_listed.Goals as goal
 

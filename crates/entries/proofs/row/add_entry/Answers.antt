@@ -1,5 +1,4 @@
 -- `add_entry`: an item of the family's kind. Assumes nothing.
-use borrow.Author.Rules.{rules}
 use Rattle.entries.proofs.Paths.{entry-put}
 use Rattle.entries.proofs.row.add_entry.Goals as goal
 

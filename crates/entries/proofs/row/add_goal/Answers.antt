@@ -1,5 +1,4 @@
 -- `add_goal`: a number, and a path. Assumes nothing.
-use borrow.Author.Rules.{rules}
 use Rattle.entries.proofs.Paths.{goal-put}
 use Rattle.entries.proofs.row.add_goal.Goals as goal
 

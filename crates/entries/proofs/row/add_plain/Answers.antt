@@ -1,5 +1,4 @@
 -- `add_plain`: an item of the family's kind. Assumes nothing.
-use borrow.Author.Rules.{rules}
 use Rattle.entries.proofs.Paths.{plain-put}
 use Rattle.entries.proofs.row.add_plain.Goals as goal
 

@@ -1,5 +1,4 @@
 -- `add_record`: the choice says which kind. Assumes nothing.
-use borrow.Author.Rules.{rules}
 use Rattle.entries.proofs.Paths.{put-numbered, put-plain}
 use Rattle.entries.proofs.row.add_record.Goals as goal
 

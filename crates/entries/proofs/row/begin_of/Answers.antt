@@ -1,5 +1,4 @@
 -- `begin_of`: the first path begins at 0, any other where the one before it ends. Assumes nothing.
-use borrow.Author.Rules.{rules}
 use Rattle.entries.proofs.Paths.{ends-none, ends_before}
 use Rattle.entries.proofs.row.begin_of.Goals as goal
 

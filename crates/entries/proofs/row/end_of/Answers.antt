@@ -1,5 +1,4 @@
 -- `end_of`: the number in the row. Assumes nothing.
-use borrow.Author.Rules.{rules}
 use Rattle.entries.proofs.Paths.{ends-here}
 use Rattle.entries.proofs.row.end_of.Goals as goal
 

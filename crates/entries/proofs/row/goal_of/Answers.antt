@@ -1,5 +1,4 @@
 -- `goal_of`: the row has its mark, or an address. Assumes nothing.
-use borrow.Author.Rules.{rules}
 use Rattle.entries.proofs.Paths.{goal-none, goal-some}
 use Rattle.entries.proofs.row.goal_of.Goals as goal
 

@@ -1,5 +1,4 @@
 -- `add_map_head`: an item of the kind 1. Assumes nothing.
-use borrow.Author.Rules.{rules}
 use Rattle.entries.proofs.Mapping.{head-put}
 use Rattle.entries.proofs.whole.add_map_head.Goals as goal
 

@@ -1,7 +1,5 @@
 -- `add_records`: the first i are put. Assumes nothing.
-use Rattle.entries.proofs.RecordsLoop.{Recording, record-start, record-row, record-turn, record-done}
-use borrow.Author.Rules.{rules}
-use Prim.Native.Nat.{◌-◌}
+use Rattle.entries.proofs.RecordsLoop.{record-start, record-row, record-turn, record-done}
 use Rattle.entries.proofs.whole.add_records.Goals as goal
 
 pub loop-row-init : goal.loop-row-init

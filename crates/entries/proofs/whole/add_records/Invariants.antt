@@ -1,6 +1,5 @@
 -- `add_records`: the first i are put. Assumes nothing.
-use Rattle.entries.proofs.RecordsLoop.{Recording, record-start, record-row, record-turn, record-done}
-use borrow.Author.Rules.{rules}
+use Rattle.entries.proofs.RecordsLoop.{Recording}
 use Prim.Native.Nat.{◌-◌}
 use Rattle.entries.proofs.whole.add_records.Given as goal
 

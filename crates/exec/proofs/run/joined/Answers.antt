@@ -1,5 +1,4 @@
 -- `joined` meets its contract: each way out is a law of joining. Assumes nothing.
-use borrow.Author.Rules.{rules}
 use Rattle.exec.proofs.Trims.{joins-none, joins-before}
 use Rattle.exec.proofs.run.joined.Goals as goal
 

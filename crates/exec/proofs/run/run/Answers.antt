@@ -1,5 +1,4 @@
 -- `run` meets its contract: the run, its bottom and its trimming. Assumes nothing.
-use borrow.Author.Rules.{rules}
 use Rattle.exec.proofs.Owns.{owned-trims, owned}
 use Rattle.exec.proofs.run.run.Goals as goal
 

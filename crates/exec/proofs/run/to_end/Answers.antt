@@ -1,10 +1,6 @@
 -- `to_end` meets its contract: what is left to run ends where the whole run does. The measure is what is left of the code. Assumes nothing.
-use Prim.Native.Nat.{◌-◌}
 use native.Mathlib.Omega.{arith}
-use lib.ListN.{length}
-use borrow.Author.Rules.{rules}
-use Rattle.exec.specs.Modes.{mode_of}
-use Rattle.exec.proofs.Owns.{Running, running-start, running-steps, running-less, running-on, ended-none, ended-ends, ended-jumps}
+use Rattle.exec.proofs.Owns.{running-start, running-steps, running-less, running-on, ended-none, ended-ends, ended-jumps}
 use Rattle.exec.proofs.run.to_end.Goals as goal
 
 pub loop-pc-init : goal.loop-pc-init

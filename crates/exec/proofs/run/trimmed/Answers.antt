@@ -1,6 +1,5 @@
 -- `trimmed` meets its contract: what is left to trim ends where the whole does. The measure is the cells that are left. Assumes nothing.
-use borrow.Author.Rules.{rules}
-use Rattle.exec.proofs.Trims.{Trimming, trim_start, trim-some, trim-more, trim-stop, trim-done}
+use Rattle.exec.proofs.Trims.{trim_start, trim-some, trim-more, trim-stop, trim-done}
 use Rattle.exec.proofs.run.trimmed.Goals as goal
 
 pub loop-left-init : goal.loop-left-init

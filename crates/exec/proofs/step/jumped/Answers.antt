@@ -1,5 +1,4 @@
 -- `jumped` meets its contract: the top is read, and words are taken. Assumes nothing.
-use borrow.Author.Rules.{rules}
 use Rattle.exec.proofs.Turns.{jumps-by}
 use Rattle.exec.proofs.step.jumped.Goals as goal
 

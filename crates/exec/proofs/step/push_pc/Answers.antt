@@ -1,5 +1,4 @@
 -- `push_pc` meets its contract: the value is pushed. Assumes nothing.
-use borrow.Author.Rules.{rules}
 use Rattle.exec.proofs.Working.{becomes-read}
 use Rattle.exec.proofs.step.push_pc.Goals as goal
 

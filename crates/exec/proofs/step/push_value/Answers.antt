@@ -1,5 +1,4 @@
 -- `push_value` meets its contract: the value that the bytes spell is pushed. Assumes nothing.
-use borrow.Author.Rules.{rules}
 use Rattle.exec.proofs.Turns.{becomes-value}
 use Rattle.exec.proofs.step.push_value.Goals as goal
 

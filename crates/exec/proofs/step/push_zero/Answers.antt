@@ -1,5 +1,4 @@
 -- `push_zero` meets its contract: the symbol is pushed. Assumes nothing.
-use borrow.Author.Rules.{rules}
 use Rattle.exec.proofs.Working.{becomes-read}
 use Rattle.exec.proofs.step.push_zero.Goals as goal
 

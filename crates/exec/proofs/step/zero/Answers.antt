@@ -1,5 +1,4 @@
 -- `zero` meets its contract: the symbol by the mode. Assumes nothing.
-use borrow.Author.Rules.{rules}
 use Rattle.exec.proofs.Turns.{zero-other, zero-known}
 use Rattle.exec.proofs.step.zero.Goals as goal
 

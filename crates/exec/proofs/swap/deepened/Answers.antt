@@ -1,5 +1,4 @@
 -- `deepened` meets its contract: there are cells enough, or they are moved and others spelled out below them. Assumes nothing.
-use borrow.Author.Rules.{rules}
 use Rattle.exec.proofs.Swaps.{deepen-not, deepen-more}
 use Rattle.exec.proofs.swap.deepened.Goals as goal
 

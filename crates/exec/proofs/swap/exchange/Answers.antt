@@ -1,5 +1,4 @@
 -- `exchange` meets its contract: two cells change places. Assumes nothing.
-use borrow.Author.Rules.{rules}
 use Rattle.exec.proofs.Swaps.{exchanged}
 use Rattle.exec.proofs.swap.exchange.Goals as goal
 

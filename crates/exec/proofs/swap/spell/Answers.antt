@@ -1,8 +1,6 @@
 -- `spell` meets its contract: the cells passed so far are spelled out. The measure is what is left of d. Assumes nothing.
-use Prim.Native.Nat.{◌-◌, ◌≤◌}
 use native.Mathlib.Omega.{arith}
 use borrow.Author.Rules.{rules}
-use Rattle.state.specs.Cells.{befores, Wrote}
 use Rattle.exec.proofs.Swaps.{spell-none, spell-more, spell-done}
 use Rattle.exec.proofs.swap.spell.Goals as goal
 

@@ -1,5 +1,4 @@
 -- `trade` meets its contract: a row that gives none, or one. Assumes nothing.
-use borrow.Author.Rules.{rules}
 use Rattle.exec.proofs.Acts.{trade-none, trade-one}
 use Rattle.exec.proofs.trade.trade.Goals as goal
 

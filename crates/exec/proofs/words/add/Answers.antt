@@ -1,5 +1,4 @@
 -- `add` meets its contract: the two words that were read are replaced. Assumes nothing.
-use borrow.Author.Rules.{rules}
 use Rattle.exec.proofs.Acts.{becomes-add}
 use Rattle.exec.proofs.words.add.Goals as goal
 

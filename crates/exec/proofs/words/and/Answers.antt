@@ -1,5 +1,4 @@
 -- `and` meets its contract: the two words that were read are replaced. Assumes nothing.
-use borrow.Author.Rules.{rules}
 use Rattle.exec.proofs.Acts.{becomes-and}
 use Rattle.exec.proofs.words.and.Goals as goal
 

@@ -1,5 +1,4 @@
 -- `and_of` meets its contract: each way out is a law of AND. Assumes nothing.
-use borrow.Author.Rules.{rules}
 use Rattle.exec.proofs.Sums.{and-top, and-next, and_none}
 use Rattle.exec.proofs.words.and_of.Goals as goal
 

@@ -1,5 +1,4 @@
 -- `sum_of` meets its contract: each way out is a law of ADD. Assumes nothing.
-use borrow.Author.Rules.{rules}
 use Rattle.exec.proofs.Sums.{sum_top, sum-next, sum_both}
 use Rattle.exec.proofs.words.sum_of.Goals as goal
 

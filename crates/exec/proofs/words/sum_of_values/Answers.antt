@@ -1,6 +1,5 @@
 -- `sum_of_values` meets its contract: each way out is a law of ADD. Assumes nothing.
 use native.Mathlib.Omega.{arith}
-use borrow.Author.Rules.{rules}
 use Rattle.exec.proofs.Sums.{sum_fits, sum_past}
 use Rattle.exec.proofs.words.sum_of_values.Goals as goal
 

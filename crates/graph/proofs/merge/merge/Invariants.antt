@@ -1,7 +1,6 @@
 -- `merge`: the blocks of the first i records are merged. The measure is the records left. Assumes nothing.
 use Prim.Native.Nat.{◌-◌}
-use borrow.Author.Rules.{rules}
-use Rattle.graph.proofs.Merging.{Merging, merge-start, merge-room, merge_in, merge-start-of, merge-turn, merge-done}
+use Rattle.graph.proofs.Merging.{Merging}
 use Rattle.graph.proofs.merge.merge.Given as goal
 
 abbrev pub invariant-loop-row : goal.invariant-loop-row

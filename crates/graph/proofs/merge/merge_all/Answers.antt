@@ -1,5 +1,4 @@
 -- `merge_all`: the blocks are merged by the notes of the records. Assumes nothing.
-use borrow.Author.Rules.{rules}
 use Rattle.graph.proofs.Merging.{noted-merges, merged-all}
 use Rattle.graph.proofs.merge.merge_all.Goals as goal
 

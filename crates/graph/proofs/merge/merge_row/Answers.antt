@@ -1,5 +1,4 @@
 -- `merge_row`: another kind, no note, several, and one destination. Assumes nothing.
-use borrow.Author.Rules.{rules}
 use Rattle.graph.proofs.Merging.{row_other, row-none, row-several, row_one}
 use Rattle.graph.proofs.merge.merge_row.Goals as goal
 

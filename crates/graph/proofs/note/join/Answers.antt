@@ -1,5 +1,4 @@
 -- `join`: a first destination, the same again, and another. Assumes nothing.
-use borrow.Author.Rules.{rules}
 use Rattle.graph.proofs.Notes.{join_first, join-same, join-other}
 use Rattle.graph.proofs.note.join.Goals as goal
 

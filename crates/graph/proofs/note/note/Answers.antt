@@ -1,5 +1,4 @@
 -- `note`: a record without destination is none, another is joined to the note of its start. Assumes nothing.
-use borrow.Author.Rules.{rules}
 use Rattle.graph.proofs.Notes.{note-none, note-one}
 use Rattle.graph.proofs.note.note.Goals as goal
 

@@ -1,7 +1,6 @@
 -- `note_all`: the first i records are noted. Assumes nothing.
-use Prim.Native.Nat.{◌-◌}
 use borrow.Author.Rules.{rules}
-use Rattle.graph.proofs.Notes.{Noting, note-start, note-room, note-row, note-turn, note-done}
+use Rattle.graph.proofs.Notes.{note-start, note-room, note-row, note-turn, note-done}
 use Rattle.graph.proofs.note.note_all.Goals as goal
 
 pub loop-row-init : goal.loop-row-init

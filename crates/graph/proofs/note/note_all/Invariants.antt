@@ -1,7 +1,6 @@
 -- `note_all`: the first i records are noted. Assumes nothing.
 use Prim.Native.Nat.{◌-◌}
-use borrow.Author.Rules.{rules}
-use Rattle.graph.proofs.Notes.{Noting, note-start, note-room, note-row, note-turn, note-done}
+use Rattle.graph.proofs.Notes.{Noting}
 use Rattle.graph.proofs.note.note_all.Given as goal
 
 abbrev pub invariant-loop-row : goal.invariant-loop-row

@@ -1,5 +1,4 @@
 -- `edge_to`: by the kind of the row. Assumes nothing.
-use borrow.Author.Rules.{rules}
 use Rattle.graph.proofs.Rewriting.{edge-dynamic, edge_other}
 use Rattle.graph.proofs.rewrite.edge_to.Goals as goal
 

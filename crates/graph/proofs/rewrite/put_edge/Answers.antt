@@ -1,5 +1,4 @@
 -- `put_edge`: four fields are stored. Assumes nothing.
-use borrow.Author.Rules.{rules}
 use Rattle.graph.proofs.Rewriting.{put-edge}
 use Rattle.graph.proofs.rewrite.put_edge.Goals as goal
 

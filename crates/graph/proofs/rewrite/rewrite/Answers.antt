@@ -1,7 +1,6 @@
 -- `rewrite`: the first i records are rewritten. Assumes nothing.
-use Prim.Native.Nat.{◌-◌}
 use borrow.Author.Rules.{rules}
-use Rattle.graph.proofs.Rewriting.{Rewriting, rewrite-start, rewrite-row, rewrite-turn, rewrite-done}
+use Rattle.graph.proofs.Rewriting.{rewrite-start, rewrite-row, rewrite-turn, rewrite-done}
 use Rattle.graph.proofs.rewrite.rewrite.Goals as goal
 
 pub loop-row-init : goal.loop-row-init

@@ -1,5 +1,4 @@
 -- `rewrite_row`: the fields are stored, of what was read before. Assumes nothing.
-use borrow.Author.Rules.{rules}
 use Rattle.graph.proofs.Rewriting.{rewrote-row}
 use Rattle.graph.proofs.rewrite.rewrite_row.Goals as goal
 

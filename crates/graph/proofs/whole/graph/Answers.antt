@@ -1,6 +1,5 @@
 -- `graph`: the blocks are merged, the records rewritten, and what is reached flagged. Assumes nothing.
 use Rattle.graph.proofs.Finished.{graphed}
-use borrow.Author.Rules.{rules}
 use Rattle.graph.proofs.Asking.{notes-asked, rewrites-asked, prunes-asked}
 use Rattle.graph.proofs.whole.graph.Goals as goal
 

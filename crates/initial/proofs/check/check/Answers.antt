@@ -1,8 +1,6 @@
 -- `check` meets its contract: the rows before a are checked and the starts of their blocks are listed, all else is as it was, and none is passed over that holds a block. The measure is the rows left. Assumes nothing.
-use Prim.Native.Nat.{◌+◌, ◌-◌}
-use lib.ListN.{length}
 use borrow.Author.Rules.{rules}
-use Rattle.initial.proofs.Checking.{check-none, check-rows, check-listing, check-fits, check-less, check-more, check_done, Checking}
+use Rattle.initial.proofs.Checking.{check-none, check-rows, check-listing, check-fits, check-less, check-more, check_done}
 use Rattle.initial.proofs.check.check.Goals as goal
 
 pub loop-start-init : goal.loop-start-init

@@ -1,5 +1,4 @@
 -- `check_row` meets its contract: no block, a Jump, a Jumpi, and all else, which stays. Assumes nothing.
-use borrow.Author.Rules.{rules}
 use Rattle.initial.proofs.Checking.{row-none, row-jump, row-jumpi, row_same}
 use Rattle.initial.proofs.check.check_row.Goals as goal
 

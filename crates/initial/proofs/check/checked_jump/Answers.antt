@@ -1,5 +1,4 @@
 -- `checked_jump` meets its contract: a jump that lands is kept. Assumes nothing.
-use borrow.Author.Rules.{rules}
 use Rattle.initial.proofs.Checking.{jump_kept, jump-ends}
 use Rattle.initial.proofs.check.checked_jump.Goals as goal
 

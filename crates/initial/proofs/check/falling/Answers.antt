@@ -1,5 +1,4 @@
 -- `falling` meets its contract: its true side is landed on, or is not. Assumes nothing.
-use borrow.Author.Rules.{rules}
 use Rattle.initial.proofs.Checking.{jumpi-kept, jumpi-falls}
 use Rattle.initial.proofs.check.falling.Goals as goal
 

@@ -1,6 +1,5 @@
 -- `lands` meets its contract: past the code, at another byte, and where a block may start. Assumes nothing.
 use Rattle.initial.proofs.Checking.{lands-past, lands-other, lands-starts}
-use borrow.Author.Rules.{rules}
 use Rattle.initial.proofs.check.lands.Goals as goal
 
 pub returns-then-code-to : goal.returns-then-code-to

@@ -1,5 +1,4 @@
 -- `list_row` meets its contract: no block starts there, or its start is put behind the others. Assumes nothing.
-use borrow.Author.Rules.{rules}
 use Rattle.initial.proofs.Listing.{list-none, list-one}
 use Rattle.initial.proofs.check.list_row.Goals as goal
 

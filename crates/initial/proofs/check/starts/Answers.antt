@@ -1,5 +1,4 @@
 -- `starts` meets its contract: past the code, and by the kind byte of the row. Assumes nothing.
-use borrow.Author.Rules.{rules}
 use Rattle.initial.proofs.Checking.{starts-past, starts-tag}
 use Rattle.initial.proofs.check.starts.Goals as goal
 

@@ -1,8 +1,5 @@
 -- `cut` meets its contract: what is written and what is still to be cut are the whole. The measure is what is left of the code. Assumes nothing.
-use Prim.Native.Nat.{◌-◌}
-use lib.ListN.{length}
-use borrow.Author.Rules.{rules}
-use Rattle.initial.proofs.Cutting.{cut-empty, cut-starts, last-asks, cut-last, cut-ready, cut_stands, cut-stops, cut-less, cut-more, Going}
+use Rattle.initial.proofs.Cutting.{cut-empty, cut-starts, last-asks, cut-last, cut-ready, cut_stands, cut-stops, cut-less, cut-more}
 use Rattle.initial.proofs.cut.cut.Goals as goal
 
 pub returns-then-size-eq0 : goal.returns-then-size-eq0

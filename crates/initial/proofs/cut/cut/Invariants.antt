@@ -1,8 +1,7 @@
 -- `cut` meets its contract: what is written and what is still to be cut are the whole. The measure is what is left of the code. Assumes nothing.
 use Prim.Native.Nat.{◌-◌}
 use lib.ListN.{length}
-use borrow.Author.Rules.{rules}
-use Rattle.initial.proofs.Cutting.{cut-empty, cut-starts, last-asks, cut-last, cut-ready, cut_stands, cut-stops, cut-less, cut-more, Going}
+use Rattle.initial.proofs.Cutting.{Going}
 use Rattle.initial.proofs.cut.cut.Given as goal
 
 abbrev pub invariant-loop-w : goal.invariant-loop-w

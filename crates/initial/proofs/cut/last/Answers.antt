@@ -1,5 +1,4 @@
 -- `last` meets its contract, for each mode in which the walk may end. Assumes nothing.
-use borrow.Author.Rules.{rules}
 use Rattle.initial.proofs.Cutting.{last-kept, last-past, last-waits, last-ended}
 use Rattle.initial.proofs.cut.last.Goals as goal
 

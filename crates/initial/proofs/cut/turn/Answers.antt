@@ -1,6 +1,5 @@
 -- `turn` meets its contract: each way out keeps what is written and what is still to be cut together. Assumes nothing.
 use Rattle.initial.proofs.Taking.{turn-asks, turn-room, turn-goes, turn-closes, turn-found, turn-waits, turn-ended}
-use borrow.Author.Rules.{rules}
 use Rattle.initial.proofs.cut.turn.Goals as goal
 
 pub closes-requires : goal.closes-requires

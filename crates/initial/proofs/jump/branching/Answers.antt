@@ -1,5 +1,4 @@
 -- `branching` meets its contract, for each kind of target. Assumes nothing.
-use borrow.Author.Rules.{rules}
 use Rattle.initial.proofs.Jumping.{branching-static, branching-dynamic}
 use Rattle.initial.proofs.jump.branching.Goals as goal
 

@@ -1,5 +1,4 @@
 -- `is_static_jump` meets its contract: each way out is a law of what the instruction before pushed. Assumes nothing.
-use borrow.Author.Rules.{rules}
 use Rattle.initial.proofs.Jumping.{static-low, static-high, static-follow, static-near, static-far}
 use Rattle.initial.proofs.jump.is_static_jump.Goals as goal
 

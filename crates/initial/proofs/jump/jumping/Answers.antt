@@ -1,5 +1,4 @@
 -- `jumping` meets its contract, for each kind of target. Assumes nothing.
-use borrow.Author.Rules.{rules}
 use Rattle.initial.proofs.Jumping.{jumping-static, jumping-dynamic}
 use Rattle.initial.proofs.jump.jumping.Goals as goal
 

@@ -1,5 +1,4 @@
 -- `at_unknown` meets its contract, in its three cases. Assumes nothing.
-use borrow.Author.Rules.{rules}
 use Rattle.initial.proofs.Jumping.{unknown-first, unknown-own, unknown-past}
 use Rattle.initial.proofs.turn.at_unknown.Goals as goal
 

@@ -1,5 +1,4 @@
 -- `closes` meets its contract: each case of the decision is a law. Assumes nothing.
-use borrow.Author.Rules.{rules}
 use Rattle.initial.proofs.Jumping.{at_jumpdest, at-jumpi, at-jump, at-ends, at-unknown, at_other}
 use Rattle.initial.proofs.turn.closes.Goals as goal
 

@@ -1,7 +1,5 @@
 -- `cut_of` meets its contract: a byte that is a key, the two that fail, those of the wide range, and the rest by what is known of them. Assumes nothing.
 use Rattle.initial.proofs.Bytes.{far-below, cut-success, cut-fails, cut-common, cut-other, cut-unknown}
-use mathlib.Core.Logic.{⊎_elim}
-use borrow.Author.Rules.{rules}
 use Rattle.spec.specs.Lists.{if}
 use Rattle.initial.proofs.turn.cut_of.Goals as goal
 use Rattle.initial.proofs.turn.cut_of.Goals.{in_default-via-then-op-lt95, in_default-via-else-op-lt95+else-op-lt160+then-op-lt253}
@@ -30,13 +28,13 @@ returns-in-253 c = search cut-fails
 pub returns-then-known : goal.returns-then-known
 returns-then-known c =
     elim c.in_default.branch [
-      in_default-via-then-op-lt95 w ↦ search (cut-other, far-below)
-    | in_default-via-else-op-lt95+else-op-lt160+then-op-lt253 w ↦ search cut-other
+      | in_default-via-then-op-lt95 w ↦ search (cut-other, far-below)
+      | in_default-via-else-op-lt95+else-op-lt160+then-op-lt253 w ↦ search cut-other
     ]
 
 pub returns-else-known : goal.returns-else-known
 returns-else-known c =
     elim c.in_default.branch [
-      in_default-via-then-op-lt95 w ↦ search (cut-unknown, far-below)
-    | in_default-via-else-op-lt95+else-op-lt160+then-op-lt253 w ↦ search cut-unknown
+      | in_default-via-then-op-lt95 w ↦ search (cut-unknown, far-below)
+      | in_default-via-else-op-lt95+else-op-lt160+then-op-lt253 w ↦ search cut-unknown
     ]

@@ -1,5 +1,4 @@
 -- `add_dynamic`: a text for each kind, around the rows that it lists. Assumes nothing.
-use borrow.Author.Rules.{rules}
 use Rattle.json_text.proofs.Types.{dynamic_jump-put, dynamic_jumpi-put}
 use Rattle.json_text.proofs.block.add_dynamic.Goals as goal
 

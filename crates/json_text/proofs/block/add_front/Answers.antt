@@ -1,5 +1,4 @@
 -- `add_front`: three numbers, each behind its name. Assumes nothing.
-use borrow.Author.Rules.{rules}
 use Rattle.json_text.proofs.Types.{front-put}
 use Rattle.json_text.proofs.block.add_front.Goals as goal
 

@@ -1,5 +1,4 @@
 -- `add_static`: a text for each kind. Assumes nothing.
-use borrow.Author.Rules.{rules}
 use Rattle.json_text.proofs.Types.{failure-put, success-put, jump-put, jumpi-put}
 use Rattle.json_text.proofs.block.add_static.Goals as goal
 

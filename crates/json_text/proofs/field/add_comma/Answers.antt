@@ -1,5 +1,4 @@
 -- `add_comma`: none, or one. Assumes nothing.
-use borrow.Author.Rules.{rules}
 use Rattle.json_text.proofs.Lines.{comma-none, comma-some}
 use Rattle.json_text.proofs.field.add_comma.Goals as goal
 

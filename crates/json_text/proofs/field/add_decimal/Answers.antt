@@ -1,5 +1,4 @@
 -- `add_decimal`: a number, counted or stored. Assumes nothing.
-use borrow.Author.Rules.{rules}
 use Rattle.json_text.proofs.Ways.{number-counted, number_put}
 use Rattle.json_text.proofs.field.add_decimal.Goals as goal
 

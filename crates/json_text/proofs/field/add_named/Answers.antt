@@ -1,5 +1,4 @@
 -- `add_named`: a text, and a number. Assumes nothing.
-use borrow.Author.Rules.{rules}
 use Rattle.json_text.proofs.Ways.{named_put}
 use Rattle.json_text.proofs.field.add_named.Goals as goal
 

@@ -1,5 +1,4 @@
 -- `add_text`: a text, counted or stored. Assumes nothing.
-use borrow.Author.Rules.{rules}
 use Rattle.json_text.proofs.Ways.{text-counted}
 use Rattle.entries.proofs.Puts.{put-stored}
 use Rattle.json_text.proofs.field.add_text.Goals as goal

@@ -1,7 +1,6 @@
 -- `add_blocks`: those of the entries that are passed are put. Assumes nothing.
-use borrow.Author.Rules.{rules}
 use Prim.Native.Nat.{◌-◌}
-use Rattle.json_text.proofs.Rowed.{Lining, line-start, line-room, line-far, line-tag, line-block, line-turn, line-done}
+use Rattle.json_text.proofs.Rowed.{Lining}
 use Rattle.json_text.proofs.kept.add_blocks.Given as goal
 
 abbrev pub invariant-loop-i : goal.invariant-loop-i

@@ -1,9 +1,6 @@
 -- `add_ways`: what is put, and what is left, are all. Assumes nothing.
-use borrow.Author.Rules.{rules}
-use lib.ListN.{length}
-use Rattle.entries.specs.Rows.{left_of}
 use Rattle.entries.proofs.Walks.{walk-address, walk-less}
-use Rattle.json_text.proofs.Walked.{Walking, walk_start, link-room, walk-row, walk_turn, walk-done}
+use Rattle.json_text.proofs.Walked.{walk_start, link-room, walk-row, walk_turn, walk-done}
 use Rattle.json_text.proofs.listing.add_ways.Goals as goal
 
 pub first_row-link-requires : goal.first_row-link-requires

@@ -1,5 +1,4 @@
 -- `add_address`: a comma, and a number. Assumes nothing.
-use borrow.Author.Rules.{rules}
 use Rattle.json_text.proofs.Ways.{address-put}
 use Rattle.json_text.proofs.way.add_address.Goals as goal
 

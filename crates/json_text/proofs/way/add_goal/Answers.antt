@@ -1,5 +1,4 @@
 -- `add_goal`: null, or a number. Assumes nothing.
-use borrow.Author.Rules.{rules}
 use Rattle.json_text.proofs.Ways.{goal-none, goal-some}
 use Rattle.json_text.proofs.way.add_goal.Goals as goal
 

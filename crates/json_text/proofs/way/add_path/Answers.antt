@@ -1,7 +1,6 @@
 -- `add_path`: i addresses are put. Assumes nothing.
 use borrow.Author.Rules.{rules}
-use Prim.Native.Nat.{◌-◌}
-use Rattle.json_text.proofs.Ways.{Pathing, path-start, path_room, path-turn, path-done}
+use Rattle.json_text.proofs.Ways.{path-start, path_room, path-turn, path-done}
 use Rattle.json_text.proofs.way.add_path.Goals as goal
 
 pub loop-i-init : goal.loop-i-init

@@ -1,7 +1,6 @@
 -- `add_path`: i addresses are put. Assumes nothing.
-use borrow.Author.Rules.{rules}
 use Prim.Native.Nat.{◌-◌}
-use Rattle.json_text.proofs.Ways.{Pathing, path-start, path_room, path-turn, path-done}
+use Rattle.json_text.proofs.Ways.{Pathing}
 use Rattle.json_text.proofs.way.add_path.Given as goal
 
 abbrev pub invariant-loop-i : goal.invariant-loop-i

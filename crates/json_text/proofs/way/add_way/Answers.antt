@@ -1,5 +1,4 @@
 -- `add_way`: a path and a destination, each behind its name. Assumes nothing.
-use borrow.Author.Rules.{rules}
 use Rattle.json_text.proofs.Ways.{way-put}
 use Rattle.json_text.proofs.way.add_way.Goals as goal
 

@@ -1,5 +1,5 @@
 -- `level` and `parent`: a level tries its parents, and a parent may open a level with less weight left. Assumes nothing.
-use Rattle.std.proofs.Common.{arith, rules}
+use Rattle.std.proofs.Common.{arith}
 use Rattle.levels.proofs.LevelLoop.{level-at-block, level-address, level-starts, going-block, going-cursor, going-asks, going-falls, going-spend, going-tries, level-skips, level-passes, level-refused, level-tried, level-ends}
 use Rattle.levels.proofs.ParentDeeper.{parent-shut, opens-lighter, parent-counts, parent-opens, parent-refused, parent-uncounts, parent-done}
 use Rattle.levels.proofs.levels.+level_parent.Goals as goal

@@ -1,5 +1,4 @@
 -- `reached_then`: the mark of the block that the cursor stands for. Assumes nothing.
-use borrow.Author.Rules.{rules}
 use Rattle.levels.proofs.levels.reached_then.Goals as goal
 
 pub returns : goal.returns

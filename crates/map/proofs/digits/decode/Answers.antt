@@ -1,8 +1,6 @@
 -- `decode`: after i turns i bytes are decoded. Assumes nothing.
-use Rattle.map.proofs.DecodeLoop.{Decoding, decoding-none, decoding-more, first_bad, second-bad, decoding-done, line-feed, odd, decodes-long}
-use Prim.Native.Nat.{◌-◌}
+use Rattle.map.proofs.DecodeLoop.{decoding-none, decoding-more, first_bad, second-bad, decoding-done, line-feed, odd, decodes-long}
 use native.Mathlib.Omega.{arith}
-use lib.ListN.{length}
 use borrow.Author.Rules.{rules}
 use Rattle.map.proofs.digits.decode.Goals as goal
 

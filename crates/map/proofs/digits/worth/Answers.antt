@@ -1,6 +1,5 @@
 -- `worth`: range by range. Assumes nothing.
 use Rattle.map.proofs.Worths.{worth-under, worth-figure, worth-between, worth-upper, worth-past, worth-lower, worth-over}
-use borrow.Author.Rules.{rules}
 use Rattle.map.proofs.digits.worth.Goals as goal
 
 pub returns-then-character-lt48 : goal.returns-then-character-lt48

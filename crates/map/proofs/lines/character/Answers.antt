@@ -1,5 +1,4 @@
 -- `character`: a figure or a letter. Assumes nothing.
-use borrow.Author.Rules.{rules}
 use Rattle.map.proofs.Hexes.{spells-figure, spells-letter}
 use Rattle.map.proofs.lines.character.Goals as goal
 

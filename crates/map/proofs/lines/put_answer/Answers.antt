@@ -1,6 +1,5 @@
 -- `put_answer`: a refusal, or a map. Assumes nothing.
 use Rattle.map.proofs.Telling.{refusal-fits, refusal-printed, map-lists, map-printed}
-use borrow.Author.Rules.{rules}
 use Rattle.map.proofs.lines.put_answer.Goals as goal
 
 pub put_refused-requires : goal.put_refused-requires

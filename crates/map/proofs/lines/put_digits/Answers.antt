@@ -1,5 +1,4 @@
 -- `put_digits`: one after the other. Assumes nothing.
-use borrow.Author.Rules.{rules}
 use Rattle.map.proofs.Hexes.{hex-byte}
 use Rattle.map.proofs.lines.put_digits.Goals as goal
 

@@ -1,11 +1,6 @@
 -- `put_hex`: after i turns the digits of the first i bytes are stored. Assumes nothing.
-use Prim.Native.Nat.{◌*◌, ◌-◌, ◌≤◌}
 use native.Mathlib.Omega.{arith}
-use lib.ListN.{take, drop}
 use borrow.Author.Rules.{rules}
-use Rattle.spec.specs.Lists.{gather}
-use Rattle.spec.specs.Program.{hex}
-use Rattle.lent.specs.Bytes.{Stored}
 use Rattle.lent.proofs.Stored.{stored-none}
 use Rattle.map.proofs.Hexes.{hex-more, hex-done}
 use Rattle.map.proofs.lines.put_hex.Goals as goal

@@ -1,5 +1,4 @@
 -- `put_line`: the digits, and the line feed. Assumes nothing.
-use borrow.Author.Rules.{rules}
 use Rattle.map.proofs.Hexes.{line-end}
 use Rattle.map.proofs.lines.put_line.Goals as goal
 

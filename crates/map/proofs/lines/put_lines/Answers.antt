@@ -1,8 +1,6 @@
 -- `put_lines`: after some turns the entries passed are printed. Assumes nothing.
-use Rattle.map.proofs.Cutting.{Walks, walks-none, starts, puts-line, walks_more, walks-done}
-use mathlib.Core.Path.{◌≡◌, refl}
-use Prim.Native.Nat.{◌-◌}
-use lib.ListN.{length}
+use Rattle.map.proofs.Cutting.{walks-none, starts, puts-line, walks_more, walks-done}
+use mathlib.Core.Path.{refl}
 use borrow.Author.Rules.{rules}
 use Rattle.map.proofs.lines.put_lines.Goals as goal
 

@@ -1,9 +1,8 @@
 -- `put_lines`: after some turns the entries passed are printed. Assumes nothing.
-use Rattle.map.proofs.Cutting.{Walks, walks-none, starts, puts-line, walks_more, walks-done}
-use mathlib.Core.Path.{◌≡◌, refl}
+use Rattle.map.proofs.Cutting.{Walks}
+use mathlib.Core.Path.{◌≡◌}
 use Prim.Native.Nat.{◌-◌}
 use lib.ListN.{length}
-use borrow.Author.Rules.{rules}
 use Rattle.map.proofs.lines.put_lines.Given as goal
 
 abbrev pub invariant-loop-at : goal.invariant-loop-at

@@ -1,5 +1,4 @@
 -- `put_refused`: a number of one digit, or of two. Assumes nothing.
-use borrow.Author.Rules.{rules}
 use Rattle.map.proofs.Refusing.{says-one, says_two}
 use Rattle.map.proofs.lines.put_refused.Goals as goal
 

@@ -1,6 +1,5 @@
 -- `put_map`: what the call leaves is printed. Assumes nothing.
 use Rattle.map.proofs.Answering.{shows, printed}
-use borrow.Author.Rules.{rules}
 use Rattle.map.proofs.rooms.put_map.Goals as goal
 
 pub put_answer-requires : goal.put_answer-requires

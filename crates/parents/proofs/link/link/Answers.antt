@@ -1,5 +1,4 @@
 use Rattle.parents.proofs.Leaves.{link-wrote}
-use borrow.Author.Rules.{rules}
 use Rattle.parents.proofs.link.link.Goals as goal
 
 pub returns : goal.returns

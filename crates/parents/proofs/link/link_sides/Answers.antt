@@ -1,5 +1,4 @@
 use Rattle.parents.proofs.Leaves.{room-to, room-other, room-then, sides-jump, sides-once, sides-both, sides-other, sides-none}
-use borrow.Author.Rules.{rules}
 use Rattle.parents.proofs.link.link_sides.Goals as goal
 
 pub link-requires : goal.link-requires

@@ -1,5 +1,4 @@
 -- `next_parent`: its true side leads to the address, or its false side does. Assumes nothing.
-use borrow.Author.Rules.{rules}
 use Rattle.parents.proofs.Leaves.{next-to, next-other}
 use Rattle.parents.proofs.link.next_parent.Goals as goal
 

@@ -1,5 +1,4 @@
 use Rattle.parents.proofs.Leaves.{place-jumpdest, place-before, place-constant, place_other}
-use borrow.Author.Rules.{rules}
 use Rattle.parents.proofs.settle.place.Goals as goal
 
 pub returns-in-Jumpdest : goal.returns-in-Jumpdest

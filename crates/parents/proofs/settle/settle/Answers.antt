@@ -1,5 +1,4 @@
 use Rattle.parents.proofs.Leaves.{settle-static, settle-runs, settle-room, settle-nowhere, settle-placed}
-use borrow.Author.Rules.{rules}
 use Rattle.parents.proofs.settle.settle.Goals as goal
 
 pub returns-then-block-lt-DYNAMIC_JUMP : goal.returns-then-block-lt-DYNAMIC_JUMP

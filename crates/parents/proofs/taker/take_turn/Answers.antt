@@ -1,5 +1,4 @@
 use Rattle.parents.proofs.Leaves.{turn-wrote}
-use borrow.Author.Rules.{rules}
 use Rattle.parents.proofs.taker.take_turn.Goals as goal
 
 pub returns : goal.returns

@@ -1,9 +1,6 @@
 -- `enter_all`: the seeds are taken, one after another. Assumes nothing.
-use Rattle.reachable.proofs.SeedsLoop.{Taking, take-start, take-going, take-turn, take_done}
-use Prim.Native.Nat.{◌-◌}
+use Rattle.reachable.proofs.SeedsLoop.{take-start, take-going, take-turn, take_done}
 use native.Mathlib.Omega.{arith}
-use lib.ListN.{length}
-use borrow.Author.Rules.{rules}
 use Rattle.reachable.proofs.closure.enter_all.Goals as goal
 
 pub loop-i-init : goal.loop-i-init

@@ -1,9 +1,7 @@
 -- `enter_all`: the seeds are taken, one after another. Assumes nothing.
-use Rattle.reachable.proofs.SeedsLoop.{Taking, take-start, take-going, take-turn, take_done}
+use Rattle.reachable.proofs.SeedsLoop.{Taking}
 use Prim.Native.Nat.{◌-◌}
-use native.Mathlib.Omega.{arith}
 use lib.ListN.{length}
-use borrow.Author.Rules.{rules}
 use Rattle.reachable.proofs.closure.enter_all.Given as goal
 
 abbrev pub invariant-loop-i : goal.invariant-loop-i

@@ -1,10 +1,8 @@
 -- `expand`: what waits is followed, until nothing waits. Each turn flags more or waits for less. Assumes nothing.
 use Prim.Native.Nat.{◌+◌, ◌-◌, ◌*◌}
 use lib.ListN.{length}
-use borrow.Author.Rules.{rules}
 use Rattle.reachable.specs.Marks.{flagged}
-use Rattle.reachable.proofs.Spreading.{turn-few}
-use Rattle.reachable.proofs.Expanding.{Extending, expand-start, expand-address, expand-going, expand-within, expand-less, expand-turn, expand-done}
+use Rattle.reachable.proofs.Expanding.{Extending}
 use Rattle.reachable.proofs.closure.expand.Given as goal
 
 abbrev pub invariant-loop-count : goal.invariant-loop-count

@@ -1,5 +1,4 @@
 -- `reach`: 0 is expanded over a wiped W. Assumes nothing.
-use borrow.Author.Rules.{rules}
 use Rattle.reachable.proofs.Expanding.{reach-expands, reach-done}
 use Rattle.reachable.proofs.closure.reach.Goals as goal
 

@@ -1,5 +1,4 @@
 -- `is_marked`: there is a mark, and it is no later. Assumes nothing.
-use borrow.Author.Rules.{rules}
 use Rattle.reachable.proofs.Marks.{not-marked, is-marked}
 use Rattle.reachable.proofs.fields.is_marked.Goals as goal
 

@@ -1,5 +1,4 @@
 -- `mark`: a mark is set where there is none. Assumes nothing.
-use borrow.Author.Rules.{rules}
 use Rattle.reachable.proofs.Marks.{mark-stays, mark-sets}
 use Rattle.reachable.proofs.fields.mark.Goals as goal
 

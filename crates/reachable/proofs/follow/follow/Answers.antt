@@ -1,5 +1,4 @@
 -- `follow`: the sides of a row, kind by kind. Assumes nothing.
-use borrow.Author.Rules.{rules}
 use Rattle.reachable.proofs.Following.{follow-none, going-jump, follow-jump, going-jumpi, going-false, follow-jumpi, follow-dynamic_jump, going-dynamic_jumpi, follow-dynamic_jumpi}
 use Rattle.reachable.proofs.follow.follow.Goals as goal
 

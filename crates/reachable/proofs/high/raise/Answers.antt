@@ -1,5 +1,4 @@
 -- `raise`: a higher one stays, or a is stored. Assumes nothing.
-use borrow.Author.Rules.{rules}
 use Rattle.reachable.proofs.Raising.{raise-stays, raise-sets}
 use Rattle.reachable.proofs.high.raise.Goals as goal
 

@@ -1,6 +1,6 @@
 -- `link`: the rows from i on are linked. Assumes nothing.
 use borrow.Author.Rules.{rules}
-use Rattle.reachable.proofs.Chaining.{Linking, link_start, link-room, link_row, link-few, link-turn, link-done}
+use Rattle.reachable.proofs.Chaining.{link_start, link-room, link_row, link-few, link-turn, link-done}
 use Rattle.reachable.proofs.link.link.Goals as goal
 
 pub loop-row-init : goal.loop-row-init

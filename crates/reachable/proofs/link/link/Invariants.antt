@@ -1,6 +1,5 @@
 -- `link`: the rows from i on are linked. Assumes nothing.
-use borrow.Author.Rules.{rules}
-use Rattle.reachable.proofs.Chaining.{Linking, link_start, link-room, link_row, link-few, link-turn, link-done}
+use Rattle.reachable.proofs.Chaining.{Linking}
 use Rattle.reachable.proofs.link.link.Given as goal
 
 abbrev pub invariant-loop-row : goal.invariant-loop-row

@@ -1,5 +1,4 @@
 -- `follow_all`: the sides, and the rows. Assumes nothing.
-use borrow.Author.Rules.{rules}
 use Rattle.reachable.proofs.Pruned.{edges-going, followed-all}
 use Rattle.reachable.proofs.pruning.follow_all.Goals as goal
 

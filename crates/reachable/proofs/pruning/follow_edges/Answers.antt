@@ -1,5 +1,4 @@
 -- `follow_edges`: the rows of the place, and those of the witness. Assumes nothing.
-use borrow.Author.Rules.{rules}
 use Rattle.reachable.proofs.Pruned.{places-going, witnesses-going, followed-edges}
 use Rattle.reachable.proofs.pruning.follow_edges.Goals as goal
 

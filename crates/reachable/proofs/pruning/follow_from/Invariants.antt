@@ -1,10 +1,8 @@
 -- `follow_from`: what waits is followed, until nothing waits, as `expand` does. Assumes nothing.
 use Prim.Native.Nat.{◌+◌, ◌-◌, ◌*◌}
 use lib.ListN.{length}
-use borrow.Author.Rules.{rules}
 use Rattle.reachable.specs.Marks.{flagged}
-use Rattle.reachable.proofs.Pruned.{Going-on, prune-start, prune-fits, prune-going, prune-turn, prune-done}
-use Rattle.reachable.proofs.Spreading.{turn-few, turn-less}
+use Rattle.reachable.proofs.Pruned.{Going-on}
 use Rattle.reachable.proofs.pruning.follow_from.Given as goal
 
 abbrev pub invariant-loop-count : goal.invariant-loop-count

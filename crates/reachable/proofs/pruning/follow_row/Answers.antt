@@ -1,5 +1,4 @@
 -- `follow_row`: the row leads nowhere, or its other key is flagged, or it is not. Assumes nothing.
-use borrow.Author.Rules.{rules}
 use Rattle.reachable.proofs.Leading.{row-nowhere, row_other, row-going, row-led, row-not-led}
 use Rattle.reachable.proofs.pruning.follow_row.Goals as goal
 

@@ -1,6 +1,5 @@
 -- `follow_rows`: the rows of the key below k are followed; k rises. Assumes nothing.
-use borrow.Author.Rules.{rules}
-use Rattle.reachable.proofs.Leading.{Walking, steps, walk-address, walk_start, walk-going, walk-room, walk_turn, walk-less, walk-done}
+use Rattle.reachable.proofs.Leading.{Walking, steps}
 use Rattle.reachable.proofs.pruning.follow_rows.Given as goal
 
 abbrev pub invariant-loop-link : goal.invariant-loop-link

@@ -1,5 +1,4 @@
 -- `link_both`: a wiped W, linked by both keys. Assumes nothing.
-use borrow.Author.Rules.{rules}
 use Rattle.reachable.proofs.Linked.{links-places, links-witnesses, linked-both}
 use Rattle.reachable.proofs.pruning.link_both.Goals as goal
 

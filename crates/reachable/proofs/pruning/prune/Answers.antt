@@ -1,5 +1,4 @@
 -- `prune`: all linked, and what is reached from 0. Assumes nothing.
-use borrow.Author.Rules.{rules}
 use Rattle.reachable.proofs.Linked.{pruned}
 use Rattle.reachable.proofs.pruning.prune.Goals as goal
 

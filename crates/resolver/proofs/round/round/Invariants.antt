@@ -1,10 +1,7 @@
 -- `round`: the blocks that are left of those that take turns, in the loop. Assumes nothing.
-use mathlib.Core.Path.{refl, ◌∙◌}
-use native.Mathlib.Omega.{arith}
-use borrow.Author.Rules.{rules}
 use Rattle.layout.specs.Buffers.{buffers}
 use Rattle.steps.specs.Plans.{plan_in}
-use Rattle.resolver.proofs.RoundLoop.{Going, round-begins, round-row, round-address, round-turns, round-skips, round-over, round-refused, round-goes-on, round-done}
+use Rattle.resolver.proofs.RoundLoop.{Going}
 use Rattle.resolver.proofs.round.round.Given as goal
 
 abbrev pub invariant-loop-left : goal.invariant-loop-left

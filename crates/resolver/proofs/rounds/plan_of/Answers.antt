@@ -1,10 +1,8 @@
 -- `plan_of`: T has as many shelves as rows, up to a number. Assumes nothing.
 use mathlib.Core.Path.{◌≡◌}
-use mathlib.Core.Logic.{⊎_elim}
 use Prim.Native.Nat.{ℕ, min}
 use mathlib.Core.List.{[], ◌∷◌}
 use native.Mathlib.Omega.{arith}
-use borrow.Author.Rules.{rules}
 use Rattle.layout.specs.Parts.{starts_place}
 use Rattle.exec.specs.Modes.{mode_of}
 use Rattle.exec.specs.declared.mode.Mode.{Mode}
@@ -22,7 +20,7 @@ pub returns : goal.returns
 returns c =
     let args = c.args in
     let few : c.if-rooms-lt-MOST_SHELVES.shelves ≡ min args.rooms.t 0x10000 = elim c.if-rooms-lt-MOST_SHELVES.branch [
-      then-rooms-lt-MOST_SHELVES w ↦ omega (arith, w.shelves-is)
-    | else-rooms-lt-MOST_SHELVES w ↦ omega (arith, w.shelves-is)
+      | then-rooms-lt-MOST_SHELVES w ↦ omega (arith, w.shelves-is)
+      | else-rooms-lt-MOST_SHELVES w ↦ omega (arith, w.shelves-is)
     ] in
     plan-is args.mode args.size args.limit args.many args.rooms few c.number_of-number.ensures c.buckets_of-buckets.ensures

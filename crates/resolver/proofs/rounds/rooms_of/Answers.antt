@@ -1,5 +1,4 @@
 -- `rooms_of`: the units of each buffer. Assumes nothing.
-use borrow.Author.Rules.{rules}
 use Rattle.resolver.proofs.rounds.rooms_of.Goals as goal
 
 pub returns : goal.returns

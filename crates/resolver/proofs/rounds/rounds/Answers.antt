@@ -1,10 +1,6 @@
 -- `rounds`: each round starts with what the last one's records lead to. Assumes nothing.
-use Rattle.resolver.proofs.RoundsLoop.{RoundsSoFar, so-far-start, so-far-limit, so-far-settles, so-far-asks, so-far-short, so_far_last, so-far-next, so-far-done}
-use mathlib.Core.Path.{◌∙◌}
+use Rattle.resolver.proofs.RoundsLoop.{so-far-start, so-far-limit, so-far-settles, so-far-asks, so-far-short, so_far_last, so-far-next, so-far-done}
 use native.Mathlib.Omega.{arith}
-use borrow.Author.Rules.{rules}
-use Rattle.layout.specs.Buffers.{buffers}
-use Rattle.steps.specs.Plans.{plan_in}
 use Rattle.resolver.proofs.rounds.rounds.Goals as goal
 
 pub loop-left-init : goal.loop-left-init

@@ -1,8 +1,5 @@
 -- `rounds`: each round starts with what the last one's records lead to. Assumes nothing.
-use Rattle.resolver.proofs.RoundsLoop.{RoundsSoFar, so-far-start, so-far-limit, so-far-settles, so-far-asks, so-far-short, so_far_last, so-far-next, so-far-done}
-use mathlib.Core.Path.{◌∙◌}
-use native.Mathlib.Omega.{arith}
-use borrow.Author.Rules.{rules}
+use Rattle.resolver.proofs.RoundsLoop.{RoundsSoFar}
 use Rattle.layout.specs.Buffers.{buffers}
 use Rattle.steps.specs.Plans.{plan_in}
 use Rattle.resolver.proofs.rounds.rounds.Given as goal

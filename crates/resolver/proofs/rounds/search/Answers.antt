@@ -1,7 +1,6 @@
 -- `search`: what is reached at the start, and the rounds from there. Assumes nothing.
-use mathlib.Core.Path.{ap, ◌∙◌}
+use mathlib.Core.Path.{ap}
 use native.Mathlib.Omega.{arith}
-use borrow.Author.Rules.{rules}
 use Rattle.tables.specs.declared.Rooms.{Rooms}
 use Rattle.steps.specs.Plans.{Plan}
 use Rattle.resolver.proofs.SearchBegins.{known-within, search-room, search-heads, search-begins, search-asks, search-done}

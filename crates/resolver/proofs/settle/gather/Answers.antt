@@ -1,6 +1,5 @@
 -- `gather`: the records are gone through until the batch is full or none is left. Assumes nothing.
-use Rattle.resolver.proofs.GatherLoop.{Gathering, gather-start, gather-skip, gather-turn, gather-out, gather-full}
-use Prim.Native.Nat.{◌-◌}
+use Rattle.resolver.proofs.GatherLoop.{gather-start, gather-skip, gather-turn, gather-out, gather-full}
 use native.Mathlib.Omega.{arith}
 use borrow.Author.Rules.{rules}
 use borrow.Author.Tests.{ltb-true}

@@ -1,9 +1,6 @@
 -- `gather`: the records are gone through until the batch is full or none is left. Assumes nothing.
-use Rattle.resolver.proofs.GatherLoop.{Gathering, gather-start, gather-skip, gather-turn, gather-out, gather-full}
+use Rattle.resolver.proofs.GatherLoop.{Gathering}
 use Prim.Native.Nat.{◌-◌}
-use native.Mathlib.Omega.{arith}
-use borrow.Author.Rules.{rules}
-use borrow.Author.Tests.{ltb-true}
 use Rattle.resolver.proofs.settle.gather.Given as goal
 
 abbrev pub invariant-loop-i : goal.invariant-loop-i

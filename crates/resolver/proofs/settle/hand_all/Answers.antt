@@ -1,6 +1,5 @@
 -- `hand_all`: the destinations from `since` on are expanded, batch after batch. Assumes nothing.
-use Rattle.resolver.proofs.SettleLoop.{Settling, settle-start, settle-hands, settle-turn, settle-done}
-use Prim.Native.Nat.{◌-◌}
+use Rattle.resolver.proofs.SettleLoop.{settle-start, settle-hands, settle-turn, settle-done}
 use borrow.Author.Rules.{rules}
 use Rattle.resolver.proofs.settle.hand_all.Goals as goal
 

@@ -1,7 +1,6 @@
 -- `hand_all`: the destinations from `since` on are expanded, batch after batch. Assumes nothing.
-use Rattle.resolver.proofs.SettleLoop.{Settling, settle-start, settle-hands, settle-turn, settle-done}
+use Rattle.resolver.proofs.SettleLoop.{Settling}
 use Prim.Native.Nat.{◌-◌}
-use borrow.Author.Rules.{rules}
 use Rattle.resolver.proofs.settle.hand_all.Given as goal
 
 abbrev pub invariant-loop-i : goal.invariant-loop-i

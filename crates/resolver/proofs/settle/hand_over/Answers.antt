@@ -1,6 +1,5 @@
 -- `hand_over`: an empty batch changes nothing, and any other is expanded. Assumes nothing.
 use Rattle.resolver.proofs.BatchExpands.{hand-gathers, hand-none, hand-expands, hand-done}
-use borrow.Author.Rules.{rules}
 use Rattle.resolver.proofs.settle.hand_over.Goals as goal
 
 pub gather-batched-requires : goal.gather-batched-requires

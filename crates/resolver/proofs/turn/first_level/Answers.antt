@@ -1,6 +1,5 @@
 -- `first_level`: what is stored, counted and read is what `Placed` says. Assumes nothing.
 use Rattle.resolver.proofs.Placing.{place-copies, place-puts, place-counts, place-reads, place-done}
-use borrow.Author.Rules.{rules}
 use Rattle.resolver.proofs.turn.first_level.Goals as goal
 
 pub copy-requires : goal.copy-requires

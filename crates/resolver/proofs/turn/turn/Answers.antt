@@ -2,7 +2,6 @@
 use Rattle.resolver.proofs.TurnDone.{turn-runs, turn-few, turn-places, turn-opens, turn-short-p, turn-short-s, leveling, turn-refused, turn-uncounts, turn-forgets, turn-done}
 use mathlib.Core.Path.{ap, ◌∙◌}
 use native.Mathlib.Omega.{arith}
-use borrow.Author.Rules.{rules}
 use Rattle.steps.specs.Goings.{run_in}
 use Rattle.resolver.proofs.turn.turn.Goals as goal
 

@@ -1,5 +1,4 @@
 -- `get_cell` meets its contract: a symbol is read from its tag and its number. Assumes nothing.
-use borrow.Author.Rules.{rules}
 use Rattle.state.proofs.Cells.{got}
 use Rattle.state.proofs.cell.get_cell.Goals as goal
 

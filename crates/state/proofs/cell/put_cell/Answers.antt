@@ -1,5 +1,4 @@
 -- `put_cell` meets its contract: each variant is put as its tag and its number. Assumes nothing.
-use borrow.Author.Rules.{rules}
 use Rattle.state.proofs.Cells.{put_as}
 use Rattle.state.proofs.cell.put_cell.Goals as goal
 

@@ -1,6 +1,5 @@
 -- `put_tagged` meets its contract: one byte and then eight. Assumes nothing.
 use native.Mathlib.Omega.{arith}
-use borrow.Author.Rules.{rules}
 use Rattle.state.proofs.Cells.{put-tagged}
 use Rattle.state.proofs.cell.put_tagged.Goals as goal
 

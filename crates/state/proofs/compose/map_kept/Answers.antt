@@ -1,8 +1,5 @@
 -- `map_kept` meets its contract. Assumes nothing.
-use Prim.Native.Nat.{◌-◌}
-use borrow.Author.Rules.{rules}
-use Rattle.state.specs.Cells.{stack_at}
-use Rattle.state.proofs.Composing.{Mapping, kept-none, kept-asks, kept_more, kept-done}
+use Rattle.state.proofs.Composing.{kept-none, kept-asks, kept_more, kept-done}
 use Rattle.state.proofs.compose.map_kept.Goals as goal
 
 pub loop-i-init : goal.loop-i-init

@@ -1,8 +1,7 @@
 -- `map_kept` meets its contract. Assumes nothing.
 use Prim.Native.Nat.{◌-◌}
-use borrow.Author.Rules.{rules}
 use Rattle.state.specs.Cells.{stack_at}
-use Rattle.state.proofs.Composing.{Mapping, kept-none, kept-asks, kept_more, kept-done}
+use Rattle.state.proofs.Composing.{Mapping}
 use Rattle.state.proofs.compose.map_kept.Given as goal
 
 abbrev pub invariant-loop-i : goal.invariant-loop-i

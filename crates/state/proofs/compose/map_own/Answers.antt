@@ -1,8 +1,5 @@
 -- `map_own` meets its contract. Assumes nothing.
-use Prim.Native.Nat.{◌-◌}
-use borrow.Author.Rules.{rules}
-use Rattle.state.specs.Cells.{stack_at}
-use Rattle.state.proofs.Composing.{Mapping, map-none, map-asks, map_more, map-done}
+use Rattle.state.proofs.Composing.{map-none, map-asks, map_more, map-done}
 use Rattle.state.proofs.compose.map_own.Goals as goal
 
 pub loop-i-init : goal.loop-i-init

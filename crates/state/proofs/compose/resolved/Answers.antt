@@ -1,6 +1,4 @@
 -- `resolved` meets its contract. Assumes nothing.
-use borrow.Author.Rules.{rules}
-use Rattle.spec.specs.Stacks.{through}
 use Rattle.state.proofs.Composing.{resolve-asks, resolve-before}
 use Rattle.state.proofs.compose.resolved.Goals as goal
 

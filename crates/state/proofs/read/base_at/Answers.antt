@@ -1,5 +1,4 @@
 -- `base_at` meets its contract. Assumes nothing.
-use borrow.Author.Rules.{rules}
 use Rattle.state.proofs.States.{base-is}
 use Rattle.state.proofs.read.base_at.Goals as goal
 

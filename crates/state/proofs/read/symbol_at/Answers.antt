@@ -1,5 +1,4 @@
 -- `symbol_at` meets its contract: within the cells, or past them. Assumes nothing.
-use borrow.Author.Rules.{rules}
 use Rattle.state.proofs.States.{symbol-inside, symbol-below, symbol-fits}
 use Rattle.state.proofs.read.symbol_at.Goals as goal
 

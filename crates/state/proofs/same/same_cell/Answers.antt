@@ -1,5 +1,4 @@
 -- `same_cell` meets its contract. Assumes nothing.
-use borrow.Author.Rules.{rules}
 use Rattle.state.proofs.Comparing.{cells-differ, cells-decide}
 use Rattle.state.proofs.same.same_cell.Goals as goal
 

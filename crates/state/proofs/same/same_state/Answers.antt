@@ -1,7 +1,5 @@
 -- `same_state` meets its contract. Assumes nothing.
-use Prim.Native.Nat.{◌-◌}
-use borrow.Author.Rules.{rules}
-use Rattle.state.proofs.Comparing.{Comparing, compare-none, compare-asks, compare-more, compare-stop, compare-done}
+use Rattle.state.proofs.Comparing.{compare-none, compare-asks, compare-more, compare-stop, compare-done}
 use Rattle.state.proofs.same.same_state.Goals as goal
 
 pub loop-i-init : goal.loop-i-init

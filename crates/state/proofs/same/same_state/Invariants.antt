@@ -1,7 +1,6 @@
 -- `same_state` meets its contract. Assumes nothing.
 use Prim.Native.Nat.{◌-◌}
-use borrow.Author.Rules.{rules}
-use Rattle.state.proofs.Comparing.{Comparing, compare-none, compare-asks, compare-more, compare-stop, compare-done}
+use Rattle.state.proofs.Comparing.{Comparing}
 use Rattle.state.proofs.same.same_state.Given as goal
 
 abbrev pub invariant-loop-i : goal.invariant-loop-i

@@ -1,5 +1,4 @@
 -- `clip`: the three ways that a link can go. Assumes nothing.
-use borrow.Author.Rules.{rules}
 use Rattle.steps.proofs.Clips.{clip-none, clip-late, clip-there}
 use Rattle.steps.proofs.cursor.clip.Goals as goal
 

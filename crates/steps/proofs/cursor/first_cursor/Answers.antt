@@ -1,5 +1,4 @@
 -- `first_cursor`: the first direct parent, or else the first found one. Assumes nothing.
-use borrow.Author.Rules.{rules}
 use Rattle.steps.proofs.Clips.{first-direct, first-other}
 use Rattle.steps.proofs.cursor.first_cursor.Goals as goal
 

@@ -1,5 +1,4 @@
 -- `first_found`: the link in W. Assumes nothing.
-use borrow.Author.Rules.{rules}
 use Rattle.steps.proofs.Clips.{found_first}
 use Rattle.steps.proofs.cursor.first_found.Goals as goal
 

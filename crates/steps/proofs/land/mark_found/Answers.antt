@@ -1,5 +1,4 @@
 -- `mark_found`: the mark leaves the rows, so the sides are those that were there. Assumes nothing.
-use borrow.Author.Rules.{rules}
 use Rattle.steps.proofs.Lands.{raises-address, raises-within, found-marked}
 use Rattle.steps.proofs.land.mark_found.Goals as goal
 

@@ -1,6 +1,5 @@
 -- `meet`: T has no room, it was met, or it is new. Assumes nothing.
 use Rattle.steps.proofs.Meets.{met-roomless, meets-finds, meets-memorizes, met-again, met-new}
-use borrow.Author.Rules.{rules}
 use Rattle.steps.proofs.meet.meet.Goals as goal
 
 pub returns-then-plan-eq0 : goal.returns-then-plan-eq0

@@ -1,5 +1,4 @@
 -- `hold`: no link can tell where, there is no room, or the four writes. Assumes nothing.
-use borrow.Author.Rules.{rules}
 use Rattle.steps.proofs.Helds.{hold-unlinked, hold-short, hold-done}
 use Rattle.steps.proofs.own.hold.Goals as goal
 

@@ -2,7 +2,6 @@
 use mathlib.Core.Path.{◌≡◌, subst}
 use Prim.Native.Nat.{ℕ}
 use mathlib.Core.List.{List}
-use borrow.Author.Rules.{rules}
 use Rattle.exec.specs.Owns.{Owned}
 use Rattle.exec.specs.declared.run.Own.{Own}
 use Rattle.steps.proofs.own.run_block.Goals as goal

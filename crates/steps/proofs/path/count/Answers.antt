@@ -1,7 +1,5 @@
 -- `count`: the counts are those of the addresses passed. Assumes nothing.
-use Prim.Native.Nat.{◌-◌}
-use borrow.Author.Rules.{rules}
-use Rattle.steps.proofs.Counting.{Along, count-first, count_room, count_turn, count-done}
+use Rattle.steps.proofs.Counting.{count-first, count_room, count_turn, count-done}
 use Rattle.steps.proofs.path.count.Goals as goal
 
 pub loop-i-init : goal.loop-i-init

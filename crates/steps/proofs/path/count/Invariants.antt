@@ -1,7 +1,6 @@
 -- `count`: the counts are those of the addresses passed. Assumes nothing.
 use Prim.Native.Nat.{◌-◌}
-use borrow.Author.Rules.{rules}
-use Rattle.steps.proofs.Counting.{Along, count-first, count_room, count_turn, count-done}
+use Rattle.steps.proofs.Counting.{Along}
 use Rattle.steps.proofs.path.count.Given as goal
 
 abbrev pub invariant-loop-i : goal.invariant-loop-i

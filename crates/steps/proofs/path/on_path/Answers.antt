@@ -1,5 +1,4 @@
 -- `on_path`: the count is read. Assumes nothing.
-use borrow.Author.Rules.{rules}
 use Rattle.steps.proofs.Paths.{is-on-path}
 use Rattle.steps.proofs.path.on_path.Goals as goal
 

@@ -1,6 +1,5 @@
 -- `uncount`: the counts are those of the addresses left. Assumes nothing.
-use borrow.Author.Rules.{rules}
-use Rattle.steps.proofs.Counting.{Along, uncount-first, uncount-room, uncount-some, uncount-turn, uncount-done}
+use Rattle.steps.proofs.Counting.{uncount-first, uncount-room, uncount-some, uncount-turn, uncount-done}
 use Rattle.steps.proofs.path.uncount.Goals as goal
 
 pub loop-i-init : goal.loop-i-init

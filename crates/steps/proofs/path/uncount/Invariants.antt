@@ -1,6 +1,5 @@
 -- `uncount`: the counts are those of the addresses left. Assumes nothing.
-use borrow.Author.Rules.{rules}
-use Rattle.steps.proofs.Counting.{Along, uncount-first, uncount-room, uncount-some, uncount-turn, uncount-done}
+use Rattle.steps.proofs.Counting.{Along}
 use Rattle.steps.proofs.path.uncount.Given as goal
 
 abbrev pub invariant-loop-i : goal.invariant-loop-i

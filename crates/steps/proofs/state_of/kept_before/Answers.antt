@@ -1,5 +1,4 @@
 -- `kept_before`: none before the first, else the field of the record before. Assumes nothing.
-use borrow.Author.Rules.{rules}
 use Rattle.steps.proofs.Takes.{kept-none, kept-some}
 use Rattle.steps.proofs.state_of.kept_before.Goals as goal
 

@@ -1,7 +1,5 @@
 -- `take_direct`: the block's own state, which is held or run now, is taken. Assumes nothing.
-use mathlib.Core.Logic.{⊎_elim}
 use native.Mathlib.Omega.{arith}
-use borrow.Author.Rules.{rules}
 use Rattle.steps.specs.Plans.{plan_in}
 use Rattle.steps.specs.Helds.{Gave}
 use Rattle.steps.proofs.Takes.{direct-asks, direct-leads, direct-held, direct-ran, direct-long, direct-few, direct-readable, direct-short, direct-composes, direct-took}
@@ -17,8 +15,8 @@ gave c =
     let p = c.requires in
     let a = c.parent_start-start.ensures in
     elim c.if-own-eq0.branch [
-      then-own-eq0 t ↦ direct-ran p.composing p.at_bound a c.held_state-own.ensures t.if-own-eq0.true t.run_state-own.ensures t.w-is t.own-is
-    | else-own-eq0 t ↦ direct-held p.composing p.at_bound a c.held_state-own.ensures t.if-own-eq0.false t.w-is t.own-is
+      | then-own-eq0 t ↦ direct-ran p.composing p.at_bound a c.held_state-own.ensures t.if-own-eq0.true t.run_state-own.ensures t.w-is t.own-is
+      | else-own-eq0 t ↦ direct-held p.composing p.at_bound a c.held_state-own.ensures t.if-own-eq0.false t.w-is t.own-is
     ]
 
 pub held_state-own-requires : goal.held_state-own-requires

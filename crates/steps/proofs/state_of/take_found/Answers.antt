@@ -1,6 +1,5 @@
 -- `take_found`: the kept cells are found by the record, and the state in them is taken. Assumes nothing.
 use native.Mathlib.Omega.{arith}
-use borrow.Author.Rules.{rules}
 use Rattle.steps.proofs.Takes.{found_inside, found-rises, found-readable, found-short, found-composes, found-took}
 use Rattle.steps.proofs.state_of.take_found.Goals as goal
 

@@ -1,6 +1,5 @@
 -- `add_record`: the row, the path and the state are the new record's. Assumes nothing.
 use Rattle.tables.proofs.Adds.{adds-counting, adds-links, adds-state, added}
-use Rattle.std.proofs.Common.{rules}
 use Rattle.tables.proofs.add.add_record.Goals as goal
 
 pub link_record-requires : goal.link_record-requires

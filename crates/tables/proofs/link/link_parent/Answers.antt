@@ -1,5 +1,4 @@
 -- `link_parent`: the chain was empty, or its last record gets a next. Assumes nothing.
-use Rattle.std.proofs.Common.{rules}
 use Rattle.tables.proofs.Links.{last-reads, joined-first, joined-next}
 use Rattle.tables.proofs.link.link_parent.Goals as goal
 

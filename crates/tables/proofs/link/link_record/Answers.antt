@@ -1,5 +1,4 @@
 -- `link_record`: the row stands at the head of its bucket, and behind the found parents of its destination. Assumes nothing.
-use Rattle.std.proofs.Common.{rules}
 use Rattle.tables.proofs.Links.{linked-none, links-parent, linked-found}
 use Rattle.tables.proofs.link.link_record.Goals as goal
 

@@ -1,5 +1,4 @@
 -- `put_links`: four stores, one after the other. Assumes nothing.
-use Rattle.std.proofs.Common.{rules}
 use Rattle.tables.proofs.Links.{links-stored}
 use Rattle.tables.proofs.link.put_links.Goals as goal
 

@@ -1,5 +1,4 @@
 -- `put_row`: two stores, one after the other. Assumes nothing.
-use Rattle.std.proofs.Common.{rules}
 use Rattle.tables.proofs.Links.{row-stored}
 use Rattle.tables.proofs.link.put_row.Goals as goal
 

@@ -1,5 +1,4 @@
 -- `put_says`: four stores, one after the other. Assumes nothing.
-use Rattle.std.proofs.Common.{rules}
 use Rattle.tables.proofs.Links.{says-stored}
 use Rattle.tables.proofs.link.put_says.Goals as goal
 

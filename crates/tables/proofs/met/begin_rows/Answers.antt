@@ -1,6 +1,4 @@
 -- `begin_rows`: the heads so far are 0. Assumes nothing.
-use Rattle.std.proofs.Common.{◌-◌, rules}
-use Rattle.tables.specs.Mets.{Wiped}
 use Rattle.tables.proofs.Turns.{wiped-none, wiped-more, wiped-all}
 use Rattle.tables.proofs.met.begin_rows.Goals as goal
 

@@ -1,7 +1,6 @@
 -- `begin_rows`: the heads so far are 0. Assumes nothing.
-use Rattle.std.proofs.Common.{◌-◌, rules}
+use Rattle.std.proofs.Common.{◌-◌}
 use Rattle.tables.specs.Mets.{Wiped}
-use Rattle.tables.proofs.Turns.{wiped-none, wiped-more, wiped-all}
 use Rattle.tables.proofs.met.begin_rows.Given as goal
 
 abbrev pub invariant-loop-bucket : goal.invariant-loop-bucket

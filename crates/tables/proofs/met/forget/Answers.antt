@@ -1,6 +1,4 @@
 -- `forget`: a head is 0 once a row of its bucket was passed. Assumes nothing.
-use Rattle.std.proofs.Common.{◌-◌, rules}
-use Rattle.tables.specs.Mets.{Forgetting}
 use Rattle.tables.proofs.Turns.{forgets-none, forgets-some, forgets-more, forgets-all}
 use Rattle.tables.proofs.met.forget.Goals as goal
 

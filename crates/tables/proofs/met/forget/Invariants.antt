@@ -1,7 +1,6 @@
 -- `forget`: a head is 0 once a row of its bucket was passed. Assumes nothing.
-use Rattle.std.proofs.Common.{◌-◌, rules}
+use Rattle.std.proofs.Common.{◌-◌}
 use Rattle.tables.specs.Mets.{Forgetting}
-use Rattle.tables.proofs.Turns.{forgets-none, forgets-some, forgets-more, forgets-all}
 use Rattle.tables.proofs.met.forget.Given as goal
 
 abbrev pub invariant-loop-row : goal.invariant-loop-row

@@ -1,5 +1,4 @@
 -- `remember`: T is short, or a row more is remembered. Assumes nothing.
-use Rattle.std.proofs.Common.{rules}
 use Rattle.tables.proofs.Turns.{row-short, row-pushes, memorized}
 use Rattle.tables.proofs.met.remember.Goals as goal
 

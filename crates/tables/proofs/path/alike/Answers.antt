@@ -1,6 +1,4 @@
 -- `alike`: what is left after the fours so far decides the whole. Assumes nothing.
-use Rattle.std.proofs.Common.{◌-◌, rules}
-use Rattle.tables.specs.Addrs.{Left}
 use Rattle.tables.proofs.Addrs.{left-first, left-four}
 use Rattle.tables.proofs.path.alike.Goals as goal
 

@@ -1,7 +1,6 @@
 -- `alike`: what is left after the fours so far decides the whole. Assumes nothing.
-use Rattle.std.proofs.Common.{◌-◌, rules}
+use Rattle.std.proofs.Common.{◌-◌}
 use Rattle.tables.specs.Addrs.{Left}
-use Rattle.tables.proofs.Addrs.{left-first, left-four}
 use Rattle.tables.proofs.path.alike.Given as goal
 
 abbrev pub invariant-loop-i : goal.invariant-loop-i

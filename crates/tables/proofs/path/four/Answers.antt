@@ -1,5 +1,4 @@
 -- `four`: the four addresses, as one number. Assumes nothing.
-use Rattle.std.proofs.Common.{rules}
 use Rattle.tables.proofs.Addrs.{packed}
 use Rattle.tables.proofs.path.four.Goals as goal
 

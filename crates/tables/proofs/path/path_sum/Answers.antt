@@ -1,6 +1,5 @@
 -- `path_sum`: the sums so far, with the addresses left, are the whole. Assumes nothing.
-use Rattle.std.proofs.Common.{◌≡◌, ◌+◌, ◌-◌, ◌^◌, ◌<◌, ◌≤◌, rules}
-use Rattle.tables.specs.Addrs.{addrs, turns, path_sum}
+use Rattle.std.proofs.Common.{rules}
 use Rattle.tables.proofs.Addrs.{sum_first, sum-again, sum_done}
 use Rattle.tables.proofs.path.path_sum.Goals as goal
 

@@ -1,7 +1,6 @@
 -- `path_sum`: the sums so far, with the addresses left, are the whole. Assumes nothing.
-use Rattle.std.proofs.Common.{◌≡◌, ◌+◌, ◌-◌, ◌^◌, ◌<◌, ◌≤◌, rules}
+use Rattle.std.proofs.Common.{◌≡◌, ◌+◌, ◌-◌, ◌≤◌}
 use Rattle.tables.specs.Addrs.{addrs, turns, path_sum}
-use Rattle.tables.proofs.Addrs.{sum_first, sum-again, sum_done}
 use Rattle.tables.proofs.path.path_sum.Given as goal
 
 abbrev pub invariant-loop-i : goal.invariant-loop-i

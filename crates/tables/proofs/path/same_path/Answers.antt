@@ -1,6 +1,5 @@
 -- `same_path`: what is left to compare decides the whole. Assumes nothing.
-use Rattle.std.proofs.Common.{◌-◌, rules}
-use Rattle.tables.specs.Addrs.{Left}
+use Rattle.std.proofs.Common.{rules}
 use Rattle.tables.proofs.Addrs.{path-differs, path-again, path-same}
 use Rattle.tables.proofs.path.same_path.Goals as goal
 

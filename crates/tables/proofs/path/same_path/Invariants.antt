@@ -1,7 +1,6 @@
 -- `same_path`: what is left to compare decides the whole. Assumes nothing.
-use Rattle.std.proofs.Common.{◌-◌, rules}
+use Rattle.std.proofs.Common.{◌-◌}
 use Rattle.tables.specs.Addrs.{Left}
-use Rattle.tables.proofs.Addrs.{path-differs, path-again, path-same}
 use Rattle.tables.proofs.path.same_path.Given as goal
 
 abbrev pub invariant-loop-i : goal.invariant-loop-i

@@ -1,5 +1,5 @@
 -- `bucket_of`: 32 bits, scaled down to the buckets, give one of them. Assumes nothing.
-use Rattle.std.proofs.Common.{◌≡◌, ◌^◌, ◌≤◌, min, arith, rules}
+use Rattle.std.proofs.Common.{◌≡◌, ◌^◌, ◌≤◌, min, arith}
 use Rattle.tables.proofs.Sums.{product-fits, scaled, is-bucket}
 use Rattle.tables.proofs.record.bucket_of.Goals as goal
 

@@ -1,5 +1,4 @@
 -- `end_before`: the end of the record before, or 0. Assumes nothing.
-use Rattle.std.proofs.Common.{rules}
 use Rattle.tables.proofs.Lookup.{end_none, end-some}
 use Rattle.tables.proofs.record.end_before.Goals as goal
 

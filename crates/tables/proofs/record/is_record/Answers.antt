@@ -1,5 +1,4 @@
 -- `is_record`: a sum, a destination, a length or an address tells them apart. Assumes nothing.
-use Rattle.std.proofs.Common.{rules}
 use Rattle.tables.proofs.Lookup.{rec-sum, rec-to, rec-rises, rec-length, rec-beside, rec-same}
 use Rattle.tables.proofs.record.is_record.Goals as goal
 

@@ -1,9 +1,7 @@
 -- `recorded`: what is left of the bucket's chain is all that can be found. Assumes nothing.
-use Rattle.std.proofs.Common.{rules}
 use Rattle.tables.specs.Addrs.{addrs}
 use Rattle.tables.specs.Chains.{Left}
 use Rattle.tables.specs.Records.{bucket_at, is_rec}
-use Rattle.tables.proofs.Lookup.{first-left, none_left, left-compare, hit-left, less-left, more_left}
 use Rattle.tables.proofs.record.recorded.Given as goal
 
 abbrev pub invariant-loop-cur : goal.invariant-loop-cur

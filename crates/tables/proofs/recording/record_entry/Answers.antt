@@ -1,5 +1,4 @@
 -- `record_entry`: it is known, a room is short, or it is made. Assumes nothing.
-use Rattle.std.proofs.Common.{rules}
 use Rattle.tables.proofs.Noted.{ready-adds, recorded_known, recorded-short, recorded-made}
 use Rattle.tables.proofs.recording.record_entry.Goals as goal
 

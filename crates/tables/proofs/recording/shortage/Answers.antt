@@ -1,5 +1,4 @@
 -- `shortage`: one law for each room. Assumes nothing.
-use Rattle.std.proofs.Common.{rules}
 use Rattle.tables.proofs.Shorts.{short-r, short-q, short-s, short_none}
 use Rattle.tables.proofs.recording.shortage.Goals as goal
 

@@ -1,7 +1,4 @@
 -- `find_row`: what is left of the bucket's chain is all that can be found. Assumes nothing.
-use Rattle.std.proofs.Common.{rules}
-use Rattle.tables.specs.Chains.{Left}
-use Rattle.tables.specs.Rows.{shelf_at, seen_met, is_met}
 use Rattle.tables.proofs.Seeks.{first-row, none_row, row-compare, hit-row, less-row, more-row}
 use Rattle.tables.proofs.row.find_row.Goals as goal
 

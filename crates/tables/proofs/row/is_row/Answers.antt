@@ -1,5 +1,4 @@
 -- `is_row`: a sum, a last block, a symbol, a length or a cell tells them apart. Assumes nothing.
-use Rattle.std.proofs.Common.{rules}
 use Rattle.tables.proofs.Seeks.{row-sum, row_last, row-symbol, row-cells, row-states, row_same}
 use Rattle.tables.proofs.row.is_row.Goals as goal
 

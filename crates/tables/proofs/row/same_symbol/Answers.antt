@@ -1,5 +1,4 @@
 -- `same_symbol`: the tags differ, or the numbers decide. Assumes nothing.
-use Rattle.std.proofs.Common.{rules}
 use Rattle.tables.proofs.Stamps.{tags-differ, values_same}
 use Rattle.tables.proofs.row.same_symbol.Goals as goal
 

@@ -1,7 +1,5 @@
 -- `sum_cells`: both sums so far, with the symbols left, are the whole. Assumes nothing.
-use Rattle.std.proofs.Common.{◌≡◌, ◌+◌, ◌-◌, ◌*◌, ◌<◌, ◌≤◌, rules}
-use Rattle.state.specs.Cells.{syms_at}
-use Rattle.tables.specs.Sums.{sym_sums}
+use Rattle.std.proofs.Common.{rules}
 use Rattle.tables.proofs.Stamps.{cells-first, cells-again, both-done}
 use Rattle.tables.proofs.row.sum_cells.Goals as goal
 

@@ -1,8 +1,7 @@
 -- `sum_cells`: both sums so far, with the symbols left, are the whole. Assumes nothing.
-use Rattle.std.proofs.Common.{◌≡◌, ◌+◌, ◌-◌, ◌*◌, ◌<◌, ◌≤◌, rules}
+use Rattle.std.proofs.Common.{◌≡◌, ◌+◌, ◌-◌, ◌*◌, ◌≤◌}
 use Rattle.state.specs.Cells.{syms_at}
 use Rattle.tables.specs.Sums.{sym_sums}
-use Rattle.tables.proofs.Stamps.{cells-first, cells-again, both-done}
 use Rattle.tables.proofs.row.sum_cells.Given as goal
 
 abbrev pub invariant-loop-i : goal.invariant-loop-i

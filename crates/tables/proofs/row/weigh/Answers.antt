@@ -1,5 +1,4 @@
 -- `weigh`: the number, and the tag a million times. Assumes nothing.
-use Rattle.std.proofs.Common.{rules}
 use Rattle.tables.proofs.Sums.{weighing}
 use Rattle.tables.proofs.row.weigh.Goals as goal
 

@@ -1,5 +1,4 @@
 -- `push_row`: the row stands at the head of its bucket. Assumes nothing.
-use Rattle.std.proofs.Common.{rules}
 use Rattle.tables.proofs.Shelves.{pushed}
 use Rattle.tables.proofs.shelf.push_row.Goals as goal
 

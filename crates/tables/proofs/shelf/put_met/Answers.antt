@@ -1,5 +1,4 @@
 -- `put_met`: what was stored is what the row tells. Assumes nothing.
-use Rattle.std.proofs.Common.{rules}
 use Rattle.tables.proofs.Shelves.{row_put}
 use Rattle.tables.proofs.shelf.put_met.Goals as goal
 

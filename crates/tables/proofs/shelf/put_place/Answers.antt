@@ -1,5 +1,4 @@
 -- `put_place`: four stores, one after the other. Assumes nothing.
-use Rattle.std.proofs.Common.{rules}
 use Rattle.tables.proofs.Shelves.{place-stored}
 use Rattle.tables.proofs.shelf.put_place.Goals as goal
 

@@ -1,5 +1,4 @@
 -- `put_seen`: two stores, one after the other. Assumes nothing.
-use Rattle.std.proofs.Common.{rules}
 use Rattle.tables.proofs.Shelves.{seen-put}
 use Rattle.tables.proofs.shelf.put_seen.Goals as goal
 

@@ -1,5 +1,4 @@
 -- `stamp_at`: the sum and the mark as one number. Assumes nothing.
-use Rattle.std.proofs.Common.{rules}
 use Rattle.tables.proofs.Seeks.{stamp-read}
 use Rattle.tables.proofs.shelf.stamp_at.Goals as goal
 

@@ -1,5 +1,4 @@
 -- `blend`: three times the sum, and the number. Assumes nothing.
-use Rattle.std.proofs.Common.{rules}
 use Rattle.tables.proofs.Sums.{blending}
 use Rattle.tables.proofs.sum.blend.Goals as goal
 

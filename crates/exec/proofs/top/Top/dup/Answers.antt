@@ -1,5 +1,4 @@
 -- `dup` meets its contract: the symbol that was read is pushed. Assumes nothing.
-use borrow.Author.Rules.{rules}
 use Rattle.exec.proofs.Working.{becomes-read}
 use Rattle.exec.proofs.top.Top.dup.Goals as goal
 

@@ -1,5 +1,4 @@
 -- `pops` meets its contract: within the cells, or past them. Assumes nothing.
-use borrow.Author.Rules.{rules}
 use Rattle.exec.proofs.Working.{pops-inside, pops-past}
 use Rattle.exec.proofs.top.Top.pops.Goals as goal
 

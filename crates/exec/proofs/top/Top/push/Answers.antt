@@ -1,5 +1,4 @@
 -- `push` meets its contract: a cell before the others. Assumes nothing.
-use borrow.Author.Rules.{rules}
 use Rattle.exec.proofs.Working.{becomes-push}
 use Rattle.exec.proofs.top.Top.push.Goals as goal
 

@@ -1,5 +1,4 @@
 -- `read` meets its contract: within the cells, or past them. Assumes nothing.
-use borrow.Author.Rules.{rules}
 use Rattle.exec.proofs.Working.{read-inside, read_past}
 use Rattle.exec.proofs.top.Top.read.Goals as goal
 

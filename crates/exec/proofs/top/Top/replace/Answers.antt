@@ -1,5 +1,4 @@
 -- `replace` meets its contract: words are taken, and then a symbol is pushed. Assumes nothing.
-use borrow.Author.Rules.{rules}
 use Rattle.exec.proofs.Working.{free-popped, replaced}
 use Rattle.exec.proofs.top.Top.replace.Goals as goal
 

@@ -1,5 +1,4 @@
 -- `from_value` meets its contract: each way out is a law of from-value. Assumes nothing.
-use borrow.Author.Rules.{rules}
 use Rattle.state.proofs.Symbols.{from-lands, from-plain, from_past}
 use Rattle.state.proofs.sym.StackSym.from_value.Goals as goal
 

@@ -1,5 +1,4 @@
 -- `is_mask` meets its contract: by what is known of the symbol. Assumes nothing.
-use borrow.Author.Rules.{rules}
 use Rattle.state.proofs.Symbols.{mask_value, mask-unknown}
 use Rattle.state.proofs.sym.StackSym.is_mask.Goals as goal
 

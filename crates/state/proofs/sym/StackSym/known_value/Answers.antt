@@ -1,5 +1,4 @@
 -- `known_value` meets its contract: each variant by a law of symbols. Assumes nothing.
-use borrow.Author.Rules.{rules}
 use Rattle.state.proofs.Symbols.{known-of}
 use Rattle.state.proofs.sym.StackSym.known_value.Goals as goal
 
