@@ -26,6 +26,20 @@ APART = {
     "sameMet": "equal_met",  # beside the lemma same_met
 }
 
+# types have humps and no dash; two fields of a record that begin with a capital
+TYPES = {
+    "Deep-runs": "DeepRuns",
+    "Deep-enough": "DeepEnough",
+    "Leads-anyhow": "LeadsAnyhow",
+    "Onward-in": "OnwardIn",
+    "Going-on": "GoingOn",
+    "Inside-both": "InsideBoth",
+    "E-low": "e_low",
+    "W-low": "w_low",
+    # a local name that port.py gave a capital
+    "None-more": "none-more",
+}
+
 
 def files(*ends):
     for folder, dirs, names in os.walk(ROOT):
@@ -109,6 +123,7 @@ def table():
         if "-".join(new) != name:
             turned[name] = "-".join(new)
     turned.update(APART)
+    turned.update(TYPES)
     return turned, places
 
 

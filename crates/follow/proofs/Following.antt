@@ -67,11 +67,11 @@ edge-inside {f} o =
     let t = slots-first f o.after in
     omega (arith, o.edge_is, place-low o.place)
 
-record Inside-both (n edge slot : ℕ) : Type 0 where
+record InsideBoth (n edge slot : ℕ) : Type 0 where
   first : edge < n
   second : slot < n
 
-takes-inside : (b : List ℕ) {v : spec.Move} {k : Block} {edge slot : ℕ} → MoveAs b v (Takes edge k slot) → Inside-both (slots_of (finals_at b 0)) edge slot
+takes-inside : (b : List ℕ) {v : spec.Move} {k : Block} {edge slot : ℕ} → MoveAs b v (Takes edge k slot) → InsideBoth (slots_of (finals_at b 0)) edge slot
 takes-inside b (takes_to o p) = record { first = edge-inside o; second = omega (arith, slot-low p) }
 
 module _ (b code : List ℕ) (s : Stand) (q : ℕ) {r : Move} (h : StepsSo b code s q r) where
@@ -147,8 +147,8 @@ pub record Following (b code log c₀ : List ℕ) (i : ℕ) (s : Stand) (c : Lis
   pub low : i ≤ length log / 8
   pub E : ℕ → ℕ
   pub W : ℕ → ℕ → ℕ
-  pub E-low : (a : ℕ) → E a ≤ i
-  pub W-low : (a t : ℕ) → W a t ≤ i
+  pub e_low : (a : ℕ) → E a ≤ i
+  pub w_low : (a t : ℕ) → W a t ≤ i
   pub counts : c ≡ over (as_eights (numbers (map (counts-by E W) (finals_at b 0)))) c₀
   pub same : follow_from m code (drop i (steps log)) at i (map (counts-by E W) (finals_at b 0)) ≡ follow m code (steps log)
   pub kept : length c ≡ length c₀
@@ -166,8 +166,8 @@ follow-start {b} code log {c} y z =
       low = omega arith;
       E = λ a. 0;
       W = λ a t. 0;
-      E-low = λ a. omega arith;
-      W-low = λ a t. omega arith;
+      e_low = λ a. omega arith;
+      w_low = λ a t. omega arith;
       counts = z.zeros ∙ ap (λ (l : List ℕ). over l c) (sym (ap as_eights (zeros (finals_at b 0)) ∙ zero-eights (slots_of (finals_at b 0))));
       same = ap (λ (fs : List Final). follow_from y.map code (steps log) outside 0 (map none_taken fs)) (sym e);
       kept = refl;
@@ -252,8 +252,8 @@ module _ {b code log c₀ : List ℕ} {i : ℕ} {s : Stand} {c : List ℕ} (f : 
         low = omega arith;
         E = F;
         W = U;
-        E-low = x;
-        W-low = y;
+        e_low = x;
+        w_low = y;
         counts = e;
         same = ap (λ (n : ℕ). follow_from f.m code (drop n (steps log)) (inside h q) n (counts_of b F U)) (add-one i) ∙ sym z;
         kept = l ∙ f.kept;
@@ -268,14 +268,14 @@ module _ {b code log c₀ : List ℕ} {i : ℕ} {s : Stand} {c : List ℕ} (f : 
     by_move (goes_on {f = h} {k = x} {slot = n} p) e {t} w {c'} k l =
         let is : Inside x n q ≡ t = cc in
         subst (λ (u : Stand). Following b code log c₀ (i + 1) u c') is
-        (next-so p f.E f.W (λ a. omega (arith, f.E-low a)) (λ a u. omega (arith, f.W-low a u)) (k ∙ f.counts) l (onto (stays_in h) e))
+        (next-so p f.E f.W (λ a. omega (arith, f.e_low a)) (λ a u. omega (arith, f.w_low a u)) (k ∙ f.counts) l (onto (stays_in h) e))
     by_move (begins_with {f = h} {k = x} {slot = n} p) e {t} w {c'} k l =
         let is : Inside x n q ≡ t = cc in
         let rising = held-rises b f.m f.held in
         let F : ℕ → ℕ = λ a. f.E a + flag (eqb (starts_at h) a) in
         subst (λ (u : Stand). Following b code log c₀ (i + 1) u c') is
-        (next-so p F f.W (λ a. omega (arith, f.E-low a, flag-low (eqb (starts_at h) a))) (λ a u. omega (arith, f.W-low a u))
-        (k ∙ ap (λ (x : List ℕ). bump_at x n) f.counts ∙ bump-enters b c₀ rising f.E f.W p (omega (arith, f.E-low (starts_at h)))) l
+        (next-so p F f.W (λ a. omega (arith, f.e_low a, flag-low (eqb (starts_at h) a))) (λ a u. omega (arith, f.w_low a u))
+        (k ∙ ap (λ (x : List ℕ). bump_at x n) f.counts ∙ bump-enters b c₀ rising f.E f.W p (omega (arith, f.e_low (starts_at h)))) l
         (onto (begins h) e ∙ ap (λ (ds : List Counts). follow_from f.m code rest (inside h q) (suc i) ds) (entered-is f.E f.W (starts_at h) (finals_at b 0))))
     by_move (takes_to {f = j} {g = h} {k = x} {slot = n} {edge = d} o p) e {t} w {c'} k l =
         let is : Inside x n q ≡ t = cc in
@@ -283,10 +283,10 @@ module _ {b code log c₀ : List ℕ} {i : ℕ} {s : Stand} {c : List ℕ} (f : 
         let F : ℕ → ℕ = λ a. f.E a + flag (eqb (starts_at h) a) in
         let U : ℕ → ℕ → ℕ = λ a u. f.W a u + flag (eqb (starts_at j) a && eqb (starts_at h) u) in
         subst (λ (u : Stand). Following b code log c₀ (i + 1) u c') is
-        (next-so p F U (λ a. omega (arith, f.E-low a, flag-low (eqb (starts_at h) a))) (λ a u. omega (arith, f.W-low a u, flag-low (eqb (starts_at j) a && eqb (starts_at h) u)))
+        (next-so p F U (λ a. omega (arith, f.e_low a, flag-low (eqb (starts_at h) a))) (λ a u. omega (arith, f.w_low a u, flag-low (eqb (starts_at j) a && eqb (starts_at h) u)))
         (k ∙ ap (λ (x : List ℕ). bump_at (bump_at x d) n) f.counts
-        ∙ ap (λ (x : List ℕ). bump_at x n) (bump_takes b c₀ rising f.E f.W o (omega (arith, f.W-low (starts_at j) (starts_at h))))
-        ∙ bump-enters b c₀ rising f.E U p (omega (arith, f.E-low (starts_at h)))) l
+        ∙ ap (λ (x : List ℕ). bump_at x n) (bump_takes b c₀ rising f.E f.W o (omega (arith, f.w_low (starts_at j) (starts_at h))))
+        ∙ bump-enters b c₀ rising f.E U p (omega (arith, f.e_low (starts_at h)))) l
         (onto (takes j h) e
         ∙ ap (λ (ds : List Counts). follow_from f.m code rest (inside h q) (suc i) ds)
         (ap (map (enter (starts_at h))) (taken_is f.E f.W (starts_at j) (starts_at h) (finals_at b 0)) ∙ entered-is f.E U (starts_at h) (finals_at b 0))))

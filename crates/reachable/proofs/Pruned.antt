@@ -124,16 +124,16 @@ module _ {n m x count count₁ : ℕ} {r w w₁ : List ℕ} (g : AllGoing n m w 
 
 -- ---- the loop, in which the highest parents stay, and each flagged address waits or was taken
 
-pub record Going-on (n m : ℕ) (r w₀ w : List ℕ) (count flags : ℕ) : Type 0 where
+pub record GoingOn (n m : ℕ) (r w₀ w : List ℕ) (count flags : ℕ) : Type 0 where
   pub spreading : Spreading (row_edges w₀ n ++ edges_at r m) n 1 w₀ w count
   pub kept : Kept n w₀ w
   pub number : flags + count ≡ length (flagged w n)
 
-pub prune-fits : {n m count flags : ℕ} {r w₀ w : List ℕ} → Going-on n m r w₀ w count flags → Fits w64 (flags + 1)
+pub prune-fits : {n m count flags : ℕ} {r w₀ w : List ℕ} → GoingOn n m r w₀ w count flags → Fits w64 (flags + 1)
 prune-fits {n} {w = w} s = omega (arith, s.number, s.spreading.lent.short, flagged-few w n)
 
 module _ {n m count₀ : ℕ} {r v w₀ : List ℕ} (p : Pruning n m v r) (t : Took n 1 (0 ∷ []) v 0 w₀ count₀) where
-  pub prune-start : flagged v n ≡ [] → Going-on n m r w₀ w₀ count₀ 0
+  pub prune-start : flagged v n ≡ [] → GoingOn n m r w₀ w₀ count₀ 0
   prune-start e =
       let none : length (flagged v n) ≡ 0 = rw e in
       record {
@@ -142,7 +142,7 @@ module _ {n m count₀ : ℕ} {r v w₀ : List ℕ} (p : Pruning n m v r) (t : T
         number = omega (arith, t.number, none);
       }
 
-  module _ {w : List ℕ} {count flags : ℕ} (s : Going-on n m r w₀ w count flags) where
+  module _ {w : List ℕ} {count flags : ℕ} (s : GoingOn n m r w₀ w count flags) where
     pub prune-going : {x : ℕ} → (count ≡ 0 → ⊥) → x ≡ entry_at w n (count - 1) → AllGoing n m w r x (count - 1)
     prune-going more e =
         record { pruning = pruning-kept (kept-after t.kept s.kept) p; going = turn-going s.spreading more e (omega arith); got = turn-got s.spreading more e }
@@ -152,8 +152,8 @@ module _ {n m count₀ : ℕ} {r v w₀ : List ℕ} (p : Pruning n m v r) (t : T
         let s' : Spreading (row_edges v n ++ edges_at r m) n 1 w₀ w 0 = rw (z, edges-kept v w₀ n t.kept.rows) at s.spreading in
         record { reached = done-reached t s'; sets = done-sets t s'; kept = kept-after t.kept s.kept; count = omega (arith, s.number, z) }
 
-pub prune-turn : {n m count count' flags x : ℕ} {r w₀ w w' : List ℕ} → Going-on n m r w₀ w count flags → (count ≡ 0 → ⊥) → x ≡ entry_at w n (count - 1)
-    → FollowedAll n m r x w (count - 1) w' count' → Going-on n m r w₀ w' count' (flags + 1)
+pub prune-turn : {n m count count' flags x : ℕ} {r w₀ w w' : List ℕ} → GoingOn n m r w₀ w count flags → (count ≡ 0 → ⊥) → x ≡ entry_at w n (count - 1)
+    → FollowedAll n m r x w (count - 1) w' count' → GoingOn n m r w₀ w' count' (flags + 1)
 prune-turn {n} {m} {r} {w₀} {w} s more e f =
     let same : row_edges w n ≡ row_edges w₀ n = edges-kept w₀ w n s.kept.rows in
     record {

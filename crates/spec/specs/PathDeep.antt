@@ -9,18 +9,18 @@ use Rattle.spec.specs.Meaning.{yields, last}
 use Rattle.spec.specs.PathMeaning.{fetched, Knowing, knows, along}
 
 -- at each instruction that the block's run comes to, the words that it takes are there
-abbrev pub Deep-runs : (ℕ → Row) → (ℕ → ℕ → ℕ) → ℕ → List Ins → List ℕ → Type 0
-Deep-runs row supply start [] st = Unit {0}
-Deep-runs row supply start (i ∷ is) st = ((row i.op).taken ≤ length st) × (last start i ≡ false → Deep-runs row supply start is (yields row supply i st))
+abbrev pub DeepRuns : (ℕ → Row) → (ℕ → ℕ → ℕ) → ℕ → List Ins → List ℕ → Type 0
+DeepRuns row supply start [] st = Unit {0}
+DeepRuns row supply start (i ∷ is) st = ((row i.op).taken ≤ length st) × (last start i ≡ false → DeepRuns row supply start is (yields row supply i st))
 
 -- in every block of the path
-abbrev pub Deep-enough : (ℕ → Row) → List ℕ → (ℕ → ℕ → ℕ → ℕ) → List ℕ → List ℕ → Type 0
-Deep-enough row code supply [] st = Unit {0}
-Deep-enough row code supply (b ∷ bs) st = Deep-enough row code supply bs st × Deep-runs row (supply (length bs)) b (fetched code b) (along row code supply bs st).words
+abbrev pub DeepEnough : (ℕ → Row) → List ℕ → (ℕ → ℕ → ℕ → ℕ) → List ℕ → List ℕ → Type 0
+DeepEnough row code supply [] st = Unit {0}
+DeepEnough row code supply (b ∷ bs) st = DeepEnough row code supply bs st × DeepRuns row (supply (length bs)) b (fetched code b) (along row code supply bs st).words
 
 -- "on any deep enough stack of words": the path's last jump pops t
-pub record Leads-anyhow (row : ℕ → Row) (code path : List ℕ) (t : ℕ) : Type 0 where
-  pub pops : (supply : ℕ → ℕ → ℕ → ℕ) (st : List ℕ) → Deep-enough row code supply path st → (along row code supply path st).popped ≡ some t
+pub record LeadsAnyhow (row : ℕ → Row) (code path : List ℕ) (t : ℕ) : Type 0 where
+  pub pops : (supply : ℕ → ℕ → ℕ → ℕ) (st : List ℕ) → DeepEnough row code supply path st → (along row code supply path st).popped ≡ some t
 
 -- ---- how deep that is
 

@@ -376,8 +376,8 @@ module _ (s : Stack) where
       rw prefix-stored
       (both (λ (o : Option (List Sym)). o ≡ some (stored (trim s))) (ltb 1 (suc more))
       (λ _. rw one (if-true _ _ _ (le-leb _ _ more_within) ∙ ap some without_more))
-      (λ off. let None-more : more ≡ 0 = omega (arith, ltb-false) in
-      ap some (sym (reverse-reverse (stored s)) ∙ rw None-more at without_more)))
+      (λ off. let none-more : more ≡ 0 = omega (arith, ltb-false) in
+      ap some (sym (reverse-reverse (stored s)) ∙ rw none-more at without_more)))
 
 -- ---- what is proved
 

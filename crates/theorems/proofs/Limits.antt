@@ -14,7 +14,7 @@ use Rattle.spec.specs.Lists.{if, mem, keep}
 use Rattle.spec.specs.Stacks.{Sym, before, constant, jumpdest, other, Stack}
 use Rattle.spec.specs.Search.{Node, Taker, Parent, Rec, St, begin, spend, forget, Turn, turn_for, Level, arrive, follow, loops, tries, level, turn, round, rounds, search}
 use Rattle.theorems.proofs.Carried.{step-nowhere, step-follow, step-tries, step-level, step-turn, step-round, step-rounds}
-use Rattle.theorems.proofs.Numbers.{search-up-to, After, after_same, after-trans, Onward-in, onward}
+use Rattle.theorems.proofs.Numbers.{search-up-to, After, after_same, after-trans, OnwardIn, onward}
 
 -- s ends a run at the limit m, and t one at a larger limit: they are the same, or the first has come to its limit, and t's record is its own and then records
 -- with numbers past m
@@ -49,7 +49,7 @@ idle-rounds zero m rs s h = refl
 idle-rounds (suc k) m rs s h = if-false _ _ _ (le-ltb s.energy m h)
 
 abbrev GoOn : ℕ → (Parent → List ℕ → St → St) → Type 0
-GoOn m go = (p : Parent) (path : List ℕ) (s : St) → Onward-in m s (go p path s)
+GoOn m go = (p : Parent) (path : List ℕ) (s : St) → OnwardIn m s (go p path s)
 
 GoAgree : ℕ → (go go' : Parent → List ℕ → St → St) → Type 0
 GoAgree m go go' = (p : Parent) (path : List ℕ) (s : St) → Agree m (go p path s) (go' p path s)

@@ -66,10 +66,10 @@ after-trans {m} g h = record { new = g.new ++ h.new; is = h.is ∙ rw (g.is, app
 abbrev pub Onward : ℕ → St → St → Type 0
 Onward m s t = m ≤ s.energy → After m s t
 
-abbrev pub Onward-in : ℕ → St → St → Type 0
-Onward-in m s t = m < s.energy → After m s t
+abbrev pub OnwardIn : ℕ → St → St → Type 0
+OnwardIn m s t = m < s.energy → After m s t
 
-pub onward : (m limit : ℕ) → Steps limit (Onward m) (Onward-in m)
+pub onward : (m limit : ℕ) → Steps limit (Onward m) (OnwardIn m)
 onward m limit = record {
   keeps = λ s h. after_same m s s refl h;
   joins = λ s t u f g h. let a = f h in after-trans a (g a.counted);

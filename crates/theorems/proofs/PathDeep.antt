@@ -19,7 +19,7 @@ use Rattle.spec.specs.Rooms.{Lent}
 use Rattle.spec.specs.Entries.{Map}
 use Rattle.spec.specs.Answer.{answered, answer}
 use Rattle.spec.specs.PathMeaning.{fetched, along}
-use Rattle.spec.specs.PathDeep.{Deep-runs, Deep-enough, Leads-anyhow}
+use Rattle.spec.specs.PathDeep.{DeepRuns, DeepEnough, LeadsAnyhow}
 use Rattle.laws.proofs.Branch.{both}
 use Rattle.theorems.proofs.Counts.{Lawful, takes-row, told, yields-does}
 use Rattle.theorems.proofs.Beside.{Beside, Follows, beside-act}
@@ -103,11 +103,11 @@ module _ (rules : Rules) (ok : Lawful rules.row) where
       near-step-on i s st h d =
           (d, rw (yields-does ok rules.mode supply i st) (beside-act Near rules.row code (near code) (told supply i) i (does rules.mode i.op) h (rw (takes-row ok rules.mode i.op) d) (λ _. near-anded i.pc (read s 0) (read s 1) _ _)))
 
-      deep-throughout : (is : List Ins) (s : Stack) (st : List ℕ) → Deep-runs rules.row supply start is st → Throughout rules code supply start (Deep rules.row) is s st
+      deep-throughout : (is : List Ins) (s : Stack) (st : List ℕ) → DeepRuns rules.row supply start is st → Throughout rules code supply start (Deep rules.row) is s st
       deep-throughout [] s st d = tt
       deep-throughout (i ∷ is) s st d = (d.0, λ off. deep-throughout is _ _ (d.1 off))
 
-      near-runs : (is : List Ins) (s : Stack) (st : List ℕ) → Beside Near s st → Deep-runs rules.row supply start is st
+      near-runs : (is : List Ins) (s : Stack) (st : List ℕ) → Beside Near s st → DeepRuns rules.row supply start is st
           → Ends (Beside Near) Jumps (runs rules code start is s) (executes rules.row supply start is st)
       near-runs is s st h d = ends-runs (Beside Near) Jumps stays (λ s st h l. goes (h.at 0 l)) rules ok code supply start (Deep rules.row) near-step-on is s st h (deep-throughout is s st d)
 
@@ -132,13 +132,13 @@ module _ (rules : Rules) (ok : Lawful rules.row) where
   near-through ws mid h (other pc) w m = m
 
   module _ (code : List ℕ) where
-    near-alone : (supply : ℕ → ℕ → ℕ) (b : ℕ) (st : List ℕ) → Deep-runs rules.row supply b (fetched code b) st
+    near-alone : (supply : ℕ → ℕ → ℕ) (b : ℕ) (st : List ℕ) → DeepRuns rules.row supply b (fetched code b) st
         → Ends (Beside (Near st)) (Jumps st) (alone rules ok code b) (executes rules.row supply b (fetched code b) st)
     near-alone supply b st d =
         let r = near-runs st code supply b (fetched code b) entry st (near-entry st) d in
         record { stack = record { at = λ n l. rw (read-trim _ n) (r.stack.at n l) }; jump = r.jump }
 
-    near-replayed : (supply : ℕ → ℕ → ℕ → ℕ) (bs st : List ℕ) → Deep-enough rules.row code supply bs st → (x : Sym) (w : ℕ) → Near (along rules.row code supply bs st).words x w
+    near-replayed : (supply : ℕ → ℕ → ℕ → ℕ) (bs st : List ℕ) → DeepEnough rules.row code supply bs st → (x : Sym) (w : ℕ) → Near (along rules.row code supply bs st).words x w
         → Near st (replayed rules ok code x bs) w
     unfolding replayed
     near-replayed supply [] st a x w m = m
@@ -146,10 +146,10 @@ module _ (rules : Rules) (ok : Lawful rules.row) where
         near-replayed supply bs st a.0 (through (alone rules ok code b).stack x) w (near-through (along rules.row code supply bs st).words _ (near-alone (supply (length bs)) b _ a.1).stack x w m)
 
     -- Of any path whatever, in a code of at most 2^32 bytes.
-    pub path-leads-anyhow : length code ≤ 2 ^ 32 → {path : List ℕ} {t : ℕ} → Sees rules ok code path (jumpdest t) → Leads-anyhow rules.row code path t
-    path-leads-anyhow small {t} s = subst (λ (p : List ℕ). Leads-anyhow rules.row code p t) (sym s.path-is) (record { pops = go })
+    pub path-leads-anyhow : length code ≤ 2 ^ 32 → {path : List ℕ} {t : ℕ} → Sees rules ok code path (jumpdest t) → LeadsAnyhow rules.row code path t
+    path-leads-anyhow small {t} s = subst (λ (p : List ℕ). LeadsAnyhow rules.row code p t) (sym s.path-is) (record { pops = go })
       where
-        go : (supply : ℕ → ℕ → ℕ → ℕ) (st : List ℕ) → Deep-enough rules.row code supply (s.first ∷ s.rest) st → (along rules.row code supply (s.first ∷ s.rest) st).popped ≡ some t
+        go : (supply : ℕ → ℕ → ℕ → ℕ) (st : List ℕ) → DeepEnough rules.row code supply (s.first ∷ s.rest) st → (along rules.row code supply (s.first ∷ s.rest) st).popped ≡ some t
         go supply st a =
             let p = jumps-near (along rules.row code supply s.rest st).words (near-alone (supply (length s.rest)) s.first _ a.1).jump s.goes in
             let n = subst (λ (y : Sym). Near st y p.0) s.sees (near-replayed supply s.rest st a.0 s.symbol p.0 p.2) in
@@ -161,6 +161,6 @@ module _ (rules : Rules) (ok : Lawful rules.row) where
 
   -- Of every answer that is given: a deep enough stack is all that a record's path needs.
   pub answered-leads-anyhow : (l : Lent) (limit choice : ℕ) (code : List ℕ) (a : Map) → answer rules l limit choice code ≡ answered a → {r : Rec} → In r a.recs
-      → {t : ℕ} {s : Stack} → r.to ≡ found t s → Leads-anyhow rules.row code r.path t
+      → {t : ℕ} {s : Stack} → r.to ≡ found t s → LeadsAnyhow rules.row code r.path t
   answered-leads-anyhow l limit choice code a e i {t} {s} f =
       path-leads-anyhow code (small-code l limit choice code a e) ((each_in (answered-paths rules ok l limit choice code a e) i).1.sees-there t s f)

@@ -19,7 +19,7 @@ use Rattle.spec.specs.Rooms.{Lent}
 use Rattle.spec.specs.Entries.{Map}
 use Rattle.spec.specs.Answer.{answered, answer}
 use Rattle.spec.specs.PathMeaning.{fetched, all_known, Knowing, unaware, knows, Ready, Runs, along, Asks}
-use Rattle.spec.specs.PathDeep.{Deep-runs, Deep-enough, uses, depth, unmasked}
+use Rattle.spec.specs.PathDeep.{DeepRuns, DeepEnough, uses, depth, unmasked}
 use Rattle.spec.specs.PathWalks.{walks}
 use Rattle.laws.proofs.Branch.{if-true, if-false}
 use Rattle.laws.proofs.Members.{In, here, there, and_both}
@@ -40,7 +40,7 @@ module _ (rules : Rules) (ok : Lawful rules.row) where
   either_left false e f m n x y = y refl
 
   module _ (supply : ℕ → ℕ → ℕ) (start : ℕ) where
-    enough-runs : (rest : List Ins) (st : List ℕ) → uses rules.row start rest ≤ length st → Deep-runs rules.row supply start rest st
+    enough-runs : (rest : List Ins) (st : List ℕ) → uses rules.row start rest ≤ length st → DeepRuns rules.row supply start rest st
     enough-runs [] st h = tt
     enough-runs (i ∷ rest) st h =
         let here : (rules.row i.op).taken ≤ length st = omega arith in
@@ -59,7 +59,7 @@ module _ (rules : Rules) (ok : Lawful rules.row) where
 
   module _ (code : List ℕ) (supply : ℕ → ℕ → ℕ → ℕ) where
     enough : (path : List ℕ) (n : ℕ) (st : List ℕ) → depth rules.row code path + n ≤ length st
-        → Deep-enough rules.row code supply path st × (n ≤ length (along rules.row code supply path st).words)
+        → DeepEnough rules.row code supply path st × (n ≤ length (along rules.row code supply path st).words)
     enough [] n st h = (tt, omega arith)
     enough (b ∷ bs) n st h =
         let g = enough bs (uses rules.row b (fetched code b) + n) st (omega arith) in
@@ -68,7 +68,7 @@ module _ (rules : Rules) (ok : Lawful rules.row) where
         ((g.0, enough-runs (supply (length bs)) b (fetched code b) words l), omega (arith, g.1, left_over (supply (length bs)) b (fetched code b) words l))
 
     -- Any path, on any stack of so many words, with any results.
-    pub deep-enough-path : (path st : List ℕ) → depth rules.row code path ≤ length st → Deep-enough rules.row code supply path st
+    pub deep-enough-path : (path st : List ℕ) → depth rules.row code path ≤ length st → DeepEnough rules.row code supply path st
     deep-enough-path path st h = (enough path 0 st (omega arith)).0
 
   -- "The whole path is true", of every answer that is given: of a record with a destination, on every stack of so many words, whatever they are and whatever is
@@ -104,7 +104,7 @@ module _ (rules : Rules) (ok : Lawful rules.row) where
       free : i.op ≡ 0x16 → (is mask (k 0) ≡ false) × (is mask (k 1) ≡ false)
       free e = or-false (is mask (k 0)) (is mask (k 1)) (rw (eq-eqb i.op 0x16 e) at u)
 
-  runs-unmasked : (supply : ℕ → ℕ → ℕ) (start : ℕ) (is : List Ins) (k : Knowing) (st : List ℕ) → unmasked rules start is k ≡ true → Deep-runs rules.row supply start is st
+  runs-unmasked : (supply : ℕ → ℕ → ℕ) (start : ℕ) (is : List Ins) (k : Knowing) (st : List ℕ) → unmasked rules start is k ≡ true → DeepRuns rules.row supply start is st
       → Runs rules supply start is k st
   runs-unmasked supply start [] k st u d = tt
   runs-unmasked supply start (i ∷ is) k st u d =
@@ -113,7 +113,7 @@ module _ (rules : Rules) (ok : Lawful rules.row) where
 
   -- On a path no block of which uses the mask rule: what is asked is met by every stack that is deep enough.
   pub asks-unmasked : (code : List ℕ) (supply : ℕ → ℕ → ℕ → ℕ) (path st : List ℕ) → ((b : ℕ) → In b path → unmasked rules b (fetched code b) unaware ≡ true)
-      → Deep-enough rules.row code supply path st → Asks rules code supply path st
+      → DeepEnough rules.row code supply path st → Asks rules code supply path st
   asks-unmasked code supply [] st u d = tt
   asks-unmasked code supply (b ∷ bs) st u d =
       (asks-unmasked code supply bs st (λ c i. u c (there i)) d.0, runs-unmasked (supply (length bs)) b (fetched code b) unaware _ (u b here) d.1)

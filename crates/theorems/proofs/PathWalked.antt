@@ -20,7 +20,7 @@ use Rattle.spec.specs.Rooms.{Lent}
 use Rattle.spec.specs.Entries.{Map}
 use Rattle.spec.specs.Answer.{answered, prepared, searched, answer}
 use Rattle.spec.specs.PathMeaning.{fetched, along}
-use Rattle.spec.specs.PathDeep.{Deep-runs, Deep-enough, Leads-anyhow}
+use Rattle.spec.specs.PathDeep.{DeepRuns, DeepEnough, LeadsAnyhow}
 use Rattle.spec.specs.PathJoins.{begins, leads_to, brings_to, joined}
 use Rattle.spec.specs.PathWalks.{exits, goes_to, walks}
 use Rattle.laws.proofs.Members.{In, here, there, and_both, and-true, or_cases, mem-in, in-only, in_map, in_some}
@@ -54,7 +54,7 @@ module _ (rules : Rules) (ok : Lawful rules.row) where
   -- on any stack that is deep enough YP goes along the path, whatever is supplied, if each JUMPI takes the side that the path names
   pub record WalkedPath (code : List ℕ) (earlier : List Rec) (r : Rec) : Type 0 where
     pub true-path : TruePath rules ok code earlier r
-    pub walks-there : (supply : ℕ → ℕ → ℕ → ℕ) (st : List ℕ) → Deep-enough rules.row code supply r.path st → walks rules.row code supply r.path st ≡ true
+    pub walks-there : (supply : ℕ → ℕ → ℕ → ℕ) (st : List ℕ) → DeepEnough rules.row code supply r.path st → walks rules.row code supply r.path st ≡ true
 
   module _ (code : List ℕ) (small : length code ≤ 2 ^ 32) where
     sees-alone : (y x : ℕ) → (alone rules ok code y).goes ≡ some (jumpdest x) → Sees rules ok code (y ∷ []) (jumpdest x)
@@ -62,7 +62,7 @@ module _ (rules : Rules) (ok : Lawful rules.row) where
     sees-alone y x e = record { first = y; rest = []; path-is = refl; symbol = jumpdest x; goes = e; sees = refl }
 
     edge_goes : {n : Node} {x y : ℕ} → In n (prepared rules code) → y ≡ n.block.start → In x (sides n.block.kind) → Uncut rules ok code y
-        → (supply : ℕ → ℕ → ℕ) (st : List ℕ) → Deep-runs rules.row supply y (fetched code y) st → goes_to code x (exits rules.row supply y (fetched code y) st) ≡ true
+        → (supply : ℕ → ℕ → ℕ) (st : List ℕ) → DeepRuns rules.row supply y (fetched code y) st → goes_to code x (exits rules.row supply y (fetched code y) st) ≡ true
     unfolding prepared
     edge_goes {n} {x} {y} i at j u supply st r =
         split (settled-sides (run rules code (instructions code) b.0.start).goes b.0.kind (subst (λ (m : Node). In x (sides m.block.kind)) b.2 j))
@@ -95,11 +95,11 @@ module _ (rules : Rules) (ok : Lawful rules.row) where
     -- ---- a run of more blocks than the path's, with the path's first named
 
     module _ (more : List ℕ) (supply : ℕ → ℕ → ℕ → ℕ) (st : List ℕ) where
-      deep-append : (xs : List ℕ) → Deep-enough rules.row code supply (xs ++ more) st → Deep-enough rules.row code (on rules ok code supply more st) xs (middle rules ok code supply more st)
+      deep-append : (xs : List ℕ) → DeepEnough rules.row code supply (xs ++ more) st → DeepEnough rules.row code (on rules ok code supply more st) xs (middle rules ok code supply more st)
       deep-append [] a = tt
       deep-append (x ∷ xs) a = (deep-append xs a.0, rw (length-append xs more, words_append rules ok code supply more st xs) at a.1)
 
-      leads_goes : {p : List ℕ} {x : ℕ} → Leads-anyhow rules.row code p x → Deep-enough rules.row code supply (p ++ more) st → (along rules.row code supply (p ++ more) st).popped ≡ some x
+      leads_goes : {p : List ℕ} {x : ℕ} → LeadsAnyhow rules.row code p x → DeepEnough rules.row code supply (p ++ more) st → (along rules.row code supply (p ++ more) st).popped ≡ some x
       leads_goes {p} {x} h a = split p refl
         where
           pops : (along rules.row code (on rules ok code supply more st) p (middle rules ok code supply more st)).popped ≡ some x
@@ -111,9 +111,9 @@ module _ (rules : Rules) (ok : Lawful rules.row) where
 
     -- ---- the path
 
-    module _ (earlier : List Rec) (lead : (r : Rec) → In r earlier → (t : ℕ) (s : Stack) → r.to ≡ found t s → Leads-anyhow rules.row code r.path t × (get_or code t 0 ≡ 0x5B)) where
+    module _ (earlier : List Rec) (lead : (r : Rec) → In r earlier → (t : ℕ) (s : Stack) → r.to ≡ found t s → LeadsAnyhow rules.row code r.path t × (get_or code t 0 ≡ 0x5B)) where
       step : (x y : ℕ) (more : List ℕ) → some? (leads_to x y) (prepared rules code) || some? (brings_to x y more) earlier ≡ true → Uncut rules ok code y
-          → (supply : ℕ → ℕ → ℕ → ℕ) (st : List ℕ) → Deep-enough rules.row code supply (y ∷ more) st
+          → (supply : ℕ → ℕ → ℕ → ℕ) (st : List ℕ) → DeepEnough rules.row code supply (y ∷ more) st
           → goes_to code x (exits rules.row (supply (length more)) y (fetched code y) (along rules.row code supply more st).words) ≡ true
       step x y more e u supply st a = split (or_cases _ _ e)
         where
@@ -130,9 +130,9 @@ module _ (rules : Rules) (ok : Lawful rules.row) where
               let p = begins_with g.0.path (y ∷ more) b.1 in
               let h = lead g.0 g.1 x f.0 f.1 in
               popped-goes rules ok code (supply (length more)) y (fetched code y) (along rules.row code supply more st).words h.1
-              (subst (λ (q : List ℕ). (along rules.row code supply q st).popped ≡ some x) (sym p.1) (leads_goes p.0 supply st h.0 (subst (λ (q : List ℕ). Deep-enough rules.row code supply q st) p.1 a)))
+              (subst (λ (q : List ℕ). (along rules.row code supply q st).popped ≡ some x) (sym p.1) (leads_goes p.0 supply st h.0 (subst (λ (q : List ℕ). DeepEnough rules.row code supply q st) p.1 a)))
 
-      walked-path : (path : List ℕ) → joined (prepared rules code) earlier path ≡ true → AllUncut rules ok code path → (supply : ℕ → ℕ → ℕ → ℕ) (st : List ℕ) → Deep-enough rules.row code supply path st
+      walked-path : (path : List ℕ) → joined (prepared rules code) earlier path ≡ true → AllUncut rules ok code path → (supply : ℕ → ℕ → ℕ → ℕ) (st : List ℕ) → DeepEnough rules.row code supply path st
           → walks rules.row code supply path st ≡ true
       walked-path [] j u supply st a = refl
       walked-path (x ∷ []) j u supply st a = refl
@@ -146,7 +146,7 @@ module _ (rules : Rules) (ok : Lawful rules.row) where
     walked-paths = each_map (λ earlier r all (t : TruePath rules ok code earlier r).
         record { true-path = t; walks-there = walked-path earlier (λ q i u s e. led ((each_in all i).1.true-path.sees-there u s e)) r.path t.joins t.whole })
       where
-        led : {path : List ℕ} {u : ℕ} → Sees rules ok code path (jumpdest u) → Leads-anyhow rules.row code path u × (get_or code u 0 ≡ 0x5B)
+        led : {path : List ℕ} {u : ℕ} → Sees rules ok code path (jumpdest u) → LeadsAnyhow rules.row code path u × (get_or code u 0 ≡ 0x5B)
         led s = (path-leads-anyhow rules ok code small s, sees-lands rules ok code s)
 
   -- Of every search of a code of at most 2^32 bytes, and of every answer that is given.
