@@ -6,8 +6,7 @@ use salvage::salvage;
 
 // Copies the maps that read whole into `out`, up to the first that does not, and prints four numbers of 8 bytes into `report`: maps and bytes copied, bytes
 // dropped, the offset of the first bad entry or the archive's length. Gives 0; or 18, where either buffer is short.
-#[unsafe(no_mangle)]
-pub extern "C" fn aznifrem_salvage(archive: &[u8], out: &mut [u8], report: &mut [u8]) -> u64
+pub fn aznifrem_salvage(archive: &[u8], out: &mut [u8], report: &mut [u8]) -> u64
     ensures { ExportedSalvage archive.now out.old report.old out.new report.new result }
 {
     salvage(archive, out, report) as u64

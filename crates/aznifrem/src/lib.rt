@@ -26,8 +26,7 @@ pub use trace::aznifrem_follow;
 // Maps a code at an energy limit, in mode 0 or 1, over seven lent buffers; gives the number of the refusal, or the bytes written, which are never under 18
 // (`answered-long`). With choice 0 the records have their numbers: "written as a new record kind 9: start, to, energy, path length, path. Kind 8 is still
 // written if the caller's choice number is not 0".
-#[unsafe(no_mangle)]
-pub extern "C" fn aznifrem_map(
+pub fn aznifrem_map(
     limit: u64,
     choice: u64,
     mode: u64,
@@ -70,8 +69,7 @@ fn given(a: Answer) -> u64
 
 // The same, and the JSON text of the blocks in an eighth lent buffer; gives the number of the refusal, or the bytes of entries and 2^32 times those of text
 // (`json-number`).
-#[unsafe(no_mangle)]
-pub extern "C" fn aznifrem_json(
+pub fn aznifrem_json(
     limit: u64,
     choice: u64,
     mode: u64,
@@ -117,8 +115,7 @@ fn given_both(b: Both) -> u64
 }
 
 // Judges a byte string as a stored map: 0 where it holds one, else 12 and 256 times the offset of its first bad entry (`told`).
-#[unsafe(no_mangle)]
-pub extern "C" fn aznifrem_read(map: &[u8]) -> u64
+pub fn aznifrem_read(map: &[u8]) -> u64
     ensures { result ≡ reads_as (definitions.read map.now) }
 {
     let r = read(map);

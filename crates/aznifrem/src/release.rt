@@ -7,8 +7,7 @@ use crate::told::told_of;
 use report::{add, join};
 
 // Adds a stored map to a report of 120 bytes; gives 0, or 16 where a total would not fit, or 12 and 256 times the offset of the map's first bad entry.
-#[unsafe(no_mangle)]
-pub extern "C" fn aznifrem_report_add(report: &mut [u8], map: &[u8]) -> u64
+pub fn aznifrem_report_add(report: &mut [u8], map: &[u8]) -> u64
     ensures { ExportedReport report.old (report_add report.old map.now) report.new result }
 {
     let r = add(report, map);
@@ -16,8 +15,7 @@ pub extern "C" fn aznifrem_report_add(report: &mut [u8], map: &[u8]) -> u64
 }
 
 // Joins another report to a report; gives 0, or 16 where a total would not fit.
-#[unsafe(no_mangle)]
-pub extern "C" fn aznifrem_report_join(report: &mut [u8], other: &[u8]) -> u64
+pub fn aznifrem_report_join(report: &mut [u8], other: &[u8]) -> u64
     ensures { ExportedReport report.old (report_join report.old other.now) report.new result }
 {
     join(report, other) as u64

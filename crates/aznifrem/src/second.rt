@@ -8,14 +8,7 @@ use inspector::{inspect, inspect_from};
 
 // Inspects the path entries of a stored map against a code, in mode 0 or 1: 0 where all with a destination are right; or the refusal's number, with 12 and 17
 // also 256 times the entry's offset (`told`), and with 17 the place in its path in `place`, where it has 8 bytes.
-#[unsafe(no_mangle)]
-pub extern "C" fn aznifrem_inspect(
-    mode: u64,
-    code: &[u8],
-    map: &[u8],
-    w: &mut [u8],
-    place: &mut [u8],
-) -> u64
+pub fn aznifrem_inspect(mode: u64, code: &[u8], map: &[u8], w: &mut [u8], place: &mut [u8]) -> u64
     ensures { ExportedInspect mode code.now map.now w.old place.old w.new place.new result }
 {
     let i = inspect(mode as usize, code, map, w, place);
@@ -23,8 +16,7 @@ pub extern "C" fn aznifrem_inspect(
 }
 
 // The same of those that stand at the offset `from` or later; with 17 all that are not right in `rows`, 16 bytes each, as many as it has room for.
-#[unsafe(no_mangle)]
-pub extern "C" fn aznifrem_inspect_from(
+pub fn aznifrem_inspect_from(
     mode: u64,
     from: u64,
     code: &[u8],

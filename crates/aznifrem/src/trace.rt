@@ -7,8 +7,7 @@ use follow::follow;
 
 // Follows a log through a stored map: 0 and 256 times the place of the first step that is not in the map, or of the log's end; or the refusal's number, with
 // 12 also 256 times the offset of the first bad entry (`told`).
-#[unsafe(no_mangle)]
-pub extern "C" fn aznifrem_follow(
+pub fn aznifrem_follow(
     map: &[u8],
     code: &[u8],
     log: &[u8],
