@@ -1,4 +1,4 @@
-// The exported calls.
+// The exported calls; `aznifrem_c` exports them to C.
 // "A call returns the number and the bytes written, 0 if refused; the exported entry gives whichever isn't 0. The exported entry takes numbers and byte
 // slices."
 #![tactic(auto)]

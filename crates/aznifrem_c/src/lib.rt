@@ -1,4 +1,4 @@
-// The exported calls, for C: the static library of `aznifrem`, since a crate is a library or a static library, not both.
+// The calls of `aznifrem`, exported to C: a library cannot be a static library too.
 // "The exported entry takes numbers and byte slices."
 // Each is one call of the function of its name in `aznifrem`, with that function's clauses, word for word (`tests/once` holds them to each other).
 #![tactic(auto)]
