@@ -1,7 +1,7 @@
 //! The proved static library: the one that the caller names, else the repository's, made if it is missing.
 
 use std::fs::{self, File, OpenOptions};
-use std::io::{BufRead, BufReader, Read, Write};
+use std::io::{self, BufRead, BufReader, Read, Write};
 use std::path::{Path, PathBuf};
 use std::process::{Command, Stdio};
 use std::time::{Instant, SystemTime};
@@ -10,7 +10,9 @@ use std::{env, thread};
 pub const FOLDER: &str = "AZNIFREM_LIB_DIR";
 pub const FILE: &str = "libaznifrem.a";
 /// Where it is proved and built.
-const CRATE: &str = "crates/aznifrem";
+const CRATE: &str = "crates/aznifrem_c";
+/// The name that `rt lib` gives it, after the crate.
+const BUILT: &str = "libaznifrem_c.a";
 
 /// The folder that the caller names, else the repository's.
 pub fn folder() -> Result<PathBuf, String> {
@@ -25,16 +27,23 @@ pub fn folder() -> Result<PathBuf, String> {
         let _locked = locked.and_then(|file| file.lock().map(|()| file));
         if !made.join(FILE).is_file() {
             make(&repository)?;
+            named_as_ever(&made).map_err(|e| {
+                format!(
+                    "'rt lib' ended well, and of {CRATE}/out/{BUILT} no {FILE} can be made ({e}). {}",
+                    advice()
+                )
+            })?;
         }
-    }
-    if !made.join(FILE).is_file() {
-        return Err(format!(
-            "'rt lib' ended well and left no {CRATE}/out/{FILE}. {}",
-            advice()
-        ));
     }
     warn_if_stale(&repository.join("crates"), &made.join(FILE));
     Ok(made)
+}
+
+/// Puts what `rt lib` made under the library's own name beside it.
+pub fn named_as_ever(made: &Path) -> io::Result<()> {
+    let part = made.join("libaznifrem.part");
+    fs::copy(made.join(BUILT), &part)?;
+    fs::rename(part, made.join(FILE))
 }
 
 /// A relative path is refused: this script, the compiler and the caller each stand elsewhere.
@@ -59,7 +68,7 @@ fn warn_if_stale(crates: &Path, library: &Path) {
     }
     if let Some(newer) = newer_source(crates, library) {
         println!(
-            "cargo:warning={} is newer than {CRATE}/out/{FILE}: run 'rt lib' in {CRATE} if it has changed",
+            "cargo:warning={} is newer than {CRATE}/out/{FILE}: run 'tests/library' if it has changed",
             newer.display()
         );
     }
@@ -115,7 +124,7 @@ fn repository() -> Result<PathBuf, String> {
 fn make(repository: &Path) -> Result<(), String> {
     let begun = Instant::now();
     tell(
-        "the proved library is missing: 'rt lib' in crates/aznifrem proves and builds it now, once. That takes ten to thirty minutes on two cores.",
+        "the proved library is missing: 'rt lib' in crates/aznifrem_c proves and builds it now, once. That takes ten to thirty minutes on two cores.",
     );
     run(repository)?;
     let seconds = begun.elapsed().as_secs();
@@ -172,6 +181,6 @@ fn tell(line: &str) {
 
 pub fn advice() -> String {
     format!(
-        "Install Rattle's toolchain and run 'rt lib' in {CRATE}, or set {FOLDER} to a folder that has {FILE} for x86-64 Linux."
+        "Install Rattle's toolchain and run 'tests/library', or set {FOLDER} to a folder that has {FILE} for x86-64 Linux."
     )
 }

@@ -1,4 +1,4 @@
-/* The proved control-flow mapper, for C. Link crates/aznifrem/out/libaznifrem.a (x86-64 Linux). */
+/* The proved control-flow mapper, for C. Link crates/aznifrem_c/out/libaznifrem.a (x86-64 Linux). */
 #ifndef AZNIFREM_H
 #define AZNIFREM_H
 

@@ -5,7 +5,7 @@
 mod script;
 
 use script::Way;
-use script::library::{named, newer_source};
+use script::library::{named, named_as_ever, newer_source};
 use std::fs::{self, File};
 use std::path::{Path, PathBuf};
 use std::time::{Duration, SystemTime};
@@ -34,11 +34,23 @@ fn the_whole_path_of_the_library_is_taken_and_no_other() {
     assert!(empty.contains("no libaznifrem.a is in it"), "{empty}");
     put(&here.join("libaznifrem.a"), 0);
     assert_eq!(named(here.clone()), Ok(here));
-    for relative in ["crates/aznifrem/out", ".", ""] {
+    for relative in ["crates/aznifrem_c/out", ".", ""] {
         let refused = named(relative.into()).expect_err("it is relative");
         assert!(refused.contains("is a relative path"), "{refused}");
         assert!(refused.contains("Set it to the whole path"), "{refused}");
     }
+}
+
+#[test]
+fn what_rt_made_stands_under_the_librarys_name_too() {
+    let here = folder("built");
+    assert!(named_as_ever(&here).is_err());
+    fs::write(here.join("libaznifrem_c.a"), "made").expect("it can be written");
+    named_as_ever(&here).expect("it is there");
+    assert_eq!(named(here.clone()), Ok(here.clone()));
+    let archive = fs::read(here.join("libaznifrem.a")).expect("it is there");
+    assert_eq!(archive, b"made");
+    assert!(here.join("libaznifrem_c.a").is_file());
 }
 
 #[test]
