@@ -124,7 +124,7 @@ fn repository() -> Result<PathBuf, String> {
 fn make(repository: &Path) -> Result<(), String> {
     let begun = Instant::now();
     tell(
-        "the proved library is missing: 'rt lib' in crates/aznifrem_c proves and builds it now, once. That takes ten to thirty minutes on two cores.",
+        "the proved library is missing: 'rt lib' in crates/aznifrem_c proves and builds it now, once. That takes minutes: every crate is proved.",
     );
     run(repository)?;
     let seconds = begun.elapsed().as_secs();
