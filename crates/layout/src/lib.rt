@@ -1,6 +1,7 @@
 // Where everything stands in the lent buffers: the parts and the rows of W, the rows of R in its two meanings, and those of T. docs/LAYOUT.md draws them.
 #![tactic(auto)]
 
+pub mod buffers;
 pub mod edge;
 pub mod field;
 pub mod part;
