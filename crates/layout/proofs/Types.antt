@@ -1,11 +1,12 @@
 -- What a row's numbers say of the type of its block, and back: for each kind's byte the type, and for each type the byte. Assumes nothing.
 use mathlib.Core.Path.{◌≡◌, refl, sym, ap, ◌∙◌}
-use mathlib.Core.Bool.{true, false}
+use mathlib.Core.Bool.{true, false, not}
 use mathlib.Core.List.{List}
 use Prim.Native.Nat.{ℕ, ◌≤◌, ◌<◌}
 use native.Mathlib.Omega.{arith}
 use lib.Dec.{eqb}
 use borrow.Author.Tests.{eqb-true, eqb-false, eq-eqb, ne_eqb}
+use Rattle.std.specs.Option.{is_some}
 use Rattle.std.specs.Prelude.{Option, Some, None}
 use Rattle.spec.specs.Lists.{if}
 use Rattle.laws.proofs.Branch.{both, if-true, if-false}
@@ -117,3 +118,8 @@ module _ {w : List ℕ} {a : ℕ} {r : Option BlockType} (h : TypeIs w a r) wher
 
   pub row-some : {t : BlockType} → r ≡ Some t → (tag_at w a ≡ 0 → ⊥) × (type_at w a ≡ t)
   row-some e = is-some _ _ _ (sym h.is ∙ e)
+
+  -- whether a block starts there
+  pub row-is_some : is_some r ≡ not (eqb (tag_at w a) 0)
+  unfolding read_as
+  row-is_some = ap is_some h.is ∙ both (λ (o : Option BlockType). is_some o ≡ not (eqb (tag_at w a) 0)) (eqb (tag_at w a) 0) (λ e. ap not (sym e)) (λ e. ap not (sym e))
