@@ -17,7 +17,7 @@ use Rattle.tables.specs.Recording.{Lends, short_of, entry_needs, noted, Holding,
 use Rattle.tables.specs.declared.Rooms.{Rooms}
 use Rattle.tables.specs.declared.Counts.{Counts}
 use Rattle.tables.specs.declared.Entry.{Entry}
-use Rattle.tables.specs.declared.Reply.{Reply}
+use Rattle.tables.specs.Replies.{Reply}
 use Rattle.tables.proofs.Addrs.{addrs-length}
 use Rattle.tables.proofs.Chains.{keyed}
 use Rattle.tables.proofs.Links.{same-all}
@@ -60,9 +60,9 @@ module _ {p w r q s : List ℕ} {np n buckets : ℕ} {k : Rooms} {c : Counts} {e
   M = mem w r q s
 
   -- what a record more asks
-  pub ready-adds : {sum x : ℕ} → Summed path sum → x ≡ short_of k (entry_needs c np e.cells) → x ≡ 0 → Adds p np n buckets k M c e sum
-  ready-adds h f z =
-      let o = short-fits k c np e.cells (sym f ∙ z) in
+  pub ready-adds : {sum : ℕ} → Summed path sum → 0 ≡ short_of k (entry_needs c np e.cells) → Adds p np n buckets k M c e sum
+  ready-adds h f =
+      let o = short-fits k c np e.cells (sym f) in
       record { ready = y; summed = h; room_r = o.r; room_q = o.q; room_s = o.s }
 
   -- ---- the entry in document 01's words: the cells that it keeps, and whether it is recorded already
@@ -174,21 +174,21 @@ module _ {p w r q s : List ℕ} {np n buckets : ℕ} {k : Rooms} {c : Counts} {e
             beyond = beyond-all n buckets w;
           }
 
-      pub recorded-made : {m' : Mem} {d : Counts} → x ≡ 0 → Added p np n buckets k M c e m' d
-          → Recorded p np n buckets k M c e.start e.energy (new_found s e) m' (record { code = 0; counts = d })
-      recorded-made o a =
-          record {
-            code = λ t st h l i. noted-code t st h l i ∙ ap (or_else (shortage l st.needs)) o;
-            made = λ t st h i. ap clear (doc-made h (sym found_it ∙ z)).is ∙ rw (h.recs, a.records);
-            tells = sym o ∙ noted-tells;
-            holds = λ i. a.records ∙ sym (if-false _ _ _ (known_so z));
-            counts = λ i. a.counts ∙ ap (counted c np) (sym new-kept) ∙ sym (if-false _ _ _ (known_so z));
-            known = λ i. let o = known_so z in cc;
-            refused = λ i. absurd (i refl);
-            tables = a.tables;
-            stays = a.stays;
-            beyond = a.beyond;
-          }
+    pub recorded-made : {m' : Mem} {d : Counts} → 0 ≡ short_of k (entry_needs c np e.cells) → b ≡ false → Added p np n buckets k M c e m' d
+        → Recorded p np n buckets k M c e.start e.energy (new_found s e) m' (record { code = 0; counts = d })
+    recorded-made short z a =
+        record {
+          code = noted-code short z;
+          made = λ t st h i. ap clear (doc-made h (sym found_it ∙ z)).is ∙ rw (h.recs, a.records);
+          tells = noted-tells short z;
+          holds = λ i. a.records ∙ sym (if-false _ _ _ (known_so z));
+          counts = λ i. a.counts ∙ ap (counted c np) (sym new-kept) ∙ sym (if-false _ _ _ (known_so z));
+          known = λ i. let o = known_so z in cc;
+          refused = λ i. absurd (i refl);
+          tables = a.tables;
+          stays = a.stays;
+          beyond = a.beyond;
+        }
 
 -- ---- for the caller: all is as it was, or there is a record more
 

@@ -43,10 +43,3 @@ pub struct Entry {
     pub cells: usize,
     pub energy: usize,
 }
-
-// 0 or the number of a refusal, and the counts.
-#[derive(Clone, Copy)]
-pub struct Reply {
-    pub code: usize,
-    pub counts: Counts,
-}
