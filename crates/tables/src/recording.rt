@@ -9,6 +9,7 @@ use crate::add::add_record;
 use crate::path::path_sum;
 use crate::record::recorded;
 use crate::{Counts, Entry, Rooms};
+use layout::NOWHERE;
 use refusal::Shortage;
 
 // The first room, of R, Q and S, that a record more would pass.
@@ -47,7 +48,8 @@ pub fn record_entry(
         (mem w.new r.new q.new s.new) (reply_of counts result) }
 {
     let sum = path_sum(p, np);
-    if recorded(w, p, r, q, np, size, buckets, counts.records, entry.to, sum) {
+    let to = entry.to.unwrap_or(NOWHERE);
+    if recorded(w, p, r, q, np, size, buckets, counts.records, to, sum) {
         return Ok(counts);
     }
     shortage(rooms, counts, np, entry.cells)?;

@@ -10,10 +10,10 @@ returns-then-recorded c = search recorded_known
 pub returns-in_err-shortage : goal.returns-in_err-shortage
 returns-in_err-shortage c =
     let p = err_from_is_err_and c.from_residual.result c.from_residual.ensures.1 in
-    rw (p.1, p.2) (recorded-short c.requires c.recorded.ensures c.in_err-shortage.ensures c.if-recorded.false (short-some _))
+    rw (p.1, p.2) (recorded-short c.requires c.unwrap_or-to.ensures c.recorded.ensures c.in_err-shortage.ensures c.if-recorded.false (short-some _))
 
 pub add_record-requires : goal.add_record-requires
 add_record-requires c = ready-adds c.requires c.path_sum-sum.ensures c.in_ok-shortage.ensures
 
 pub returns : goal.returns
-returns c = recorded-made c.requires c.recorded.ensures c.in_ok-shortage.ensures c.if-recorded.false c.add_record.ensures
+returns c = recorded-made c.requires c.unwrap_or-to.ensures c.recorded.ensures c.in_ok-shortage.ensures c.if-recorded.false c.add_record.ensures
