@@ -22,13 +22,12 @@ use Rattle.evm.proofs.Steps.{Took, took, ended}
 use Rattle.laws.proofs.Branch.{both, if-true, if-false}
 use Rattle.layout.specs.Parts.{rows_end}
 use Rattle.layout.specs.Rows.{Put}
-use Rattle.layout.specs.declared.row.BlockType.{BlockType}
 use Rattle.initial.specs.Rows.{type_of, blocks_at, Laid}
 use Rattle.initial.specs.Turn.{clipped, pushed_at, ahead}
 use Rattle.initial.specs.Promises.{Lent, Beyond, Written, Stands, lowest, Standing, Ready, after, Turned, last, cutting}
 use Rattle.initial.specs.declared.turn.Walking.{Walking}
 use Rattle.initial.specs.declared.turn.Walking.TheVariants.{Opened, Waiting, Ended}
-use Rattle.initial.proofs.Types.{Good, kind-type, good-terminate}
+use Rattle.initial.proofs.Types.{good-terminate}
 use Rattle.initial.proofs.Writing.{put-append, put-laid, put-beyond, less-empty, beyond-same, beyond-more, wiped-blocks, wiped-empty, wiped-laid, wiped-beyond}
 use Rattle.initial.proofs.Jumping.{push-low}
 use Rattle.initial.proofs.Turning.{ahead-ended}
@@ -103,14 +102,13 @@ module _ {n : ℕ} {w : List ℕ} {mode : Walking} {prev : ℕ} (r : Standing n 
     pub last-past : prev < start → Written n (blocks_at w n ++ last mode prev) w w
     last-past h = last_none (rw o (last-beyond start prev h))
 
-    pub last-kept : {w' : List ℕ} {k : BlockType} → start ≤ prev → k ≡ type_of (terminate false) → Put w start prev k w'
-        → Written n (blocks_at w n ++ last mode prev) w w'
-    last-kept {w'} {k} h q p =
+    pub last-kept : {w' : List ℕ} → start ≤ prev → Put w start prev (type_of (terminate false)) w' → Written n (blocks_at w n ++ last mode prev) w w'
+    last-kept h p =
         let inside : start ≤ n = omega (arith, r.back, r.inside) in
         let small : prev < 65536 = omega (arith, r.back, r.inside, r.short) in
-        let good : Good k = rw q (good-terminate false) in
+        let good = good-terminate false in
         record {
-          blocks = put-append p n (rw o at r.empty) inside good small ∙ rw (o, last-open start prev h, q, kind-type);
+          blocks = put-append p n (rw o at r.empty) inside good small ∙ rw (o, last-open start prev h);
           laid = put-laid p n r.laid inside good small;
           beyond = put-beyond p n inside;
         }

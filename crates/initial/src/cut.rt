@@ -5,11 +5,11 @@ ghost use Rattle.initial.specs.Rows.{blocks_at};
 ghost use Rattle.initial.specs.Turn.{clipped};
 ghost use Rattle.initial.specs.Promises.{Lent, Written, Stands, Standing, Ready, Turned, cutting, last};
 
-use crate::turn::{Effect, Walking, closes, cut_of, terminate};
+use crate::turn::{Effect, Walking, closes, cut_of};
 use evm::op::JUMPDEST;
 use evm::walk::Step;
 use evm::walker::step_from;
-use layout::row::{ROW, put_block};
+use layout::row::{BlockType, ROW, put_block};
 use lent::wipe_part;
 
 // The blocks of the code before the checks.
@@ -77,7 +77,7 @@ fn last(w: &mut [u8], size: usize, walking: Walking, prev: usize)
     match walking {
         Walking::Opened(start) => {
             if start <= prev {
-                put_block(w, start, prev, terminate(false));
+                put_block(w, start, prev, BlockType::Terminate { success: false });
             }
         }
         Walking::Waiting => {}

@@ -1,5 +1,5 @@
 -- The laws of a record more. Assumes nothing.
-use Rattle.std.proofs.Common.{◌≡◌, ℕ, ◌+◌, ◌-◌, ◌*◌, ◌<◌, ◌≤◌, eqb, ◌⊎◌, List, [], ◌∷◌, ◌++◌, length, take, drop, sym, refl, ap, ◌∙◌, inl, inr, add-one, arith, eq-eqb}
+use Rattle.std.proofs.Common.{◌≡◌, ℕ, ◌+◌, ◌-◌, ◌*◌, ◌<◌, ◌≤◌, eqb, ◌⊎◌, List, [], ◌∷◌, ◌++◌, length, take, drop, sym, refl, ap, ◌∙◌, inl, inr, add-one, arith, eq-eqb, Option, Some, None, IfSome, unwrap_or, ne_eqb}
 use Rattle.spec.specs.Lists.{if}
 use Rattle.spec.specs.Search.{nowhere, found}
 use Rattle.lent.specs.Bytes.{Stored}
@@ -21,9 +21,9 @@ use Rattle.tables.proofs.Orders.{below}
 use Rattle.tables.proofs.Frames.{ends_same, kept_same, row_kept, goes_kept, recs-kept}
 
 module _ {p w r q s : List ℕ} {np n buckets sum : ℕ} {k : Rooms} {c : Counts} {e : Entry} (a : Adds p np n buckets k (mem w r q s) c e sum) where
-  leads_to : Enters n s e → (e.to ≡ NOWHERE) ⊎ (e.to ≤ n)
-  leads_to (enters_nowhere z y) = inl z
-  leads_to (enters z t) = inr z
+  leads_to : Enters n s e → IfSome e.to (λ b. b ≤ n)
+  leads_to (enters_nowhere z y) = rw z _
+  leads_to (enters z h t) = rw z h
 
   pub adds-counting : Counting c np e
   adds-counting = let i = a.ready.tables.within in record { records = omega arith; addresses = omega arith; kept = omega arith }
@@ -97,16 +97,17 @@ module _ {p w r q s : List ℕ} {np n buckets sum : ℕ} {k : Rooms} {c : Counts
     new-goes = go a.ready.entry
       where
         go : Enters n s e → Goes n k.s r' s' c.records
-        go (enters_nowhere z y) = leads_nowhere (l.says.to ∙ z) (omega (arith, l.says.kept, kept-before))
-        go (enters z h) = leads (rw l.says.to z) (rw (l.says.kept, kept-before, count) (new-state h).state)
+        go (enters_nowhere z y) = leads_nowhere (rw l.says.to (rw z refl)) (omega (arith, l.says.kept, kept-before))
+        go (enters z i h) = leads (rw l.says.to (rw z i)) (rw (l.says.kept, kept-before, count) (new-state h).state)
 
     new-found : found_at r' s' k.s c.records ≡ new_found s e
     unfolding found_at if
     new-found = rw (l.says.to, l.says.kept, kept-before, count) (go a.ready.entry)
       where
-        go : Enters n s e → if (eqb e.to NOWHERE) nowhere (found e.to (stack_at s' (9 * (k.s - (c.kept + e.cells))) e.cells)) ≡ new_found s e
-        go (enters_nowhere z y) = rw (eq-eqb e.to NOWHERE z)
-        go (enters z h) = rw (new-state h).is
+        go : Enters n s e
+            → if (eqb (unwrap_or e.to NOWHERE) NOWHERE) nowhere (found (unwrap_or e.to NOWHERE) (stack_at s' (9 * (k.s - (c.kept + e.cells))) e.cells)) ≡ new_found s e
+        go (enters_nowhere z y) = rw z refl
+        go (enters {to} z i h) = rw z (rw (ne_eqb to NOWHERE (λ d. omega (arith, t.few)), (new-state h).is))
 
     new-rec : rec_at r' q' s' k.s c.records ≡ new_rec s e (addrs p 0 np)
     unfolding rec_at

@@ -34,19 +34,12 @@ pub struct Counts {
     pub rows: usize,
 }
 
-// What is to be recorded: the turn's start, the destination or `NOWHERE`, the place and the length in S, in cells, of the state to keep, and the energy so far.
+// What is to be recorded: the turn's start, the destination if there is one, the place and the length in S, in cells, of the state to keep, and the energy so far.
 #[derive(Clone, Copy)]
 pub struct Entry {
     pub start: usize,
-    pub to: usize,
+    pub to: Option<usize>,
     pub from: usize,
     pub cells: usize,
     pub energy: usize,
-}
-
-// 0 or the number of a refusal, and the counts.
-#[derive(Clone, Copy)]
-pub struct Reply {
-    pub code: usize,
-    pub counts: Counts,
 }

@@ -2,14 +2,16 @@
 // "when a turn ends, T and the cells of its first and remembered states are free and used again"
 ghost use Rattle.std.specs.Prelude.{◌≡◌, ◌+◌, ◌^◌, ◌<◌};
 ghost use Rattle.tables.specs.Rows.{Shelves};
+ghost use Rattle.tables.specs.Replies.{reply_of};
 ghost use Rattle.tables.specs.Mets.{Memorizes, Memorized, Begins, Emptied, remembering};
 
 use crate::record::bucket_of;
 use crate::row::Seen;
 use crate::shelf::{push_row, stamp_at};
-use crate::{Counts, Reply, Rooms};
+use crate::{Counts, Rooms};
 use layout::seen::{HEAD, SEEN};
 use lent::put32;
+use refusal::Shortage;
 
 // The counts with a row more.
 fn counted_row(counts: Counts, seen: Seen) -> Counts
@@ -25,7 +27,7 @@ fn counted_row(counts: Counts, seen: Seen) -> Counts
     }
 }
 
-// Remembers what was seen, whose sum is given, where T has room.
+// Remembers what was seen, whose sum is given, where T has room. A refusal leaves T as it was.
 pub fn remember(
     s: &[u8],
     t: &mut [u8],
@@ -34,16 +36,15 @@ pub fn remember(
     buckets: usize,
     seen: Seen,
     sum: usize,
-) -> Reply
+) -> Result<Counts, Shortage>
     requires { Memorizes buckets rooms t.old s.now counts seen sum }
-    ensures { Memorized buckets rooms t.old s.now counts seen t.new result }
+    ensures { Memorized buckets rooms t.old s.now counts seen t.new (reply_of counts result) }
 {
     if rooms.t < counts.rows + 1 {
-        return Reply { code: 6, counts };
+        return Err(Shortage::T);
     }
     push_row(t, buckets, counts.rows, seen, sum);
-    let counts = counted_row(counts, seen);
-    Reply { code: 0, counts }
+    Ok(counted_row(counts, seen))
 }
 
 // Empties the buckets before the first turn.
