@@ -1,6 +1,6 @@
--- `symbol_of` meets its contract: each tag by a law of cells. Assumes nothing.
+-- `from_parts` meets its contract: each tag by a law of cells. Assumes nothing.
 use Rattle.state.proofs.Cells.{tagged-before, tagged-constant, tagged-jumpdest, tagged-other}
-use Rattle.state.proofs.cell.symbol_of.Goals as goal
+use Rattle.state.proofs.sym.StackSym.from_parts.Goals as goal
 
 pub returns-in-0 : goal.returns-in-0
 returns-in-0 c = search tagged-before
