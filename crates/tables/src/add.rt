@@ -9,6 +9,7 @@ use crate::link::{Fields, link_record};
 use crate::path::PathInHand;
 use crate::{Counts, Entry, Rooms};
 use lent::{copy, copy_within};
+use state::cell::CELL;
 
 // What the row of a new record is to say.
 fn fields_of(counts: Counts, np: usize, entry: Entry, sum: usize) -> Fields
@@ -51,7 +52,7 @@ fn keep_state(s: &mut [u8], room: usize, kept: usize, from: usize, cells: usize)
     requires { Keeps s.old room kept from cells }
     ensures { Stored (9 * cells) s.old (9 * (room - kept)) (take (9 * cells) (drop (9 * from) s.old)) s.new }
 {
-    copy_within(s, 9 * from, 9 * (room - kept), 9 * cells)
+    copy_within(s, CELL * from, CELL * (room - kept), CELL * cells)
 }
 
 // Appends a record of the path in hand, whose sum is given, where there is room for it.

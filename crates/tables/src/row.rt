@@ -2,7 +2,7 @@
 // "If last block, state and symbol were met in this turn"
 ghost use Rattle.std.specs.Prelude.{◌≡◌, ◌+◌, ◌*◌, ◌^◌, ◌<◌, ◌≤◌, length};
 ghost use Rattle.state.specs.Symbols.{sym_of};
-ghost use Rattle.state.specs.Cells.{tag, value, syms_at, State};
+ghost use Rattle.state.specs.Cells.{syms_at, State};
 ghost use Rattle.tables.specs.Chains.{any};
 ghost use Rattle.tables.specs.Rows.{shelf_at, seen_met, is_met, Stamped, Finds};
 ghost use Rattle.tables.specs.Sums.{weight, bucket_of, SumsWith};
@@ -13,7 +13,7 @@ use crate::shelf::stamp_at;
 use crate::sum::{MARK, SUM, low, mix};
 use layout::seen::{CELLS, FROM, HEAD, LINK, SEEN, SYMBOL};
 use lent::{get16, get32};
-use state::cell::{BEFORE, CONSTANT, JUMPDEST, OTHER, get_cell};
+use state::cell::{CELL, get_cell};
 use state::same::same_state;
 use state::sym::StackSym;
 
@@ -33,23 +33,11 @@ struct Sums {
     mark: u32,
 }
 
-// A symbol's tag and its number.
-fn parts(symbol: StackSym) -> (usize, usize)
-    ensures { (result.0 ≡ tag (sym_of symbol)) × (result.1 ≡ value (sym_of symbol)) × (result.0 < 4) }
-{
-    match symbol {
-        StackSym::Before(number) => (BEFORE, number),
-        StackSym::Constant(number) => (CONSTANT, number),
-        StackSym::Jumpdest(number) => (JUMPDEST, number),
-        StackSym::Other(number) => (OTHER, number),
-    }
-}
-
 // What a symbol adds to a sum: its number, and its tag a million times.
 fn weigh(symbol: StackSym) -> u32
     ensures { result ≡ weight (sym_of symbol) }
 {
-    let (tag, number) = parts(symbol);
+    let (tag, number) = symbol.parts();
     low(number).wrapping_add(low(tag * 1000000))
 }
 
@@ -61,7 +49,7 @@ fn sum_cells(s: &[u8], from: usize, cells: usize, sums: Sums) -> Sums
     let mut sum = sums.sum;
     let mut mark = sums.mark;
     for i in 0..cells {
-        let weight = weigh(get_cell(s, 9 * (from + i)));
+        let weight = weigh(get_cell(s, CELL * (from + i)));
         sum = mix::<SUM>(sum, weight);
         mark = mix::<MARK>(mark, weight);
     }
@@ -129,8 +117,8 @@ impl Chain for StateLookup<'_> {
         }
         same_state(
             self.s,
-            9 * self.seen.from,
-            9 * get32(self.t, SEEN * row + FROM),
+            CELL * self.seen.from,
+            CELL * get32(self.t, SEEN * row + FROM),
             self.seen.cells,
         )
     }
