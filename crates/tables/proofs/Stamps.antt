@@ -39,9 +39,6 @@ module _ (s : List ℕ) (from n : ℕ) where
 -- ---- sums
 
 module _ (k : ℕ) (s : List ℕ) (from n sum : ℕ) where
-  pub cells-first : sym_sums k sum (syms_at s (9 * (from + 0)) (n - 0)) ≡ sym_sums k sum (syms_at s (9 * from) n)
-  cells-first = ap (sym_sums k sum) (left-all s from n)
-
   module _ (acc i : ℕ) (e : sym_sums k acc (syms_at s (9 * (from + i)) (n - i)) ≡ sym_sums k sum (syms_at s (9 * from) n)) where
     pub cells-again : (x : StackSym) {v r : ℕ} → i < n → sym_of x ≡ sym_at s (9 * (from + i)) → v ≡ weight (sym_of x) → r ≡ mixed k acc v
         → sym_sums k r (syms_at s (9 * (from + (i + 1))) (n - (i + 1))) ≡ sym_sums k sum (syms_at s (9 * from) n)

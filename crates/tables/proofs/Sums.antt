@@ -1,5 +1,5 @@
 -- The laws of sums. Assumes nothing.
-use Rattle.std.proofs.Common.{◌≡◌, ℕ, ◌+◌, ◌*◌, ◌/◌, ◌%◌, ◌^◌, ◌<◌, ◌≤◌, min, [], ◌∷◌, refl, ap, ◌∙◌, ap₂, mod-lt, div-lt_iff_lt-mul, mul-le-mul, mul-lt-mul_of_pos_right, arith}
+use Rattle.std.proofs.Common.{◌≡◌, ℕ, ◌+◌, ◌*◌, ◌/◌, ◌%◌, ◌^◌, ◌<◌, ◌≤◌, min, [], ◌∷◌, refl, ap, ◌∙◌, ap₂, mod-lt, div-lt_iff_lt-mul, mul-lt-mul_of_pos_right, arith}
 use native.Mathlib.Nat.{min-le_left}
 use Rattle.spec.specs.Stacks.{Sym, before, constant, jumpdest}
 use Rattle.state.specs.Cells.{tag, value}
@@ -62,9 +62,6 @@ spread sum = sum % 2 ^ 32 * 2654435769 % 2 ^ 32
 
 spread-small : (sum : ℕ) → spread sum < 2 ^ 32
 spread-small sum = mod-lt (sum % 2 ^ 32 * 2654435769) (omega arith)
-
-pub product-fits : (sum : ℕ) {k : ℕ} → k ≤ 2 ^ 32 → spread sum * k ≤ 4294967295 * 2 ^ 32
-product-fits sum l = let h : spread sum ≤ 4294967295 = omega (arith, spread-small sum) in mul-le-mul h l
 
 pub scaled : (sum : ℕ) {k : ℕ} → 1 ≤ k → spread sum * k / 2 ^ 32 < k
 scaled sum {k} some =

@@ -19,11 +19,9 @@ fn counted_row(counts: Counts, seen: Seen) -> Counts
     ensures { result ≡ remembering counts seen }
 {
     Counts {
-        records: counts.records,
-        addresses: counts.addresses,
-        kept: counts.kept,
         used: counts.used + seen.cells,
         rows: counts.rows + 1,
+        ..counts
     }
 }
 

@@ -1,10 +1,6 @@
--- `same_path`: what is left to compare decides the whole. Assumes nothing.
-use Rattle.std.proofs.Common.{rules}
+-- `is_at`: what is left to compare decides the whole. Assumes nothing.
 use Rattle.tables.proofs.Addrs.{path-differs, path-again, path-same}
-use Rattle.tables.proofs.path.same_path.Goals as goal
-
-pub loop-i-init : goal.loop-i-init
-loop-i-init c = search rules
+use Rattle.tables.proofs.path.PathInHand.is_at.Goals as goal
 
 pub returns-then-get16 : goal.returns-then-get16
 returns-then-get16 c = search path-differs
