@@ -15,15 +15,14 @@ use Rattle.theorems.proofs.FollowCounts.{counts-room}
 use Rattle.lent.specs.Bytes.{patch, Stored}
 use Rattle.reader.specs.Scanning.{reading_of}
 use Rattle.reader.specs.Walks.{Walking}
-use Rattle.reader.specs.declared.scan.Reading.{Reading}
+use Rattle.reader.specs.declared.scan.BadEntry.{BadEntry}
 use Rattle.reader.proofs.Walked.{begun}
 use Rattle.follow.specs.Blocks.{finals_at}
-use Rattle.follow.specs.Finding.{slots_of, Fitting, room_in, Ready, Index, Finds, Filled}
+use Rattle.follow.specs.Finding.{slots_of, Fitting, room_in, Ready, Finds, Filled}
 use Rattle.follow.specs.Walking.{Zeroed, Walked}
 use Rattle.follow.specs.Following.{Answered, result_of, FollowedAs}
-use Rattle.follow.specs.declared.find.Finder.{Finder}
 use Rattle.refusal.specs.declared.Refusal.{Refusal}
-use Rattle.refusal.specs.declared.Refusal.TheVariants.{Entry, Log, Counts}
+use Rattle.refusal.specs.declared.Refusal.TheVariants.{Entry, Log}
 use Rattle.follow.proofs.Following.{held-blocks}
 
 -- ---- answer
@@ -88,17 +87,18 @@ module _ (b code log work counts : List ℕ) where
         work_is = z ∙ ap (work_after work) (sym e);
       }
 
-  module _ {r : Reading} (h : r ≡ reading_of (read b)) where
-    pub follow-bad : (r.number ≡ 0 → ⊥) → FollowedAs b code log work counts work counts (Err (Entry r.offset))
-    follow-bad n = by_said (read b) refl
+  module _ {r : Result Unit BadEntry} (h : r ≡ reading_of (read b)) where
+    pub follow-bad : {o : BadEntry} → r ≡ Err o → FollowedAs b code log work counts work counts (Err (Entry o.offset))
+    follow-bad {o} z = by_said (read b) refl
       where
-        by_said : (s : Said) → read b ≡ s → FollowedAs b code log work counts work counts (Err (Entry r.offset))
-        by_said (holds m) e = absurd (n (ap (λ (x : Reading). x.number) (h ∙ ap reading_of e)))
+        by_said : (s : Said) → read b ≡ s → FollowedAs b code log work counts work counts (Err (Entry o.offset))
+        by_said (holds m) e = let k : Ok tt ≡ Err o = sym (h ∙ ap reading_of e) ∙ z in never (cc)
         by_said (bad at) e =
-            by-outcome (bad_map at) (ap (followed_as code log counts) e)
-            (ap (λ (k : ℕ). Err (Entry k)) (ap (λ (x : Reading). x.offset) (h ∙ ap reading_of e))) refl refl
+            let k : Err o ≡ Err (record { offset = at }) = sym z ∙ h ∙ ap reading_of e in
+            let same : o ≡ record { offset = at } = cc in
+            by-outcome (bad_map at) (ap (followed_as code log counts) e) (ap (λ (x : BadEntry). Err (Entry x.offset)) same) refl refl
 
-    module _ (z : r.number ≡ 0) where
+    module _ {u : Unit} (z : r ≡ Ok u) where
       abbrev its : Map
       its = (begun b h z).0
 

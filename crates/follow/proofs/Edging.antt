@@ -1,5 +1,5 @@
 -- The index of edges: what stands there is right, and what is found there is what stands there. Assumes nothing.
-use Rattle.std.proofs.Common.{◌≡◌, ℕ, ◌+◌, ◌-◌, ◌*◌, ◌/◌, ◌%◌, ◌^◌, ◌<◌, ◌≤◌, Bool, true, false, ◌&&◌, eqb, List, [], ◌∷◌, ◌++◌, length, length-append, append_assoc, sym, refl, ap, ◌∙◌, subst, mod-lt, arith, w64, Fits, eq-eqb, ne_eqb, eqb-true, Option, Some, None, Bor}
+use Rattle.std.proofs.Common.{◌≡◌, ℕ, ◌+◌, ◌-◌, ◌*◌, ◌/◌, ◌%◌, ◌^◌, ◌<◌, ◌≤◌, Bool, true, false, ◌&&◌, eqb, List, [], ◌∷◌, ◌++◌, length, length-append, append_assoc, sym, refl, ap, ◌∙◌, subst, mod-lt, arith, eq-eqb, ne_eqb, eqb-true, Option, Some, None, Bor}
 use native.Mathlib.Decide.{dec_lt}
 use borrow.Author.Tests.{eqb-false}
 use Rattle.spec.specs.Lists.{little}
@@ -10,12 +10,11 @@ use Rattle.lent.specs.Bytes.{num_at, Holds, Stored}
 use Rattle.lent.proofs.Stored.{kept-num, read_back}
 use Rattle.reader.specs.Walks.{Walking}
 use Rattle.follow.specs.Blocks.{named_by}
-use Rattle.follow.specs.Places.{PlaceOf, place_in, CanChoose, left_of, distinct_left, none_passed}
-use Rattle.follow.specs.Finding.{Tells, Table, Index, Finds}
-use Rattle.follow.specs.Edges.{ShelfAt, shelf_in, EntryOf, Looked, KnownAt, Known, PlaceSo, Entered, Inserted, no_free, put_at, Kept, not_kept, kept_at, Owned, Linked}
+use Rattle.follow.specs.Places.{PlaceOf, place_in, distinct_left, none_passed}
+use Rattle.follow.specs.Finding.{Tells, Table, Index}
+use Rattle.follow.specs.Edges.{ShelfAt, shelf_in, EntryOf, Looked, Known, PlaceSo, Entered, Inserted, no_free, put_at, Kept, not_kept, kept_at, Owned, Linked}
 use Rattle.follow.specs.declared.block.Named.{Named}
 use Rattle.follow.specs.declared.find.Counted.{Counted}
-use Rattle.follow.specs.declared.find.Finder.{Finder}
 use Rattle.follow.specs.declared.place.Distinct.{Distinct}
 use Rattle.follow.proofs.Placing.{choose-all, few-distinct, once-first}
 

@@ -1,5 +1,5 @@
 -- Over the blocks of accepted bytes, and over the destinations of a block. Assumes nothing.
-use Rattle.std.proofs.Common.{◌≡◌, ℕ, zero, suc, ◌+◌, ◌-◌, ◌*◌, ◌<◌, ◌≤◌, Bool, true, false, not, eqb, leb, List, [], ◌∷◌, ◌++◌, length, drop, sym, refl, ap, ◌∙◌, subst, arith, eq-eqb, eqb-true, le-leb, leb-false, Option, Some, None}
+use Rattle.std.proofs.Common.{◌≡◌, ℕ, ◌+◌, ◌-◌, ◌*◌, ◌<◌, ◌≤◌, Bool, true, false, not, eqb, leb, List, [], ◌∷◌, ◌++◌, length, drop, sym, refl, ap, ◌∙◌, subst, arith, eq-eqb, eqb-true, le-leb, leb-false, Option, Some, None, Result, Ok, Err}
 use borrow.Author.Tests.{lt-leb}
 use native.Mathlib.Decide.{dec_le}
 use Rattle.spec.specs.Lists.{if, keep}
@@ -16,16 +16,13 @@ use Rattle.theorems.proofs.ReaderPlaces.{never}
 use Rattle.reader.specs.Shapes.{behind_at, entry_at, item_of}
 use Rattle.reader.specs.Classes.{class_of}
 use Rattle.reader.specs.Walks.{walk_at, items_from, Walking, over, here}
-use Rattle.reader.specs.declared.dest.Destination.{Destination}
-use Rattle.reader.specs.declared.dest.Destination.TheVariants.{Missing as Nowhere, At}
 use Rattle.reader.specs.declared.entry.Entry.{Entry}
-use Rattle.reader.specs.declared.entry.Entry.TheVariants.{Head, Terminate, Jump, Jumpi, DynamicJump, DynamicJumpi, Way, Record, Unknown, Wrong, Cut}
-use Rattle.reader.specs.declared.class.Class.TheVariants.{Bad}
-use Rattle.reader.specs.declared.walk.Walk.{Walk}
-use Rattle.reader.specs.declared.walk.Walk.TheVariants.{Here, Over}
+use Rattle.reader.specs.declared.entry.Entry.TheVariants.{Head, Terminate, Jump, Jumpi, DynamicJump, DynamicJumpi, Way, Record}
+use Rattle.reader.specs.declared.entry.Fault.{Fault}
+use Rattle.reader.specs.declared.walk.Step.{Step}
 use Rattle.reader.proofs.Judging.{entry-cut, behind-whole}
 use Rattle.reader.proofs.Walked.{stepping, ended}
-use Rattle.follow.specs.Blocks.{finals_at, outs_at, block_of, sides_in, named_by, Begins, next_block, way_of, SevenTo, next_seven, many_in, Leads, next_dest}
+use Rattle.follow.specs.Blocks.{finals_at, outs_at, block_of, sides_in, named_by, Begins, way_of, SevenTo, next_seven, Leads}
 use Rattle.follow.specs.declared.block.Sides.{Sides}
 use Rattle.follow.specs.declared.block.Sides.TheVariants.{Zero, One, Two}
 use Rattle.follow.specs.declared.block.Named.{Named}
@@ -38,18 +35,20 @@ pub inside : {b : List ℕ} {at : ℕ} → Walking b at → at ≤ length b
 inside (over z) = omega arith
 inside (here l n w) = omega arith
 
-pub far : {b : List ℕ} {at : ℕ} → Walking b at → {r : Walk} → r ≡ walk_at b at → {e : Entry} {to : ℕ} → r ≡ Here e to → at + 6 ≤ to
+pub far : {b : List ℕ} {at : ℕ} → Walking b at → {r : Option Step} → r ≡ walk_at b at → {s : Step} → r ≡ Some s → at + 6 ≤ s.behind
 unfolding walk_at
-far {b} {at} w {r} h {e} {to} q =
-    both (λ (x : Walk). r ≡ x → at + 6 ≤ to) (leb (length b) at)
-    (λ _ (k : r ≡ Over). never (cc))
-    (λ off k. by-walk w (leb-false (length b) at off) (cc)) h
+far {b} {at} w {r} h {s} q =
+    both (λ (x : Option Step). r ≡ x → at + 6 ≤ s.behind) (leb (length b) at)
+    (λ _ (k : r ≡ None). never (cc))
+    (λ off k.
+    let g : s ≡ record { entry = entry_at b at; behind = behind_at b at } = cc in
+    by-walk w (leb-false (length b) at off) (ap (λ (x : Step). x.behind) g)) h
   where
-    by_whole : (class_of (entry_at b at) ≡ Bad → ⊥) → Dec (Whole (drop at b)) → at + 6 ≤ behind_at b at
+    by_whole : (class_of (entry_at b at) ≡ None → ⊥) → Dec (Whole (drop at b)) → at + 6 ≤ behind_at b at
     by_whole n (yes x) = rw (behind-whole b at x) (omega arith)
     by_whole n (no m) = absurd (n (rw (entry-cut b at m)))
 
-    by-walk : Walking b at → at < length b → to ≡ behind_at b at → at + 6 ≤ to
+    by-walk : Walking b at → at < length b → s.behind ≡ behind_at b at → at + 6 ≤ s.behind
     by-walk (over z) l t = absurd (omega arith)
     by-walk (here m n v) l t = rw t (by_whole n (dec_le (6 + announced (drop at b)) (length (drop at b))))
 
@@ -102,13 +101,13 @@ abbrev HereIs : List Item → Item → Option Block → Type 0
 HereIs is i (Some k) = Starts is i k.start k.end k.named.sides
 HereIs is i None = finals_in (i ∷ is) ≡ finals_in is
 
-here-is : (b : List ℕ) (is : List Item) (e : Entry) (own at : ℕ) → HereIs is (item_of b e) (block_of e own at)
+here-is : (b : List ℕ) (is : List Item) (e : Result Entry Fault) (own at : ℕ) → HereIs is (item_of b e) (block_of e own at)
 unfolding finals_in
-here-is b is (Terminate s x ok) own at =
+here-is b is (Ok (Terminate s x ok)) own at =
     record { final = record { block = block s s x (terminate (eqb ok 1)); entries = ways s is }; first = refl; start = refl; end = refl; named = ap (λ (l : List ℕ). distinct l) (sym (ways-dests s is)) }
-here-is b is (Jump s x t) own at =
+here-is b is (Ok (Jump s x t)) own at =
     record { final = record { block = block s s x (jump t); entries = ways s is }; first = refl; start = refl; end = refl; named = ap (λ (l : List ℕ). distinct (t ∷ l)) (sym (ways-dests s is)) }
-here-is b is (Jumpi s x t f) own at =
+here-is b is (Ok (Jumpi s x t f)) own at =
     record {
       final = record { block = block s s x (jumpi t f); entries = ways s is };
       first = refl;
@@ -116,16 +115,14 @@ here-is b is (Jumpi s x t f) own at =
       end = refl;
       named = distinct-sides t f (dests (ways 0 is)) ∙ ap (λ (l : List ℕ). distinct (if (eqb t f) (t ∷ []) (t ∷ f ∷ []) ++ l)) (sym (ways-dests s is));
     }
-here-is b is (DynamicJump s x n) own at =
+here-is b is (Ok (DynamicJump s x n)) own at =
     record { final = record { block = block s s x dynamic_jump; entries = ways s is }; first = refl; start = refl; end = refl; named = ap (λ (l : List ℕ). distinct l) (sym (ways-dests s is)) }
-here-is b is (DynamicJumpi s x f n) own at =
+here-is b is (Ok (DynamicJumpi s x f n)) own at =
     record { final = record { block = block s s x (dynamic_jumpi f); entries = ways s is }; first = refl; start = refl; end = refl; named = ap (λ (l : List ℕ). distinct (f ∷ l)) (sym (ways-dests s is)) }
-here-is b is (Head z n m y) own at = refl
-here-is b is (Way t p n) own at = refl
-here-is b is (Record s t f v p n) own at = refl
-here-is b is Unknown own at = refl
-here-is b is Wrong own at = refl
-here-is b is Cut own at = refl
+here-is b is (Ok (Head z n m y)) own at = refl
+here-is b is (Ok (Way t p n)) own at = refl
+here-is b is (Ok (Record s t v p n)) own at = refl
+here-is b is (Err fault) own at = refl
 
 -- a block says where it stands, and where its destinations do
 own-in : Option Block → ℕ
@@ -136,19 +133,17 @@ behind-in : Option Block → ℕ
 behind-in (Some k) = k.named.at
 behind-in None = 0
 
-stands-at : (e : Entry) (own at : ℕ) {k : Block} → block_of e own at ≡ Some k → (k.own ≡ own) × (k.named.at ≡ at)
+stands-at : (e : Result Entry Fault) (own at : ℕ) {k : Block} → block_of e own at ≡ Some k → (k.own ≡ own) × (k.named.at ≡ at)
 unfolding own-in behind-in
-stands-at (Terminate s x ok) own at q = (sym (ap own-in q), sym (ap behind-in q))
-stands-at (Jump s x t) own at q = (sym (ap own-in q), sym (ap behind-in q))
-stands-at (Jumpi s x t f) own at q = (sym (ap own-in q), sym (ap behind-in q))
-stands-at (DynamicJump s x n) own at q = (sym (ap own-in q), sym (ap behind-in q))
-stands-at (DynamicJumpi s x f n) own at q = (sym (ap own-in q), sym (ap behind-in q))
-stands-at (Head z n m y) own at q = never (cc)
-stands-at (Way t p n) own at q = never (cc)
-stands-at (Record s t f v p n) own at q = never (cc)
-stands-at Unknown own at q = never (cc)
-stands-at Wrong own at q = never (cc)
-stands-at Cut own at q = never (cc)
+stands-at (Ok (Terminate s x ok)) own at q = (sym (ap own-in q), sym (ap behind-in q))
+stands-at (Ok (Jump s x t)) own at q = (sym (ap own-in q), sym (ap behind-in q))
+stands-at (Ok (Jumpi s x t f)) own at q = (sym (ap own-in q), sym (ap behind-in q))
+stands-at (Ok (DynamicJump s x n)) own at q = (sym (ap own-in q), sym (ap behind-in q))
+stands-at (Ok (DynamicJumpi s x f n)) own at q = (sym (ap own-in q), sym (ap behind-in q))
+stands-at (Ok (Head z n m y)) own at q = never (cc)
+stands-at (Ok (Way t p n)) own at q = never (cc)
+stands-at (Ok (Record s t v p n)) own at q = never (cc)
+stands-at (Err fault) own at q = never (cc)
 
 -- the loop over entries: what is left begins where the whole does
 pub record BlockFrom (b : List ℕ) (from at : ℕ) : Type 0 where
@@ -159,8 +154,14 @@ pub record BlockFrom (b : List ℕ) (from at : ℕ) : Type 0 where
 pub block_start : {b : List ℕ} {from : ℕ} → Walking b from → BlockFrom b from from
 block_start w = record { walking = w; same = refl; on = omega arith }
 
-module _ {b : List ℕ} {from at : ℕ} (i : BlockFrom b from at) {r : Walk} (h : r ≡ walk_at b at) where
-  module _ {e : Entry} {to : ℕ} (q : r ≡ Here e to) where
+module _ {b : List ℕ} {from at : ℕ} (i : BlockFrom b from at) {r : Option Step} (h : r ≡ walk_at b at) where
+  module _ {s : Step} (q : r ≡ Some s) where
+    abbrev e : Result Entry Fault
+    e = s.entry
+
+    abbrev to : ℕ
+    to = s.behind
+
     pub block-less : length b - to < length b - at
     block-less = let s = stepping i.walking h q in omega arith
 
@@ -192,32 +193,30 @@ module _ {b : List ℕ} {from at : ℕ} (i : BlockFrom b from at) {r : Walk} (h 
             own_on = omega (arith, a.0, a.1, s.on);
           }
 
-  pub block_none : r ≡ Over → finals_at b from ≡ []
+  pub block_none : r ≡ None → finals_at b from ≡ []
   unfolding finals_at finals_in
   block_none q = i.same ∙ ap finals_in (ended i.walking h q)
 
 -- ---- destinations
 
 -- the items begin with a 7, or with another entry
-abbrev WayIs : List Item → Item → Option Destination → Type 0
-WayIs is i (Some (At t)) = dests (ways 0 (i ∷ is)) ≡ t ∷ dests (ways 0 is)
-WayIs is i (Some Nowhere) = dests (ways 0 (i ∷ is)) ≡ dests (ways 0 is)
+abbrev WayIs : List Item → Item → Option (Option ℕ) → Type 0
+WayIs is i (Some (Some t)) = dests (ways 0 (i ∷ is)) ≡ t ∷ dests (ways 0 is)
+WayIs is i (Some None) = dests (ways 0 (i ∷ is)) ≡ dests (ways 0 is)
 WayIs is i None = dests (ways 0 (i ∷ is)) ≡ []
 
-way_is : (b : List ℕ) (is : List Item) (e : Entry) → WayIs is (item_of b e) (way_of e)
+way_is : (b : List ℕ) (is : List Item) (e : Result Entry Fault) → WayIs is (item_of b e) (way_of e)
 unfolding ways
-way_is b is (Way Nowhere p n) = refl
-way_is b is (Way (At t) p n) = refl
-way_is b is (Terminate s x ok) = refl
-way_is b is (Jump s x t) = refl
-way_is b is (Jumpi s x t f) = refl
-way_is b is (DynamicJump s x n) = refl
-way_is b is (DynamicJumpi s x f n) = refl
-way_is b is (Head z n m y) = refl
-way_is b is (Record s t f v p n) = refl
-way_is b is Unknown = refl
-way_is b is Wrong = refl
-way_is b is Cut = refl
+way_is b is (Ok (Way None p n)) = refl
+way_is b is (Ok (Way (Some t) p n)) = refl
+way_is b is (Ok (Terminate s x ok)) = refl
+way_is b is (Ok (Jump s x t)) = refl
+way_is b is (Ok (Jumpi s x t f)) = refl
+way_is b is (Ok (DynamicJump s x n)) = refl
+way_is b is (Ok (DynamicJumpi s x f n)) = refl
+way_is b is (Ok (Head z n m y)) = refl
+way_is b is (Ok (Record s t v p n)) = refl
+way_is b is (Err fault) = refl
 
 pub record SevensFrom (b : List ℕ) (from at : ℕ) : Type 0 where
   pub walking : Walking b at
@@ -227,39 +226,39 @@ pub record SevensFrom (b : List ℕ) (from at : ℕ) : Type 0 where
 pub seven-start : {b : List ℕ} {from : ℕ} → Walking b from → SevensFrom b from from
 seven-start w = record { walking = w; same = refl; on = omega arith }
 
-module _ {b : List ℕ} {from at : ℕ} (i : SevensFrom b from at) {r : Walk} (h : r ≡ walk_at b at) where
-  module _ {e : Entry} {to : ℕ} (q : r ≡ Here e to) {v : Option Destination} (k : v ≡ way_of e) where
-    step : {u : Option Destination} → v ≡ u → WayIs (items_from b to) (item_of b e) u
-    step z = subst (WayIs (items_from b to) (item_of b e)) (sym k ∙ z) (way_is b (items_from b to) e)
+module _ {b : List ℕ} {from at : ℕ} (i : SevensFrom b from at) {r : Option Step} (h : r ≡ walk_at b at) where
+  module _ {s : Step} (q : r ≡ Some s) {v : Option (Option ℕ)} (k : v ≡ way_of s.entry) where
+    step : {u : Option (Option ℕ)} → v ≡ u → WayIs (items_from b s.behind) (item_of b s.entry) u
+    step z = subst (WayIs (items_from b s.behind) (item_of b s.entry)) (sym k ∙ z) (way_is b (items_from b s.behind) s.entry)
 
-    items-are : outs_at b at ≡ dests (ways 0 (item_of b e ∷ items_from b to))
+    items-are : outs_at b at ≡ dests (ways 0 (item_of b s.entry ∷ items_from b s.behind))
     unfolding outs_at
     items-are = ap (λ (l : List Item). dests (ways 0 l)) (stepping i.walking h q).item
 
-    pub seven-to : {t : ℕ} → v ≡ Some (At t) → SevenTo b from t to
+    pub seven-to : {t : ℕ} → v ≡ Some (Some t) → SevenTo b from t s.behind
     unfolding outs_at
     seven-to z = record { is = i.same ∙ items-are ∙ step z; walking = (stepping i.walking h q).walking; on = omega (arith, i.on, far i.walking h q) }
 
-    pub seven-on : v ≡ Some Nowhere → SevensFrom b from to
+    pub seven-on : v ≡ Some None → SevensFrom b from s.behind
     unfolding outs_at
     seven-on z = record { walking = (stepping i.walking h q).walking; same = i.same ∙ items-are ∙ step z; on = omega (arith, i.on, far i.walking h q) }
 
     pub seven-no : v ≡ None → outs_at b from ≡ []
     seven-no z = i.same ∙ items-are ∙ step z
 
-    pub seven-less : length b - to < length b - at
-    seven-less = let s = stepping i.walking h q in omega arith
+    pub seven-less : length b - s.behind < length b - at
+    seven-less = let t = stepping i.walking h q in omega arith
 
-  pub seven-over : r ≡ Over → outs_at b from ≡ []
+  pub seven-over : r ≡ None → outs_at b from ≡ []
   unfolding outs_at ways
   seven-over q = i.same ∙ ap (λ (l : List Item). dests (ways 0 l)) (ended i.walking h q)
 
 -- each takes 6 bytes at least
-walk-over : (b : List ℕ) {at : ℕ} → at ≡ length b → Over ≡ walk_at b at
+walk-over : (b : List ℕ) {at : ℕ} → at ≡ length b → None ≡ walk_at b at
 unfolding walk_at
 walk-over b {at} z = sym (if-true (leb (length b) at) _ _ (le-leb (length b) at (omega arith)))
 
-walk-here : (b : List ℕ) {at : ℕ} → at < length b → Here (entry_at b at) (behind_at b at) ≡ walk_at b at
+walk-here : (b : List ℕ) {at : ℕ} → at < length b → Some (record { entry = entry_at b at; behind = behind_at b at }) ≡ walk_at b at
 unfolding walk_at
 walk-here b {at} l = sym (if-false (leb (length b) at) _ _ (lt-leb (length b) at l))
 
@@ -272,9 +271,9 @@ few-outs {b} {at} (here l n w) =
     rw (s.item) (by-way (few-outs w) f (way_of (entry_at b at)) (way_is b (items_from b (behind_at b at)) (entry_at b at)))
   where
     by-way : 6 * length (dests (ways 0 (items_from b (behind_at b at)))) + behind_at b at ≤ length b → at + 6 ≤ behind_at b at
-        → (v : Option Destination) → WayIs (items_from b (behind_at b at)) (item_of b (entry_at b at)) v → 6 * length (dests (ways 0 (item_of b (entry_at b at) ∷ items_from b (behind_at b at)))) + at ≤ length b
-    by-way g f (Some (At t)) k = rw k (omega arith)
-    by-way g f (Some Nowhere) k = rw k (omega arith)
+        → (v : Option (Option ℕ)) → WayIs (items_from b (behind_at b at)) (item_of b (entry_at b at)) v → 6 * length (dests (ways 0 (item_of b (entry_at b at) ∷ items_from b (behind_at b at)))) + at ≤ length b
+    by-way g f (Some (Some t)) k = rw k (omega arith)
+    by-way g f (Some None) k = rw k (omega arith)
     by-way g f None k = rw k (omega arith)
 
 module _ (b : List ℕ) (c : Named) where

@@ -1,5 +1,5 @@
 -- A step of the code is the definitions' move. Assumes nothing.
-use Rattle.std.proofs.Common.{◌≡◌, ℕ, suc, ◌+◌, ◌-◌, ◌<◌, ◌≤◌, Bool, true, false, ◌&&◌, eqb, ltb, leb, List, [], ◌∷◌, length, sym, refl, ap, ◌∙◌, subst, arith, length-append, w64, Fits, le-ltb, lt-ltb, eq-eqb, ne_eqb, eqb-true, leb-false, Option as Maybe, Some, None}
+use Rattle.std.proofs.Common.{◌≡◌, ℕ, suc, ◌+◌, ◌-◌, ◌<◌, ◌≤◌, Bool, true, false, ◌&&◌, eqb, ltb, leb, List, [], ◌∷◌, length, sym, ap, ◌∙◌, subst, arith, length-append, w64, Fits, le-ltb, lt-ltb, eq-eqb, ne_eqb, eqb-true, Option as Maybe, Some, None}
 use mathlib.Core.Option.{Option, some}
 use Rattle.spec.specs.Lists.{if, mem}
 use Rattle.spec.specs.Opcodes.{row}
@@ -14,7 +14,7 @@ use Rattle.evm.specs.Rows.{SizeIs}
 use Rattle.evm.proofs.Listed.{row-size}
 use Rattle.follow.specs.Blocks.{finals_at}
 use Rattle.follow.specs.Places.{PlaceOf, place_in}
-use Rattle.follow.specs.Finding.{slots_of, Ready, Placed, FoundAt, found_in, Finds}
+use Rattle.follow.specs.Finding.{slots_of, Ready, Placed, FoundAt, found_in}
 use Rattle.follow.specs.Edges.{PlaceSo}
 use Rattle.follow.specs.Stepping.{StandsAs, out_there, in_block, Stood, Standing, EdgeOf, MoveAs, no_move, goes_on, begins_with, takes_to, BeginsSo, edge_of, EdgeSo, on_of, InsideSo, StepsSo}
 use Rattle.follow.specs.declared.block.Block.{Block}

@@ -11,14 +11,11 @@ use Rattle.lent.specs.Bytes.{num_at, Holds}
 use Rattle.reader.specs.Walks.{Walking}
 use Rattle.reader.proofs.Walked.{begins}
 use Rattle.follow.specs.Blocks.{finals_at, named_by, Begins, next_block, CanGo, GivesBlock}
-use Rattle.follow.specs.Finding.{slots_of, Fitting, Ready, FoundAt, found_in, Spot, Indexed, Index, Finds}
+use Rattle.follow.specs.Finding.{slots_of, Fitting, Ready, FoundAt, Spot, Indexed, Finds}
 use Rattle.follow.specs.declared.block.Block.{Block}
 use Rattle.follow.specs.declared.block.Blocks.{Blocks}
-use Rattle.follow.specs.declared.find.Counted.{Counted}
 use Rattle.follow.specs.declared.find.Finder.{Finder}
-use Rattle.refusal.specs.declared.Refusal.{Refusal}
 use Rattle.refusal.specs.declared.Refusal.TheVariants.{Counts}
-use Rattle.follow.proofs.Going.{inside}
 
 -- ---- counts of blocks one after the other
 

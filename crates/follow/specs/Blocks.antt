@@ -1,5 +1,5 @@
 -- The blocks of a stored map and their destinations, as the code goes over them. Assumes nothing.
-use Rattle.std.specs.Prelude.{◌≡◌, ℕ, ◌+◌, ◌*◌, ◌<◌, ◌≤◌, List, [], ◌∷◌, ◌++◌, length, Option, Some, None, MatchOption}
+use Rattle.std.specs.Prelude.{◌≡◌, ℕ, ◌+◌, ◌*◌, ◌<◌, ◌≤◌, List, [], ◌∷◌, ◌++◌, length, Option, Some, None, Result, Ok, Err}
 use Rattle.std.specs.Iterator.{Count, at_most}
 use Rattle.spec.specs.Search.{dests}
 use Rattle.spec.specs.Ending.{Final}
@@ -7,9 +7,9 @@ use Rattle.spec.specs.Reader.{ways, finals_in}
 use Rattle.spec.specs.Counting.{distinct}
 use Rattle.spec.specs.Follow.{starts_at, outgoing}
 use Rattle.reader.specs.Walks.{items_from, Walking}
-use Rattle.reader.specs.declared.dest.Destination.{Destination}
 use Rattle.reader.specs.declared.entry.Entry.{Entry}
-use Rattle.reader.specs.declared.entry.Entry.TheVariants.{Head, Terminate, Jump, Jumpi, DynamicJump, DynamicJumpi, Way, Record, Unknown, Wrong, Cut}
+use Rattle.reader.specs.declared.entry.Entry.TheVariants.{Head, Terminate, Jump, Jumpi, DynamicJump, DynamicJumpi, Way, Record}
+use Rattle.reader.specs.declared.entry.Fault.{Fault}
 use Rattle.follow.specs.declared.block.Sides.{Sides}
 use Rattle.follow.specs.declared.block.Sides.TheVariants.{Zero, One, Two}
 use Rattle.follow.specs.declared.block.Named.{Named}
@@ -35,18 +35,16 @@ outs_at b at = dests (ways 0 (items_from b at))
 abbrev pub block_with : ℕ → ℕ → Sides → ℕ → ℕ → Option Block
 block_with s e sides own at = Some (record { start = s; end = e; named = record { sides = sides; at = at }; own = own })
 
-abbrev pub block_of : Entry → ℕ → ℕ → Option Block
-block_of (Terminate s e ok) own at = block_with s e Zero own at
-block_of (Jump s e to) own at = block_with s e (One to) own at
-block_of (Jumpi s e t f) own at = block_with s e (Two t f) own at
-block_of (DynamicJump s e n) own at = block_with s e Zero own at
-block_of (DynamicJumpi s e f n) own at = block_with s e (One f) own at
-block_of (Head size n m energy) own at = None
-block_of (Way to path n) own at = None
-block_of (Record s to form energy path n) own at = None
-block_of Unknown own at = None
-block_of Wrong own at = None
-block_of Cut own at = None
+abbrev pub block_of : Result Entry Fault → ℕ → ℕ → Option Block
+block_of (Ok (Terminate s e ok)) own at = block_with s e Zero own at
+block_of (Ok (Jump s e to)) own at = block_with s e (One to) own at
+block_of (Ok (Jumpi s e t f)) own at = block_with s e (Two t f) own at
+block_of (Ok (DynamicJump s e n)) own at = block_with s e Zero own at
+block_of (Ok (DynamicJumpi s e f n)) own at = block_with s e (One f) own at
+block_of (Ok (Head size n m energy)) own at = None
+block_of (Ok (Way to path n)) own at = None
+block_of (Ok (Record s to energy path n)) own at = None
+block_of (Err fault) own at = None
 
 -- static sides
 abbrev pub sides_in : Sides → List ℕ
@@ -93,18 +91,16 @@ blocks_left s = at_most (length (finals_at s.map.now s.at))
 
 -- ---- destinations
 
-abbrev pub way_of : Entry → Option Destination
-way_of (Way to path n) = Some to
-way_of (Terminate s e ok) = None
-way_of (Jump s e to) = None
-way_of (Jumpi s e t f) = None
-way_of (DynamicJump s e n) = None
-way_of (DynamicJumpi s e f n) = None
-way_of (Head size n m energy) = None
-way_of (Record s to form energy path n) = None
-way_of Unknown = None
-way_of Wrong = None
-way_of Cut = None
+abbrev pub way_of : Result Entry Fault → Option (Option ℕ)
+way_of (Ok (Way to path n)) = Some to
+way_of (Ok (Terminate s e ok)) = None
+way_of (Ok (Jump s e to)) = None
+way_of (Ok (Jumpi s e t f)) = None
+way_of (Ok (DynamicJump s e n)) = None
+way_of (Ok (DynamicJumpi s e f n)) = None
+way_of (Ok (Head size n m energy)) = None
+way_of (Ok (Record s to energy path n)) = None
+way_of (Err fault) = None
 
 pub record SevenTo (b : List ℕ) (at to behind : ℕ) : Type 0 where
   pub is : outs_at b at ≡ to ∷ outs_at b behind

@@ -1,5 +1,5 @@
 -- The index of edges: shelves of entries, how one is found there, and how one comes there. Assumes nothing.
-use Rattle.std.specs.Prelude.{◌≡◌, ℕ, ◌+◌, ◌*◌, ◌<◌, ◌≤◌, false, List, ◌∷◌, ◌++◌, length, Option, Some, None}
+use Rattle.std.specs.Prelude.{◌≡◌, ℕ, ◌+◌, ◌*◌, ◌<◌, ◌≤◌, List, ◌∷◌, ◌++◌, length, Option, Some, None}
 use Rattle.spec.specs.Ending.{Final}
 use Rattle.spec.specs.Counting.{distinct}
 use Rattle.spec.specs.Follow.{outgoing}

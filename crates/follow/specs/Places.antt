@@ -1,7 +1,6 @@
 -- Places among a block's distinct destinations. Assumes nothing.
-use Rattle.std.specs.Prelude.{◌≡◌, ℕ, ◌*◌, ◌+◌, ◌≤◌, false, List, [], ◌∷◌, ◌++◌, length, take, drop, Option, Some, None}
+use Rattle.std.specs.Prelude.{◌≡◌, ℕ, ◌*◌, ◌+◌, ◌≤◌, false, List, ◌∷◌, ◌++◌, length, take, drop, Option, Some, None}
 use Rattle.std.specs.Borrow.{Bor}
-use Rattle.std.specs.Iterator.{Count, at_most}
 use Rattle.spec.specs.Lists.{mem}
 use Rattle.spec.specs.Counting.{distinct}
 use Rattle.reader.specs.Walks.{Walking}

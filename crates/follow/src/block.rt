@@ -4,7 +4,7 @@ ghost use Rattle.std.specs.Prelude.{◌≡◌};
 ghost use Rattle.reader.specs.Walks.{Walking};
 ghost use Rattle.follow.specs.Blocks.{block_of, next_block, CanGo, GivesBlock, blocks_left};
 
-use reader::{Entry, Walk, next};
+use reader::{Entry, Fault, Step, next};
 
 // A block's static sides: none, one, or two, of which both may be the same.
 #[derive(Clone, Copy)]
@@ -31,20 +31,22 @@ pub struct Block {
 }
 
 // The block of an entry that stands at an offset, with the offset behind it; none where the entry is another.
-fn block_in(entry: Entry, own: usize, at: usize) -> Option<Block>
+fn block_in(entry: Result<Entry, Fault>, own: usize, at: usize) -> Option<Block>
     ensures { result ≡ block_of entry own at }
 {
     let (start, end, sides) = match entry {
-        Entry::Terminate { start, end, .. } => (start, end, Sides::Zero),
-        Entry::Jump { start, end, to } => (start, end, Sides::One(to)),
-        Entry::Jumpi {
-            start,
-            end,
-            yes,
-            no,
-        } => (start, end, Sides::Two(yes, no)),
-        Entry::DynamicJump { start, end, .. } => (start, end, Sides::Zero),
-        Entry::DynamicJumpi { start, end, no, .. } => (start, end, Sides::One(no)),
+        Ok(Entry::Terminate { start, end, .. }) => (start, end, Sides::Zero),
+        Ok(Entry::DynamicJump { start, end, .. }) => (start, end, Sides::Zero),
+        Ok(Entry::Jump { start, end, to }) => (start, end, Sides::One(to)),
+        Ok(
+            Entry::Jumpi {
+                start,
+                end,
+                yes,
+                no,
+            },
+        ) => (start, end, Sides::Two(yes, no)),
+        Ok(Entry::DynamicJumpi { start, end, no, .. }) => (start, end, Sides::One(no)),
         _ => return None,
     };
     let named = Named { sides, at };
@@ -62,7 +64,7 @@ pub fn block_from(map: &[u8], from: usize) -> Option<Block>
     ensures { next_block map.now from result }
 {
     let mut at = from;
-    while let Walk::Here { entry, behind } = next(map, at) {
+    while let Some(Step { entry, behind }) = next(map, at) {
         if let Some(block) = block_in(entry, at, behind) {
             return Some(block);
         }

@@ -45,12 +45,7 @@ pub fn follow(
 ) -> Result<usize, Refusal>
     ensures { FollowedAs map.now code.now log.now work.old counts.old work.new counts.new result }
 {
-    let reading = read(map);
-    if reading.number != 0 {
-        return Err(Refusal::Entry {
-            offset: reading.offset,
-        });
-    }
+    read(map)?;
     if log.len() % 8 != 0 {
         return Err(Refusal::Log);
     }

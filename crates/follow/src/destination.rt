@@ -5,7 +5,7 @@ ghost use Rattle.reader.specs.Walks.{Walking};
 ghost use Rattle.follow.specs.Blocks.{way_of, next_seven, next_dest, CanLead, named_left};
 
 use crate::block::{Named, Sides};
-use reader::{Destination, Entry, Walk, next};
+use reader::{Entry, Fault, Step, next};
 
 // A destination of the 7s, and the offset behind it.
 #[derive(Clone, Copy)]
@@ -21,12 +21,12 @@ pub struct Lead {
     pub rest: Named,
 }
 
-// Where a 7 leads; none where the entry is no 7.
-fn way_of(entry: Entry) -> Option<Destination>
+// Where a 7 leads, if it does; none where the entry is no 7.
+fn way_of(entry: Result<Entry, Fault>) -> Option<Option<usize>>
     ensures { result ≡ way_of entry }
 {
     match entry {
-        Entry::Way { to, .. } => Some(to),
+        Ok(Entry::Way { to, .. }) => Some(to),
         _ => None,
     }
 }
@@ -37,10 +37,10 @@ fn seven_from(map: &[u8], from: usize) -> Option<Seven>
     ensures { next_seven map.now from result }
 {
     let mut at = from;
-    while let Walk::Here { entry, behind } = next(map, at) {
+    while let Some(Step { entry, behind }) = next(map, at) {
         match way_of(entry)? {
-            Destination::At(to) => return Some(Seven { to, behind }),
-            Destination::Missing => at = behind,
+            Some(to) => return Some(Seven { to, behind }),
+            None => at = behind,
         }
     }
     None

@@ -1,4 +1,4 @@
-use Rattle.follow.proofs.Answering.{answer-is, answer-wiped, answer-finds, answer-zeroed}
+use Rattle.follow.proofs.Answering.{answer-is, answer-zeroed}
 use Rattle.follow.proofs.call.answer.Goals as goal
 
 pub walk-place-requires-clause-zeroed : goal.walk-place-requires-clause-zeroed

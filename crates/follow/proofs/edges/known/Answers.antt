@@ -1,4 +1,3 @@
-use Rattle.std.proofs.Common.{rules}
 use Rattle.follow.proofs.Edging.{known_at}
 use Rattle.follow.proofs.edges.known.Goals as goal
 

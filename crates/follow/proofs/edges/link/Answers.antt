@@ -1,6 +1,6 @@
 use Rattle.std.proofs.Common.{rules, ◌∙◌}
 use Rattle.follow.proofs.Placing.{choose-can}
-use Rattle.follow.proofs.Edging.{link_start, link-place, link_on, link-over, link-kept}
+use Rattle.follow.proofs.Edging.{link_start, link_on}
 use Rattle.follow.proofs.edges.link.Goals as goal
 
 pub loop-to-init : goal.loop-to-init

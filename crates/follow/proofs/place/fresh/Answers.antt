@@ -1,5 +1,4 @@
-use Rattle.std.proofs.Common.{rules, ap, ◌∙◌}
-use Rattle.follow.specs.Blocks.{named_left}
+use Rattle.std.proofs.Common.{rules}
 use Rattle.follow.proofs.Placing.{fresh_start, fresh-found, fresh_on, fresh-end}
 use Rattle.follow.proofs.place.fresh.Goals as goal
 

@@ -1,4 +1,4 @@
-use Rattle.std.proofs.Common.{inl, rules, tests, eqb}
+use Rattle.std.proofs.Common.{inl}
 use Rattle.std.proofs.lemmas.Iterator.Consumers.{count_from_yields_List, YieldsList-from_first}
 use Rattle.follow.specs.Places.{distinct_left}
 use Rattle.follow.proofs.Placing.{choose-can, choose-fits, choose-all}

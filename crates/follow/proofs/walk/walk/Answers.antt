@@ -1,4 +1,4 @@
-use Rattle.follow.proofs.Following.{follow-start, follow-standing, follow-fits, follow-on, follow-off, follow-ends, follow-kept}
+use Rattle.follow.proofs.Following.{follow-start, follow-on, follow-off, follow-ends}
 use Rattle.follow.proofs.walk.walk.Goals as goal
 
 pub loop-i-init : goal.loop-i-init

@@ -1,5 +1,4 @@
-use Rattle.std.proofs.Common.{rules, arith, ap, length, ◌∙◌}
-use Rattle.follow.specs.Places.{distinct_left}
+use Rattle.std.proofs.Common.{arith, ap, length, ◌∙◌}
 use Rattle.follow.proofs.Placing.{choose-over, choose_on, choose-passed, choose-less, choose-new, choose-old}
 use Rattle.follow.proofs.place.DistinctIterator.next.Goals as goal
 
