@@ -1,5 +1,5 @@
 -- The laws of paths: their addresses, their sums, and comparing two. Assumes nothing.
-use Rattle.std.proofs.Common.{◌≡◌, ℕ, zero, suc, ◌+◌, ◌-◌, ◌*◌, ◌%◌, ◌^◌, ◌<◌, ◌≤◌, Bool, true, false, ◌&&◌, eqb, List, [], ◌∷◌, length, take, drop, sym, refl, ap, ◌∙◌, ap₂, add-zero, arith, eq-eqb, ne_eqb, eqb-true}
+use Rattle.std.proofs.Common.{◌≡◌, ℕ, zero, suc, ◌+◌, ◌-◌, ◌*◌, ◌/◌, ◌%◌, ◌^◌, ◌<◌, ◌≤◌, Bool, true, false, ◌&&◌, eqb, List, [], ◌∷◌, length, take, drop, sym, refl, ap, ◌∙◌, ap₂, add-zero, arith, eq-eqb, ne_eqb, eqb-true}
 use native.Mathlib.Nat.{sub-zero}
 use native.Mathlib.Decide.{dec_lt}
 use Rattle.spec.specs.Lists.{same}
@@ -153,6 +153,18 @@ left-four {p} {q} {np} {at} {i} {x} {y} l h f g e =
     let fourth : i + 2 + 1 ≡ i + 3 = omega arith in
     let end : i + 3 + 1 ≡ i + 4 = omega arith in
     rw end at (left_one p q np at (rw fourth at more) (omega arith) (rw (place 3, other 3) rest.1))
+
+-- and so on by fours, up to the last four
+module _ {p q : List ℕ} {np at i : ℕ} (l : Left p np q at (4 * i)) where
+  pub left-fours : {x y : ℕ} → i < np / 4 → Packed p (4 * i) x → Packed q (at + 4 * i) y → x ≡ y → Left p np q at (4 * (i + 1))
+  left-fours h f g e =
+      let next : 4 * i + 4 ≡ 4 * (i + 1) = omega arith in
+      rw next at (left-four l (omega arith) f g e)
+
+  pub left-rest : np / 4 ≤ i → Left p np q at (np - np % 4)
+  left-rest h =
+      let last : 4 * i ≡ np - np % 4 = omega (arith, l.inside) in
+      rw last at l
 
 module _ (p q : List ℕ) (np at : ℕ) {i : ℕ} (l : Left p np q at i) where
   step : {x y : ℕ} → i < np → Holds 2 p (2 * i) x → Holds 2 q (2 * (at + i)) y

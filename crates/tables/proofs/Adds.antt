@@ -1,5 +1,5 @@
 -- The laws of a record more. Assumes nothing.
-use Rattle.std.proofs.Common.{◌≡◌, ℕ, ◌+◌, ◌-◌, ◌*◌, ◌<◌, ◌≤◌, eqb, ◌⊎◌, List, [], ◌∷◌, ◌++◌, length, take, drop, sym, refl, ap, ◌∙◌, inl, inr, add-one, arith, eq-eqb, Option, Some, None, IfSome, unwrap_or, ne_eqb}
+use Rattle.std.proofs.Common.{◌≡◌, ℕ, ◌+◌, ◌-◌, ◌*◌, ◌<◌, ◌≤◌, eqb, ◌⊎◌, List, [], ◌∷◌, ◌++◌, length, take, drop, sym, refl, ap, ◌∙◌, inl, inr, add-one, arith, IfSome, unwrap_or, ne_eqb}
 use Rattle.spec.specs.Lists.{if}
 use Rattle.spec.specs.Search.{nowhere, found}
 use Rattle.lent.specs.Bytes.{Stored}

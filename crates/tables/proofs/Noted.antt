@@ -1,5 +1,5 @@
 -- The laws of recording, one for each way out. Assumes nothing.
-use Rattle.std.proofs.Common.{◌≡◌, ℕ, suc, ◌+◌, ◌*◌, ◌<◌, ◌≤◌, Bool, true, false, ◌⊎◌, List, [], ◌∷◌, ◌++◌, length, sym, refl, ap, ◌∙◌, inl, inr, add-one, arith, eq-eqb, ne_eqb, Option, Some, None, unwrap_or}
+use Rattle.std.proofs.Common.{◌≡◌, ℕ, suc, ◌+◌, ◌*◌, Bool, true, false, ◌⊎◌, List, [], ◌∷◌, ◌++◌, length, sym, refl, ap, ◌∙◌, inl, inr, add-one, arith, Option, Some, None, unwrap_or}
 use Rattle.spec.specs.Lists.{if, total}
 use Rattle.spec.specs.Stacks.{cells}
 use Rattle.spec.specs.Search.{Found, nowhere, found, Rec, kept, R, Q, Need, St, Turn, in_use, addresses, record_nowhere, record_found}

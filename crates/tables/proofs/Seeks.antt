@@ -91,9 +91,9 @@ module _ {t s : List ℕ} {i : ℕ} {x : Seen} {sum : ℕ} (c : Compares t s i x
   unfolding met_at
   row_last h d = false_of (is_met t s (seen_met s x) i) (λ e. d (h.is ∙ sym (same_row e).last))
 
-  pub row-symbol : (y : StackSym) {b : Bool} → sym_of y ≡ sym_at t (seen_place i + T-SYMBOL) → b ≡ eq_sym (sym_of x.symbol) (sym_of y) → not b ≡ true → false ≡ is_met t s (seen_met s x) i
+  pub row-symbol : (y : StackSym) {b : Bool} → sym_of y ≡ sym_at t (seen_place i + T-SYMBOL) → b ≡ not (eq_sym (sym_of x.symbol) (sym_of y)) → b ≡ true → false ≡ is_met t s (seen_met s x) i
   unfolding met_at
-  row-symbol y {b} e f z = rw (← e, ← f, not-true b z, and-false (eqb x.last (block_at t i)) refl)
+  row-symbol y e f z = rw (← e, not-true (eq_sym (sym_of x.symbol) (sym_of y)) (sym f ∙ z), and-false (eqb x.last (block_at t i)) refl)
 
   pub row-cells : {y : ℕ} → Holds 4 t (seen_place i + T-CELLS) y → (y ≡ x.cells → ⊥) → false ≡ is_met t s (seen_met s x) i
   unfolding met_at
@@ -105,12 +105,12 @@ module _ {t s : List ℕ} {i : ℕ} {x : Seen} {sum : ℕ} (c : Compares t s i x
     pub row-states : TwoStates s (9 * x.from) (9 * z) x.cells
     row-states = record { first = c.state; second = rw (g.is, sym same ∙ h.is) c.row.state }
 
-    pub row_same : (v : StackSym) {k : ℕ} {b d : Bool} → Holds 2 t (seen_place i) k → k ≡ x.last → sym_of v ≡ sym_at t (seen_place i + T-SYMBOL) → b ≡ eq_sym (sym_of x.symbol) (sym_of v) → not b ≡ false
+    pub row_same : (v : StackSym) {k : ℕ} {b d : Bool} → Holds 2 t (seen_place i) k → k ≡ x.last → sym_of v ≡ sym_at t (seen_place i + T-SYMBOL) → b ≡ not (eq_sym (sym_of x.symbol) (sym_of v)) → b ≡ false
         → d ≡ eq_stack (stack_at s (9 * x.from) x.cells) (stack_at s (9 * z) x.cells) → d ≡ is_met t s (seen_met s x) i
     unfolding met_at
     row_same v {k} {b} {d} hk ek ev eb tb ed =
         let its : stack_at s (9 * z) x.cells ≡ stack_at s (9 * place_at t i) (cells_at t i) = ap₂ (λ (u v : ℕ). stack_at s (9 * u) v) g.is (sym same ∙ h.is) in
-        rw (← hk.is, ek, eq-eqb x.last x.last refl, ← ev, ← eb, not-false b tb) (ed ∙ ap (eq_stack (stack_at s (9 * x.from) x.cells)) its)
+        rw (← hk.is, ek, eq-eqb x.last x.last refl, ← ev, not-false (eq_sym (sym_of x.symbol) (sym_of v)) (sym eb ∙ tb)) (ed ∙ ap (eq_stack (stack_at s (9 * x.from) x.cells)) its)
 
 -- ---- along the chain
 

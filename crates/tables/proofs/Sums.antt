@@ -15,6 +15,14 @@ mix-low k sum x = low-more (sum * k) x
 
 -- ---- sums that wrap, worked out one after the other, wrap as one
 
+-- a factor, and a number
+pub factored : (k sum x : ℕ) → (sum * k % 2 ^ 32 + x) % 2 ^ 32 ≡ mixed k sum x
+unfolding mixed
+factored k sum x = plus (sum * k) x
+  where
+    plus : (a x : ℕ) → (a % 2 ^ 32 + x) % 2 ^ 32 ≡ (a + x) % 2 ^ 32
+    plus a x = omega arith
+
 abbrev wrapped : ℕ → ℕ → Type 0
 wrapped r k = r ≡ k % 2 ^ 32
 

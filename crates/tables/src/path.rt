@@ -4,7 +4,7 @@ ghost use Rattle.std.specs.Prelude.{◌≡◌};
 ghost use Rattle.spec.specs.Lists.{same};
 ghost use Rattle.tables.specs.Addrs.{addrs, Path, Summed, Beside, Packed, Left};
 
-use crate::sum::{low, mix, wide};
+use crate::sum::{SUM, low, mix};
 use lent::get16;
 
 // The sum of the np addresses of p: four sums take turns, so that none waits for the one before it.
@@ -16,16 +16,14 @@ pub fn path_sum(p: &[u8], np: usize) -> usize
     let mut second: u32 = 0;
     let mut third: u32 = 0;
     let mut fourth: u32 = 0;
-    let mut i = 0;
-    while i < np {
-        let sum = mix(first, low(get16(p, 2 * i)));
+    for i in 0..np {
+        let sum = mix::<SUM>(first, low(get16(p, 2 * i)));
         first = second;
         second = third;
         third = fourth;
         fourth = sum;
-        i += 1;
     }
-    wide(mix(mix(mix(first, second), third), fourth))
+    mix::<SUM>(mix::<SUM>(mix::<SUM>(first, second), third), fourth) as usize
 }
 
 // The four addresses of `path` from `at` on, as one number, for which the compiler makes one load.
@@ -38,19 +36,20 @@ fn four(path: &[u8], at: usize) -> usize
     front + back * 4294967296
 }
 
+// How many addresses are compared at once.
+const STEP: usize = 4;
+
 // So many addresses, by fours, that what is behind them decides whether the np addresses of p are those of q from `at` on.
 fn alike(p: &[u8], np: usize, q: &[u8], at: usize) -> usize
     requires { Beside p.now np q.now at }
     ensures { Left p.now np q.now at result }
 {
-    let mut i = 0;
-    while 4 <= np - i {
-        if four(p, i) != four(q, at + i) {
-            return i;
+    for i in 0..np / STEP {
+        if four(p, STEP * i) != four(q, at + STEP * i) {
+            return STEP * i;
         }
-        i += 4;
     }
-    i
+    np - np % STEP
 }
 
 // Whether the np addresses of p are those of q from `at` on.
@@ -58,12 +57,10 @@ pub fn same_path(p: &[u8], np: usize, q: &[u8], at: usize) -> bool
     requires { Beside p.now np q.now at }
     ensures { result ≡ same (addrs p.now 0 np) (addrs q.now at np) }
 {
-    let mut i = alike(p, np, q, at);
-    while i < np {
+    for i in alike(p, np, q, at)..np {
         if get16(p, 2 * i) != get16(q, 2 * (at + i)) {
             return false;
         }
-        i += 1;
     }
     true
 }

@@ -10,13 +10,12 @@ ghost use Rattle.tables.specs.Sums.{weight, SumsWith};
 
 use crate::record::bucket_of;
 use crate::shelf::stamp_at;
-use crate::sum::{blend, low, mix, wide};
+use crate::sum::{MARK, SUM, low, mix};
 use layout::seen::{CELLS, FROM, HEAD, LINK, SEEN, SYMBOL};
 use lent::{get16, get32};
 use state::cell::{BEFORE, CONSTANT, JUMPDEST, OTHER, get_cell};
 use state::same::same_state;
 use state::sym::StackSym;
-use std::num::wrapping_add_u32;
 
 // What is remembered: the path's last block, the symbol read there, and the place and the length of the state in S, in cells.
 #[derive(Clone, Copy)]
@@ -34,45 +33,24 @@ struct Sums {
     mark: u32,
 }
 
-// A symbol's tag.
-fn tag_of(symbol: StackSym) -> usize
-    ensures { (result ≡ tag (sym_of symbol)) × (result < 4) }
+// A symbol's tag and its number.
+fn parts(symbol: StackSym) -> (usize, usize)
+    ensures { (result.0 ≡ tag (sym_of symbol)) × (result.1 ≡ value (sym_of symbol)) × (result.0 < 4) }
 {
     match symbol {
-        StackSym::Before(_) => BEFORE,
-        StackSym::Constant(_) => CONSTANT,
-        StackSym::Jumpdest(_) => JUMPDEST,
-        StackSym::Other(_) => OTHER,
+        StackSym::Before(number) => (BEFORE, number),
+        StackSym::Constant(number) => (CONSTANT, number),
+        StackSym::Jumpdest(number) => (JUMPDEST, number),
+        StackSym::Other(number) => (OTHER, number),
     }
 }
 
-// A symbol's number.
-fn value_of(symbol: StackSym) -> usize
-    ensures { result ≡ value (sym_of symbol) }
-{
-    match symbol {
-        StackSym::Before(number) => number,
-        StackSym::Constant(number) => number,
-        StackSym::Jumpdest(number) => number,
-        StackSym::Other(number) => number,
-    }
-}
-
-// What a symbol adds to a sum.
+// What a symbol adds to a sum: its number, and its tag a million times.
 fn weigh(symbol: StackSym) -> u32
     ensures { result ≡ weight (sym_of symbol) }
 {
-    wrapping_add_u32(low(value_of(symbol)), low(tag_of(symbol) * 1000000))
-}
-
-// Whether two symbols are the same.
-fn same_symbol(one: StackSym, other: StackSym) -> bool
-    ensures { result ≡ eq_sym (sym_of one) (sym_of other) }
-{
-    if tag_of(one) != tag_of(other) {
-        return false;
-    }
-    value_of(one) == value_of(other)
+    let (tag, number) = parts(symbol);
+    low(number).wrapping_add(low(tag * 1000000))
 }
 
 // Both sums with the symbols of so many cells of S from the cell `from` on.
@@ -82,12 +60,10 @@ fn sum_cells(s: &[u8], from: usize, cells: usize, sums: Sums) -> Sums
 {
     let mut sum = sums.sum;
     let mut mark = sums.mark;
-    let mut i = 0;
-    while i < cells {
+    for i in 0..cells {
         let weight = weigh(get_cell(s, 9 * (from + i)));
-        sum = mix(sum, weight);
-        mark = blend(mark, weight);
-        i += 1;
+        sum = mix::<SUM>(sum, weight);
+        mark = mix::<MARK>(mark, weight);
     }
     Sums { sum, mark }
 }
@@ -103,10 +79,10 @@ pub fn stamp_of(s: &[u8], seen: Seen) -> usize
     let symbol = seen.symbol;
     let last = low(seen.last);
     let weight = weigh(symbol);
-    let sum = mix(mix(0, last), weight);
-    let mark = blend(blend(0, last), weight);
+    let sum = mix::<SUM>(mix::<SUM>(0, last), weight);
+    let mark = mix::<MARK>(mix::<MARK>(0, last), weight);
     let sums = sum_cells(s, seen.from, seen.cells, Sums { sum, mark });
-    wide(sums.sum) * 256 + bucket_of(wide(sums.mark), MARKS)
+    sums.sum as usize * 256 + bucket_of(sums.mark as usize, MARKS)
 }
 
 // Whether a row remembers `seen`, whose sum is given.
@@ -114,14 +90,13 @@ fn is_row(s: &[u8], t: &[u8], row: usize, seen: Seen, sum: usize) -> bool
     requires { Compares t.now s.now row seen sum }
     ensures { result ≡ is_met t.now s.now (seen_met s.now seen) row }
 {
-    let symbol = seen.symbol;
     if stamp_at(t, row) != sum {
         return false;
     }
     if get16(t, SEEN * row) != seen.last {
         return false;
     }
-    if !same_symbol(symbol, get_cell(t, SEEN * row + SYMBOL)) {
+    if seen.symbol != get_cell(t, SEEN * row + SYMBOL) {
         return false;
     }
     if get32(t, SEEN * row + CELLS) != seen.cells {

@@ -5,6 +5,3 @@ use Rattle.tables.proofs.path.path_sum.Given as goal
 
 abbrev pub invariant-loop-i : goal.invariant-loop-i
 invariant-loop-i l = (l.i ≤ l.np) × (turns l.first l.second l.third l.fourth (addrs l.p (0 + l.i) (l.np - l.i)) ≡ path_sum (addrs l.p 0 l.np))
-
-abbrev pub decreases-loop-i : goal.decreases-loop-i
-decreases-loop-i l = l.np - l.i
