@@ -6,7 +6,6 @@ ghost use Rattle.reachable.specs.Promises.{Address, SidesWithin};
 ghost use Rattle.steps.specs.Lands.{FoundMarked, Lands, Noted};
 
 use crate::plan::Plan;
-use layout::NOWHERE;
 use reachable::{mark, raise_sides};
 use refusal::Shortage;
 use tables::{Counts, Entry, record_entry};
@@ -50,11 +49,11 @@ pub fn land(
         plan.buckets,
         entry,
     )?;
-    if entry.to == NOWHERE {
+    let Some(to) = entry.to else {
         return Ok(after);
-    }
+    };
     if after.records != counts.records {
-        mark_found(w, plan.size, entry.to, counts.records + 2);
+        mark_found(w, plan.size, to, counts.records + 2);
     }
     Ok(after)
 }
