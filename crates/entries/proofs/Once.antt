@@ -5,19 +5,20 @@ use mathlib.Core.List.{List}
 use Prim.Native.Nat.{ℕ, ◌≤◌, ◌<◌}
 use native.Mathlib.Decide.{dec_lt}
 use native.Mathlib.Omega.{arith}
+use Rattle.std.specs.Prelude.{Option}
 use lib.ListN.{length}
 use Rattle.spec.specs.Rooms.{units}
-use Rattle.entries.specs.declared.row.Span.{Span}
+use Rattle.entries.specs.declared.found.Span.{Span}
 use Rattle.entries.specs.Promises.{Answered, Writes, Written, PathsEnd, PathOf, FitsRoom}
 
-pub one-answered : {bs out u v : List ℕ} {a e : ℕ} → Answered bs out u a → Answered bs out v e → (a ≡ e) × (u ≡ v)
+pub one-answered : {bs out u v : List ℕ} {a e : Option ℕ} → Answered bs out u a → Answered bs out v e → (a ≡ e) × (u ≡ v)
 one-answered {bs} {out} {u} {v} {a} {e} p q = go (dec_lt (units (length out) 1) (length bs))
   where
     go : Dec (units (length out) 1 < length bs) → (a ≡ e) × (u ≡ v)
     go (yes h) = ((p.short h).0 ∙ sym (q.short h).0, (p.short h).1 ∙ sym (q.short h).1)
     go (no h) = let l : length bs ≤ units (length out) 1 = omega arith in ((p.fits l).0 ∙ sym (q.fits l).0, (p.fits l).1 ∙ sym (q.fits l).1)
 
-pub one_written : {w r q out u v : List ℕ} {n m energy choice a e : ℕ} → Writes w r q n m energy → Written w r q n m energy choice out u a → Written w r q n m energy choice out v e
+pub one_written : {w r q out u v : List ℕ} {n m energy choice : ℕ} {a e : Option ℕ} → Writes w r q n m energy → Written w r q n m energy choice out u a → Written w r q n m energy choice out v e
     → (a ≡ e) × (u ≡ v)
 one_written h f g = one-answered (f.answer h.mode h.code h.recs h.ends) (g.answer h.mode h.code h.recs h.ends)
 
