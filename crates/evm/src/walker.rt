@@ -4,7 +4,7 @@ ghost use Rattle.std.specs.Prelude.{◌≡◌};
 ghost use Rattle.evm.specs.Step.{next_at, step_at};
 ghost use Rattle.evm.specs.Walker.{walker_at};
 
-use crate::walk::{Step, next_at, step_at};
+use crate::walk::{Instruction, next_at, step_at};
 
 #[derive(Clone, Copy)]
 pub struct Walker<'a> {
@@ -21,7 +21,7 @@ impl<'a> Walker<'a> {
     }
 
     // What stands at the walker's place.
-    pub fn here(self) -> Step
+    pub fn here(self) -> Option<Instruction>
         ensures { result ≡ step_at self.entry.code.now self.entry.at }
     {
         step_at(self.code, self.at)
@@ -40,7 +40,7 @@ impl<'a> Walker<'a> {
 }
 
 // What a walker at a place of the code finds. A loop calls this: over the struct itself it would be proved by hand.
-pub fn step_from(code: &[u8], at: usize) -> Step
+pub fn step_from(code: &[u8], at: usize) -> Option<Instruction>
     ensures { result ≡ step_at code.now at }
 {
     Walker::here(Walker::new(code, at))

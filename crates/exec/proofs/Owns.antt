@@ -5,7 +5,9 @@ use mathlib.Core.List.{List, [], ◌∷◌}
 use Prim.Native.Nat.{ℕ, suc, ◌+◌, ◌-◌, ◌*◌, ◌≤◌, ◌<◌}
 use native.Mathlib.Omega.{arith}
 use lib.Dec.{eqb}
-use lib.ListN.{length, drop}
+use lib.ListN.{length, get_or, drop}
+use mir.Syntax.{w8}
+use mir.Val.{Fits}
 use Rattle.spec.specs.Lists.{if}
 use Rattle.spec.specs.Opcodes.{row, in_mode}
 use Rattle.spec.specs.Walk.{Ins, ins, walk}
@@ -13,8 +15,8 @@ use Rattle.spec.specs.Stacks.{Sym, Stack, entry, Does, pushes_value, pushes_pc, 
 use Rattle.lent.proofs.Parts.{take_less}
 use Rattle.lent.proofs.Stored.{kept-take, kept-drop}
 use Rattle.evm.specs.Step.{step_at}
-use Rattle.evm.specs.declared.walk.Step.{Step}
-use Rattle.evm.specs.declared.walk.Step.TheVariants as step
+use Rattle.evm.specs.declared.walk.Instruction.{Instruction}
+use Rattle.std.specs.Prelude.{Option, Some, None}
 use Rattle.evm.proofs.Steps.{Took, took, ended}
 use Rattle.state.specs.Cells.{syms_at, Put, depth, Lies}
 use Rattle.state.specs.Symbols.{sym_of}
@@ -26,7 +28,6 @@ use Rattle.state.specs.declared.sym.StackSym.{StackSym}
 use Rattle.exec.specs.declared.top.Top.{Top}
 use Rattle.exec.specs.declared.step.Stepped.{Stepped}
 use Rattle.exec.specs.declared.step.Stepped.TheVariants.{On, Ends, Jumps}
-use Rattle.exec.specs.declared.run.Goes.TheVariants.{To, Nowhere}
 use Rattle.exec.specs.declared.run.End.{End}
 use Rattle.state.proofs.Syms.{length-syms, syms-none, cells-none}
 use Rattle.exec.proofs.Bounds.{bounded-entry, bounded-later, bounded-reach, bounded-act}
@@ -154,7 +155,7 @@ module _ {mode : ℕ} {code : List ℕ} {start : ℕ} {w₀ : List ℕ} {end : �
 
   module _ {w : List ℕ} {at : ℕ} {t : Top} (l : Running mode code start w₀ end w at t) where
     -- at the end of the code
-    pub ended-none : {r : Step} → r ≡ step_at code at → r ≡ step.End → ToEnd mode code start w₀ end w (record { top = t; goes = Nowhere })
+    pub ended-none : {r : Option Instruction} → r ≡ step_at code at → r ≡ None → ToEnd mode code start w₀ end w (record { top = t; goes = None })
     ended-none e f =
         record {
           is = rw (ended code at e f) at l.rest;
@@ -165,11 +166,11 @@ module _ {mode : ℕ} {code : List ℕ} {start : ℕ} {w₀ : List ℕ} {end : �
           inside = l.inside;
         }
 
-    module _ {pc op to : ℕ} {r : Step} (e : r ≡ step_at code at) (f : r ≡ step.Whole pc op to) where
-      took-here : Took code at pc op to
+    module _ {now : Instruction} {r : Option Instruction} (e : r ≡ step_at code at) (f : r ≡ Some now) where
+      took-here : Took code at now.pc now.op now.next
       took-here = took code at e f
 
-      pub running-steps : Steps code pc op w t
+      pub running-steps : Steps code now.pc now.op w t
       unfolding stack_of
       running-steps =
           let k = took-here in
@@ -182,35 +183,38 @@ module _ {mode : ℕ} {code : List ℕ} {start : ℕ} {w₀ : List ℕ} {end : �
             low = omega (arith, l.bounded.low, k.here);
           }
 
-      pub running-less : length code - to < length code - at
+      pub running-less : length code - now.next < length code - at
       running-less = let k = took-here in omega (arith, k.size, k.inside)
 
       -- after one more
-      module _ {w' : List ℕ} {x : Stepped} (small : op < 0x100) (d : Turns w t (next mode code start (ins pc op (drop (pc + 1) code)) (stack_of w t)) w' x) (kept : length w' ≡ length w) where
+      module _ {w' : List ℕ} {x : Stepped} (bytes : (j : ℕ) → Fits w8 (get_or code j 0)) (d : Turns w t (next mode code start (ins now.pc now.op (drop (now.pc + 1) code)) (stack_of w t)) w' x) (kept : length w' ≡ length w) where
         i : Ins
-        i = ins at op (drop (at + 1) code)
+        i = ins at now.op (drop (at + 1) code)
 
         due : next_of w' x ≡ next mode code start i (stack_of w t)
         unfolding i
         due = rw took-here.here at d.is
 
-        rest : go_on (runs (in_mode mode) code start (walk (drop to code) to 0)) (next_of w' x) ≡ runs (in_mode mode) code start (walk (drop start code) start 0) entry
+        rest : go_on (runs (in_mode mode) code start (walk (drop now.next code) now.next 0)) (next_of w' x) ≡ runs (in_mode mode) code start (walk (drop start code) start 0) entry
         unfolding i
         rest =
-            ap (go_on (runs (in_mode mode) code start (walk (drop to code) to 0))) due
-            ∙ sym (runs-next mode code start i (walk (drop to code) to 0) (stack_of w t))
+            ap (go_on (runs (in_mode mode) code start (walk (drop now.next code) now.next 0))) due
+            ∙ sym (runs-next mode code start i (walk (drop now.next code) now.next 0) (stack_of w t))
             ∙ ap (λ (is : List Ins). runs (in_mode mode) code start is (stack_of w t)) (sym took-here.walks)
             ∙ l.rest
 
-        later : Bounded (to - start) (stack_of w' (top_of x))
+        small : now.op < 0x100
+        small = omega (arith, took-here.byte, bytes at)
+
+        later : Bounded (now.next - start) (stack_of w' (top_of x))
         unfolding i
         later =
             let k = took-here in
             let b = bounded-next mode l.bounded code start i small in
-            let m : suc (at - start) ≤ to - start = omega (arith, k.size, l.passed) in
+            let m : suc (at - start) ≤ now.next - start = omega (arith, k.size, l.passed) in
             rw (← stack-in w' x, due) (bounded-later m b)
 
-        within : to - start ≤ length code
+        within : now.next - start ≤ length code
         within = omega (arith, took-here.inside)
 
         inside : Inside code w₀ end w'
@@ -225,7 +229,7 @@ module _ {mode : ℕ} {code : List ℕ} {start : ℕ} {w₀ : List ℕ} {end : �
               kept = kept ∙ l.inside.kept;
             }
 
-        pub running-on : {u : Top} → x ≡ On u → Running mode code start w₀ end w' to u
+        pub running-on : {u : Top} → x ≡ On u → Running mode code start w₀ end w' now.next u
         running-on {u} g =
             record {
               rest = rw g at rest;
@@ -237,7 +241,7 @@ module _ {mode : ℕ} {code : List ℕ} {start : ℕ} {w₀ : List ℕ} {end : �
               inside = inside;
             }
 
-        ended_by : (y : End) → top_of x ≡ y.top → go_on (runs (in_mode mode) code start (walk (drop to code) to 0)) (next_of w' x) ≡ ran_of w' y → far (goes_of y.goes) ≤ 17 * length code + 16 → ToEnd mode code start w₀ end w' y
+        ended_by : (y : End) → top_of x ≡ y.top → go_on (runs (in_mode mode) code start (walk (drop now.next code) now.next 0)) (next_of w' x) ≡ ran_of w' y → far (goes_of y.goes) ≤ 17 * length code + 16 → ToEnd mode code start w₀ end w' y
         ended_by y g h n =
             record {
               is = sym h ∙ rest;
@@ -255,10 +259,10 @@ module _ {mode : ℕ} {code : List ℕ} {start : ℕ} {w₀ : List ℕ} {end : �
             let f = far-next mode l.bounded code start i in
             omega (arith, e, ap far_in due, f, l.within)
 
-        pub ended-ends : {u : Top} → x ≡ Ends u → ToEnd mode code start w₀ end w' (record { top = u; goes = Nowhere })
+        pub ended-ends : {u : Top} → x ≡ Ends u → ToEnd mode code start w₀ end w' (record { top = u; goes = None })
         ended-ends g = ended_by _ (rw g) (rw g) (omega arith)
 
-        pub ended-jumps : {u : Top} {y : StackSym} → x ≡ Jumps u y → ToEnd mode code start w₀ end w' (record { top = u; goes = To y })
+        pub ended-jumps : {u : Top} {y : StackSym} → x ≡ Jumps u y → ToEnd mode code start w₀ end w' (record { top = u; goes = Some y })
         ended-jumps g = ended_by _ (rw g) (rw g) (jump-near g)
 
 -- ---- the whole run: the bottom's cell is put, and what the numbering gives is left to it

@@ -1,6 +1,6 @@
 -- Trimming from the bottom up: while the symbol next above Before base joins it, the state ends with that symbol. Assumes nothing.
 use mathlib.Core.Path.{◌≡◌, refl, sym, ap, ◌∙◌}
-use mathlib.Core.Bool.{Bool, true, false}
+use mathlib.Core.Bool.{Bool, true, false, not}
 use mathlib.Core.List.{List, [], ◌∷◌, ◌++◌}
 use Prim.Native.Nat.{ℕ, suc, ◌+◌, ◌-◌, ◌*◌, ◌≤◌}
 use native.Mathlib.Omega.{arith}
@@ -20,11 +20,14 @@ use Rattle.state.proofs.States.{lies-here}
 -- ---- whether a symbol joins
 
 module _ (base : ℕ) where
-  pub joins-none : (x : StackSym) → base ≡ 0 → false ≡ joins (sym_of x) base
-  joins-none (Before n) e = sym (ne_eqb (suc n) base (λ h. omega arith))
-  joins-none (Constant v) e = refl
-  joins-none (Jumpdest v) e = refl
-  joins-none (Other pc) e = refl
+  pub joins-none : (x : StackSym) (n : ℕ) → x ≡ Before n → base ≡ 0 → not (eqb base 0) ≡ joins (sym_of x) base
+  joins-none x n e z = rw (e, z) (sym (ne_eqb (suc n) 0 (λ h. omega arith)))
+
+  pub joins-other : (x : StackSym) → ((n : ℕ) → x ≡ Before n → ⊥) → false ≡ joins (sym_of x) base
+  joins-other (Before n) h = absurd (h n refl)
+  joins-other (Constant v) h = refl
+  joins-other (Jumpdest v) h = refl
+  joins-other (Other pc) h = refl
 
   pub joins-before : (x : StackSym) (n : ℕ) → (base ≡ 0 → ⊥) → x ≡ Before n → eqb n (base - 1) ≡ joins (sym_of x) base
   joins-before x n z e = rw e (go (eqb n (base - 1)) refl)

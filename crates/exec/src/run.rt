@@ -10,31 +10,23 @@ ghost use Rattle.exec.specs.Owns.{Runs, ToEnd, Trims, Owned};
 use crate::mode::Mode;
 use crate::step::{Stepped, step};
 use crate::top::Top;
-use evm::walk::Step;
-use evm::walker::step_from;
+use evm::walk::{Instruction, step_at};
 use state::cell::{get_cell, put_cell};
 use state::sym::StackSym;
 
-// The symbol that the run's jump takes, if it ends with one.
-#[derive(Clone, Copy)]
-pub enum Goes {
-    To(StackSym),
-    Nowhere,
-}
-
-// Where a run ended: the stack in hand, and where it goes.
+// Where a run ended: the stack in hand, and the symbol that its jump takes, if it ends with one.
 #[derive(Clone, Copy)]
 struct End {
     top: Top,
-    goes: Goes,
+    goes: Option<StackSym>,
 }
 
-// A block's own state, in n cells from `at` on, and where it goes.
-#[derive(Clone, Copy)]
+// A block's own state, in n cells from `at` on, and the symbol that its jump takes, if it ends with one.
+#[derive(Clone, Copy, PartialEq, Eq)]
 pub struct Own {
     pub at: usize,
     pub n: usize,
-    pub goes: Goes,
+    pub goes: Option<StackSym>,
 }
 
 // Runs the block at `start` to its end, with its stack in the part of w that ends at `end`.
@@ -48,48 +40,36 @@ fn to_end(mode: Mode, code: &[u8], start: usize, w: &mut [u8], end: usize) -> En
         n: 0,
         base: 0,
     };
-    loop {
-        match step_from(code, at) {
-            Step::End => {
+    while let Some(Instruction { pc, op, next }) = step_at(code, at) {
+        match step(mode, code, start, pc, op, w, top) {
+            Stepped::On(after) => {
+                top = after;
+                at = next;
+            }
+            Stepped::Ends(after) => {
                 return End {
-                    top,
-                    goes: Goes::Nowhere,
+                    top: after,
+                    goes: None,
                 };
             }
-            Step::Whole { pc, op, next } => match step(mode, code, start, pc, op, w, top) {
-                Stepped::On(after) => {
-                    top = after;
-                    at = next;
-                }
-                Stepped::Ends(after) => {
-                    return End {
-                        top: after,
-                        goes: Goes::Nowhere,
-                    };
-                }
-                Stepped::Jumps(after, symbol) => {
-                    return End {
-                        top: after,
-                        goes: Goes::To(symbol),
-                    };
-                }
-            },
+            Stepped::Jumps(after, symbol) => {
+                return End {
+                    top: after,
+                    goes: Some(symbol),
+                };
+            }
         }
     }
+    End { top, goes: None }
 }
 
 // Whether a symbol is the Before that the numbering gives next above Before(base).
 fn joined(symbol: StackSym, base: usize) -> bool
     ensures { result ≡ joins (sym_of symbol) base }
 {
-    if base == 0 {
-        return false;
-    }
     match symbol {
-        StackSym::Before(position) => position == base - 1,
-        StackSym::Constant(_) => false,
-        StackSym::Jumpdest(_) => false,
-        StackSym::Other(_) => false,
+        StackSym::Before(position) => base != 0 && position == base - 1,
+        _ => false,
     }
 }
 

@@ -1,17 +1,23 @@
 -- The list of the blocks' starts: what it depends on, one more entry, how long it is, and the start of a row's block put behind the others. Assumes nothing.
 use mathlib.Core.Path.{◌≡◌, refl, sym, ap, ap₂, ◌∙◌}
+use mathlib.Core.Bool.{true, false}
 use mathlib.Core.List.{List, [], ◌∷◌, ◌++◌, append-nil}
 use Prim.Native.Nat.{ℕ, zero, suc, ◌+◌, ◌≤◌, ◌<◌}
 use native.Mathlib.Nat.{add-zero, zero-add}
 use native.Mathlib.Numerals.{add-one}
 use native.Mathlib.Omega.{arith}
 use lib.ListN.{length, get_or, drop}
+use borrow.Author.Tests.{eqb-true, eqb-false, not-true, not-false}
+use Rattle.std.specs.Option.{is_some}
+use Rattle.std.specs.Prelude.{Option}
 use Rattle.spec.specs.Lists.{little}
-use Rattle.lent.specs.Bytes.{num_at, Holds, Stored}
+use Rattle.lent.specs.Bytes.{num_at, Stored}
 use Rattle.lent.proofs.Numbers.{num-suffix}
 use Rattle.lent.proofs.Stored.{kept-take, kept-drop, kept-num, read_back}
-use Rattle.layout.specs.Parts.{row_place, starts_place, start_place}
-use Rattle.layout.specs.Rows.{starts_at}
+use Rattle.layout.specs.Parts.{starts_place, start_place}
+use Rattle.layout.specs.Rows.{TypeIs, starts_at}
+use Rattle.layout.specs.declared.row.BlockType.{BlockType}
+use Rattle.layout.proofs.Types.{row-is_some}
 use Rattle.initial.specs.Rows.{block_at, row_blocks}
 use Rattle.initial.specs.Promises.{Listing, ListedRow}
 use Rattle.initial.proofs.Rows.{here-empty, here-block}
@@ -56,10 +62,10 @@ module _ (n : ℕ) where
 -- ---- the start of a row's block, if one starts there, is put behind the others
 
 module _ {n : ℕ} {w : List ℕ} {a many : ℕ} (l : Listing n w a many) where
-  pub list-none : {t : ℕ} → Holds 1 w (row_place a) t → t ≡ 0 → ListedRow n w a many w many
+  pub list-none : {o : Option BlockType} → TypeIs w a o → is_some o ≡ false → ListedRow n w a many w many
   list-none h z =
       record {
-        list = rw (here-empty w a (sym h.is ∙ z)) (sym (append-nil (starts_at w n 0 many)));
+        list = rw (here-empty w a (eqb-true _ _ (not-false _ (sym (row-is_some h) ∙ z)))) (sym (append-nil (starts_at w n 0 many)));
         before = refl;
         past = refl;
         low = omega arith;
@@ -67,9 +73,9 @@ module _ {n : ℕ} {w : List ℕ} {a many : ℕ} (l : Listing n w a many) where
         kept = refl;
       }
 
-  pub list-one : {t : ℕ} {w' : List ℕ} → Holds 1 w (row_place a) t → (t ≡ 0 → ⊥) → Stored 2 w (start_place n many) (little 2 a) w' → ListedRow n w a many w' (many + 1)
-  list-one {t} {w'} h z s =
-      let there : row_blocks w a ≡ block_at w a ∷ [] = here-block w a (λ e. z (h.is ∙ e)) in
+  pub list-one : {o : Option BlockType} {w' : List ℕ} → TypeIs w a o → is_some o ≡ true → Stored 2 w (start_place n many) (little 2 a) w' → ListedRow n w a many w' (many + 1)
+  list-one {o} {w'} h z s =
+      let there : row_blocks w a ≡ block_at w a ∷ [] = here-block w a (eqb-false _ _ (not-true _ (sym (row-is_some h) ∙ z))) in
       let old : starts_at w' n 0 many ≡ starts_at w n 0 many = list_same n w' w 0 many (λ x k g. kept-num s 2 (start_place n x) (λ _. omega arith)) in
       let new : num_at 2 w' (start_place n many) ≡ a = read_back s (omega (arith, l.short)) in
       record {

@@ -10,8 +10,8 @@ ghost use Rattle.initial.specs.Promises.{Rows, Apart, CheckedRow, Listing, Liste
 
 use evm::op::JUMPDEST;
 use layout::part::{START, STARTS, STARTS_MORE};
-use layout::row::{BlockType, END, JUMP, JUMPI, ROW, TERMINATE, put_block, type_at};
-use lent::{get8, get16, put16};
+use layout::row::{BlockType, END, ROW, put_block, type_at};
+use lent::{get16, put16};
 
 // The checks of every block, and how many blocks there are. Up to a block's end no other starts, so the next turn is behind it.
 pub fn check(code: &[u8], w: &mut [u8]) -> usize
@@ -35,7 +35,7 @@ fn list_row(w: &mut [u8], size: usize, start: usize, many: usize) -> usize
     requires { Listing size w.old start many }
     ensures { ListedRow size w.old start many w.new result }
 {
-    if get8(w, ROW * start) == 0 {
+    if type_at(w, start).is_none() {
         return many;
     }
     put16(w, STARTS * size + STARTS_MORE + START * many, start);
@@ -48,20 +48,20 @@ fn check_row(code: &[u8], w: &mut [u8], start: usize) -> usize
     requires start_in_bounds { start ≤ length code.now }
     ensures { CheckedRow code.now w.old start w.new result }
 {
-    let block = type_at(w, start);
-    if block.kind == 0 {
+    let Some(block) = type_at(w, start) else {
         return start;
-    }
+    };
     let end = get16(w, ROW * start + END);
-    if block.kind == JUMP {
-        let to = checked_jump(code, w, block.to);
-        put_block(w, start, end, to);
-        return end;
-    }
-    if block.kind == JUMPI {
-        let to = checked_jumpi(code, w, block.to, block.other);
-        put_block(w, start, end, to);
-        return end;
+    match block {
+        BlockType::Jump { to } => {
+            let checked = checked_jump(code, w, to);
+            put_block(w, start, end, checked);
+        }
+        BlockType::Jumpi { to, other } => {
+            let checked = checked_jumpi(code, w, to, other);
+            put_block(w, start, end, checked);
+        }
+        _ => {}
     }
     end
 }
@@ -73,16 +73,9 @@ fn checked_jump(code: &[u8], w: &[u8], to: usize) -> BlockType
         (jump to)) }
 {
     if lands(code, w, to) {
-        return BlockType {
-            kind: JUMP,
-            to,
-            other: 0,
-        };
-    }
-    BlockType {
-        kind: TERMINATE,
-        to: 0,
-        other: 0,
+        BlockType::Jump { to }
+    } else {
+        BlockType::Terminate { success: false }
     }
 }
 
@@ -93,12 +86,9 @@ fn checked_jumpi(code: &[u8], w: &[u8], to: usize, other: usize) -> BlockType
         (jumpi to other)) }
 {
     if starts(code, w, other) {
-        return falling(code, w, to, other);
-    }
-    BlockType {
-        kind: TERMINATE,
-        to: 0,
-        other: 0,
+        falling(code, w, to, other)
+    } else {
+        BlockType::Terminate { success: false }
     }
 }
 
@@ -110,16 +100,9 @@ fn falling(code: &[u8], w: &[u8], to: usize, other: usize) -> BlockType
         (jumpi to other)) }
 {
     if lands(code, w, to) {
-        return BlockType {
-            kind: JUMPI,
-            to,
-            other,
-        };
-    }
-    BlockType {
-        kind: JUMP,
-        to: other,
-        other: 0,
+        BlockType::Jumpi { to, other }
+    } else {
+        BlockType::Jump { to: other }
     }
 }
 
@@ -128,10 +111,7 @@ fn starts(code: &[u8], w: &[u8], to: usize) -> bool
     requires { rows_end (length code.now) ≤ length w.now }
     ensures { result ≡ mem to (starts (blocks_at w.now (length code.now))) }
 {
-    if code.len() < to {
-        return false;
-    }
-    get8(w, ROW * to) != 0
+    to <= code.len() && type_at(w, to).is_some()
 }
 
 // Does a block start at `to`, with a JUMPDEST?
@@ -139,11 +119,5 @@ fn lands(code: &[u8], w: &[u8], to: usize) -> bool
     requires { rows_end (length code.now) ≤ length w.now }
     ensures { result ≡ lands code.now (starts (blocks_at w.now (length code.now))) to }
 {
-    if code.len() <= to {
-        return false;
-    }
-    if code[to] != JUMPDEST {
-        return false;
-    }
-    starts(code, w, to)
+    to < code.len() && code[to] == JUMPDEST && starts(code, w, to)
 }

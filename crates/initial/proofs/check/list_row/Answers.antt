@@ -2,8 +2,8 @@
 use Rattle.initial.proofs.Listing.{list-none, list-one}
 use Rattle.initial.proofs.check.list_row.Goals as goal
 
-pub returns-then-get8-eq0 : goal.returns-then-get8-eq0
-returns-then-get8-eq0 c = search list-none
+pub returns-then-is_none : goal.returns-then-is_none
+returns-then-is_none c = search (list-none, c.if-is_none.ensures)
 
 pub returns : goal.returns
-returns c = search list-one
+returns c = search (list-one, c.if-is_none.ensures)
