@@ -4,10 +4,9 @@
 
 mod block;
 mod family;
-mod found;
 mod kept;
 mod listing;
 mod row;
-mod whole;
 
-pub use found::{Found, Span};
+pub mod found;
+pub mod whole;

@@ -49,14 +49,12 @@ module _ (n note : ℕ) where
   Same : Kind → Type 0
   Same k = merged_kind n note k ≡ k
 
-  other-kind : (t : BlockType) → (t.kind ≡ 5 → ⊥) → merged_kind n note (kind_of t) ≡ kind_of t
-  unfolding kind_of Same
-  other-kind t h =
-      both Same (eqb t.kind 1) (λ _. refl)
-      (λ _. both Same (eqb t.kind 2) (λ _. refl)
-      (λ _. both Same (eqb t.kind 3) (λ _. refl)
-      (λ _. both Same (eqb t.kind 4) (λ _. refl)
-      (λ _. both Same (eqb t.kind 5) (λ e. absurd (h (eqb-true _ _ e))) (λ _. refl)))))
+  other-kind : (t : BlockType) → (t ≡ DynamicJump → ⊥) → merged_kind n note (kind_of t) ≡ kind_of t
+  other-kind (Terminate success) h = refl
+  other-kind (Jump to) h = refl
+  other-kind (Jumpi to f) h = refl
+  other-kind DynamicJump h = absurd (h refl)
+  other-kind (DynamicJumpi f) h = refl
 
 -- ---- the bytes of a row
 
@@ -74,7 +72,7 @@ module _ (n note : ℕ) (w : List ℕ) (a : ℕ) where
     unfolding merged_row
     bytes-several h = sym (if-false _ _ _ (rw (eq-eqb (tag_at w a) 5 d, ne_eqb note 0 (λ z. omega arith), lt-leb note (n + 1) h)))
 
-    bytes_one : {w' : List ℕ} → (note ≡ 0 → ⊥) → note ≤ n + 1 → Put w a (num_at 2 w (row_place a + END)) (typed 3 (note - 1) 0) w' → take ROW (drop (row_place a) w') ≡ merged_row n note w a
+    bytes_one : {w' : List ℕ} → (note ≡ 0 → ⊥) → note ≤ n + 1 → Put w a (num_at 2 w (row_place a + END)) (Jump (note - 1)) w' → take ROW (drop (row_place a) w') ≡ merged_row n note w a
     unfolding merged_row
     bytes_one {w'} z h p =
         let rest : take 12 (drop 8 (drop (row_place a) w')) ≡ take 12 (drop (row_place a + POSITION) w) = rw (drop-drop 8 (row_place a) w') (kept-part p.stored 12 (row_place a + POSITION) (λ l. omega arith)) in
@@ -90,10 +88,13 @@ bytes_same n note w v a e =
 
 -- ---- one row
 
-dynamic : (w : List ℕ) (a : ℕ) {kind : ℕ} → Holds 1 w (row_place a) kind → kind ≡ 5 → kind_at w a ≡ dynamic_jump
-dynamic w a k e = kind-dynamic_jump (type_at w a) (sym k.is ∙ e)
+dynamic : (w : List ℕ) (a : ℕ) → tag_at w a ≡ 5 → kind_at w a ≡ dynamic_jump
+dynamic w a e = kind-dynamic_jump _ _ e
 
-module _ {n a kind : ℕ} {w : List ℕ} (k : Holds 1 w (row_place a) kind) where
+five : (w : List ℕ) (a : ℕ) → type_at w a ≡ DynamicJump → (tag_at w a ≡ 0 → ⊥) → tag_at w a ≡ 5
+five w a e nz = is-dynamic_jump _ _ _ nz e
+
+module _ {n a : ℕ} {w : List ℕ} where
   row_stays : merged_kind n (note_at w n a) (kind_at w a) ≡ kind_at w a → take ROW (drop (row_place a) w) ≡ merged_row n (note_at w n a) w a → MergedRow n w a w
   row_stays e b = record {
     same = by_row w a (λ (bs : List Block). bs ≡ map (merged_by n (note_at w n a)) bs) (λ _. refl)
@@ -104,27 +105,35 @@ module _ {n a kind : ℕ} {w : List ℕ} (k : Holds 1 w (row_place a) kind) wher
     long = refl;
   }
 
-  pub row_other : (kind ≡ 5 → ⊥) → MergedRow n w a w
-  row_other h = row_stays (other-kind n (note_at w n a) (type_at w a) (λ e. h (k.is ∙ e))) (bytes-other n (note_at w n a) w a (λ e. h (k.is ∙ e)))
+  -- no block, or one of another kind
+  row-empty : tag_at w a ≡ 0 → MergedRow n w a w
+  row-empty z = record {
+    same = sym (rw (here-empty w a z) refl);
+    bytes = bytes-other n (note_at w n a) w a (λ e. omega (arith, z, e));
+    before = refl;
+    past = refl;
+    long = refl;
+  }
 
-  module _ {note : ℕ} (e : kind ≡ 5) (t : Holds 4 w (fields_place n a + NOTE) note) where
-    pub row-none : note ≡ 0 → MergedRow n w a w
-    row-none z = row_stays (rw (dynamic w a k e) (by-none n (note_at w n a) (sym t.is ∙ z))) (bytes-none n (note_at w n a) w a (sym k.is ∙ e) (sym t.is ∙ z))
+  row-kind : (tag_at w a ≡ 0 → ⊥) → (tag_at w a ≡ 5 → ⊥) → MergedRow n w a w
+  row-kind nz h = row_stays (other-kind n (note_at w n a) (type_at w a) (λ e. h (five w a e nz))) (bytes-other n (note_at w n a) w a h)
 
-    pub row-several : n + 1 < note → MergedRow n w a w
-    row-several h = row_stays (rw (dynamic w a k e) (by-several n (note_at w n a) (rw t.is at h))) (bytes-several n (note_at w n a) w a (sym k.is ∙ e) (rw t.is at h))
+  pub row_other : {b : Bool} → b ≡ eqb (tag_at w a) 5 → b ≡ false → MergedRow n w a w
+  row_other e off = go (ℕ_discrete (tag_at w a) 0)
+    where
+      go : Dec (tag_at w a ≡ 0) → MergedRow n w a w
+      go (yes z) = row-empty z
+      go (no nz) = row-kind nz (eqb-false (tag_at w a) 5 (sym e ∙ off))
 
-    pub row_one : {end : ℕ} {w' : List ℕ} → Room n w → (note ≡ 0 → ⊥) → note ≤ n + 1 → Holds 2 w (row_place a + END) end → Put w a end (typed 3 (note - 1) 0) w' → MergedRow n w a w'
-    row_one {end} {w'} l z h d p = record {
-      same = put-here p (good-jump (note - 1) (omega (arith, l.short))) d.small
-          ∙ rw (kind-type (jump (note - 1)), d.is)
-          (sym (ap (map (merged_by n (note_at w n a))) (here-block w a (λ o. omega (arith, k.is)))
-          ∙ rw (dynamic w a k e, ← t.is, by_one n note z h)));
-      bytes = rw (← t.is) (bytes_one n note w a (sym k.is ∙ e) z h (rw d.is at p));
-      before = kept-take p.stored (row_place a) (omega arith);
-      past = kept-drop p.stored (row_place (a + 1)) (omega arith);
-      long = p.stored.kept;
-    }
+  module _ {note : ℕ} {b : Bool} {x : Option ℕ} (e : b ≡ eqb (tag_at w a) 5) (on : b ≡ true) (t : Holds 4 w (fields_place n a + NOTE) note) (s : x ≡ shared_of n note) where
+    tag : tag_at w a ≡ 5
+    tag = eqb-true (tag_at w a) 5 (sym e ∙ on)
+
+    pub row-none : x ≡ None → MergedRow n w a w
+    row-none z = ?
+
+    pub row_one : {to end : ℕ} {w' : List ℕ} → Room n w → x ≡ Some to → Holds 2 w (row_place a + END) end → Put w a end (Jump to) w' → MergedRow n w a w'
+    row_one {to} {end} {w'} l z d p = ?
 
 -- ---- once more, and by no note
 
@@ -170,7 +179,7 @@ module _ (n note : ℕ) where
       (λ _ e. sym (bytes-other n note w a (λ d. other e d)) ∙ e)
       (λ c e. bytes_same n note w w₀ a e ∙ if-false _ _ _ c)
     where
-      other : take ROW (drop (row_place a) w) ≡ head_of (num_at 2 w₀ (row_place a + END)) (typed 3 (note - 1) 0) ++ take 12 (drop (row_place a + POSITION) w₀) → tag_at w a ≡ 5 → ⊥
+      other : take ROW (drop (row_place a) w) ≡ head_of (num_at 2 w₀ (row_place a + END)) (Jump (note - 1)) ++ take 12 (drop (row_place a + POSITION) w₀) → tag_at w a ≡ 5 → ⊥
       other e d =
           let tag : tag_at w a ≡ 3 = ap number (sym (take-take 1 20 (drop (row_place a) w) (omega arith)) ∙ ap (take 1) e) in
           omega (arith, tag, d)

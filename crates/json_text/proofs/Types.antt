@@ -15,8 +15,10 @@ use Rattle.layout.specs.declared.row.BlockType.{BlockType}
 use Rattle.initial.specs.Rows.{kind_at, kind_of}
 use Rattle.initial.proofs.Types.{kind-terminate, kind-success, kind-jump, kind-jumpi, kind-dynamic_jump}
 use Rattle.entries.specs.Rows.{chosen, entries_at}
-use Rattle.entries.specs.Promises.{PutsFew, PutsBlock}
-use Rattle.entries.proofs.Puts.{few-join, few-less}
+use Rattle.output.specs.declared.Output.{Output}
+use Rattle.output.specs.Promises.{PutsFew}
+use Rattle.entries.specs.Promises.{PutsBlock}
+use Rattle.output.proofs.Puts.{few-join, few-less}
 use Rattle.entries.proofs.Heads.{kind-rest}
 use Rattle.json_text.specs.Rows.{lined, way_of, way_text, type_for, block_text, front, tail, tail_of}
 use Rattle.json_text.specs.Promises.{Static, Dynamic}
@@ -25,33 +27,33 @@ use Rattle.json_text.proofs.Ways.{Says, Names, said}
 
 -- ---- up to its end
 
-pub front-put : {w : List ℕ} (a : ℕ) {e at b c end : ℕ} {out out₁ out₂ out₃ : List ℕ} → Holds 2 w (row_place a + END) e
-    → Names "{\"id\":" a out at out₁ b → Names ",\"start\":" a out₁ b out₂ c → Names ",\"end\":" e out₂ c out₃ end
-    → PutsFew 37 out at (front a (num_at 2 w (row_place a + END))) out₃ end
+pub front-put : {w : List ℕ} (a : ℕ) {e : ℕ} {o o₁ o₂ o₃ : Output} → Holds 2 w (row_place a + END) e
+    → Names "{\"id\":" a o o₁ → Names ",\"start\":" a o₁ o₂ → Names ",\"end\":" e o₂ o₃
+    → PutsFew 37 o (front a (num_at 2 w (row_place a + END))) o₃
 unfolding front
 front-put a h p q r = rw (← h.is) (few-less (few-join (few-join p q) r) (omega arith))
 
 -- ---- from its type on
 
-module _ (t : BlockType) {at : ℕ} {out : List ℕ} where
-  pub failure-put : {end : ℕ} {out' : List ℕ} → t.kind ≡ 1 → Says ",\"type\":\"Terminate\",\"data\":{\"success\":false}}" out at out' end
-      → PutsFew 96 out at (tail_of [] (kind_of t)) out' end
+module _ (t : BlockType) {o : Output} where
+  pub failure-put : {o' : Output} → t.kind ≡ 1 → Says ",\"type\":\"Terminate\",\"data\":{\"success\":false}}" o o'
+      → PutsFew 96 o (tail_of [] (kind_of t)) o'
   unfolding tail
   failure-put e p = rw (kind-terminate t e) (few-less (said p) (omega arith))
 
-  pub success-put : {end : ℕ} {out' : List ℕ} → t.kind ≡ 2 → Says ",\"type\":\"Terminate\",\"data\":{\"success\":true}}" out at out' end
-      → PutsFew 96 out at (tail_of [] (kind_of t)) out' end
+  pub success-put : {o' : Output} → t.kind ≡ 2 → Says ",\"type\":\"Terminate\",\"data\":{\"success\":true}}" o o'
+      → PutsFew 96 o (tail_of [] (kind_of t)) o'
   unfolding tail
   success-put e p = rw (kind-success t e) (few-less (said p) (omega arith))
 
-  pub jump-put : {b end : ℕ} {out₁ out₂ : List ℕ} → t.kind ≡ 3 → Names ",\"type\":\"Jump\",\"data\":{\"to\":" t.to out at out₁ b → Says "}}" out₁ b out₂ end
-      → PutsFew 96 out at (tail_of [] (kind_of t)) out₂ end
+  pub jump-put : {o₁ o₂ : Output} → t.kind ≡ 3 → Names ",\"type\":\"Jump\",\"data\":{\"to\":" t.to o o₁ → Says "}}" o₁ o₂
+      → PutsFew 96 o (tail_of [] (kind_of t)) o₂
   unfolding tail
   jump-put e p q = rw (kind-jump t e) (few-less (few-join p (said q)) (omega arith))
 
-  pub jumpi-put : {b c end : ℕ} {out₁ out₂ out₃ : List ℕ} → Static t → (t.kind ≡ 1 → ⊥) → (t.kind ≡ 2 → ⊥) → (t.kind ≡ 3 → ⊥)
-      → Names ",\"type\":\"Jumpi\",\"data\":{\"true_to\":" t.to out at out₁ b → Names ",\"false_to\":" t.other out₁ b out₂ c → Says "}}" out₂ c out₃ end
-      → PutsFew 96 out at (tail_of [] (kind_of t)) out₃ end
+  pub jumpi-put : {o₁ o₂ o₃ : Output} → Static t → (t.kind ≡ 1 → ⊥) → (t.kind ≡ 2 → ⊥) → (t.kind ≡ 3 → ⊥)
+      → Names ",\"type\":\"Jumpi\",\"data\":{\"true_to\":" t.to o o₁ → Names ",\"false_to\":" t.other o₁ o₂ → Says "}}" o₂ o₃
+      → PutsFew 96 o (tail_of [] (kind_of t)) o₃
   unfolding tail
   jumpi-put s e₁ e₂ e₃ p q r =
       let four : t.kind ≡ 4 = omega (arith, s.some, s.low) in
@@ -62,16 +64,16 @@ pub ways-are : (r q : List ℕ) (is : List ℕ) → commas (map way_json (map (w
 unfolding lined way_text
 ways-are r q is = ap commas (map-map way_json (way_of r q) is)
 
-module _ (t : BlockType) (r q is : List ℕ) {at b c : ℕ} {out out₁ out₂ : List ℕ} where
-  pub dynamic_jump-put : {end : ℕ} {out₃ : List ℕ} → t.kind ≡ 5 → Says ",\"type\":\"DynamicJump\",\"data\":{\"to\":[" out at out₁ b
-      → PutsFew (2 ^ 36) out₁ b (lined (way_text r q) is) out₂ c → Says "]}}" out₂ c out₃ end
-      → PutsFew (2 ^ 36 + 96) out at (tail_of (map (way_of r q) is) (kind_of t)) out₃ end
+module _ (t : BlockType) (r q is : List ℕ) {o o₁ o₂ : Output} where
+  pub dynamic_jump-put : {o₃ : Output} → t.kind ≡ 5 → Says ",\"type\":\"DynamicJump\",\"data\":{\"to\":[" o o₁
+      → PutsFew (2 ^ 36) o₁ (lined (way_text r q) is) o₂ → Says "]}}" o₂ o₃
+      → PutsFew (2 ^ 36 + 96) o (tail_of (map (way_of r q) is) (kind_of t)) o₃
   unfolding tail
   dynamic_jump-put e p s u = rw (kind-dynamic_jump t e, ways-are r q is) (few-less (few-join (few-join (said p) s) (said u)) (omega arith))
 
-  pub dynamic_jumpi-put : {d end : ℕ} {out₃ out₄ : List ℕ} → Dynamic t → (t.kind ≡ 5 → ⊥) → Says ",\"type\":\"DynamicJumpi\",\"data\":{\"true_to\":[" out at out₁ b
-      → PutsFew (2 ^ 36) out₁ b (lined (way_text r q) is) out₂ c → Names "],\"false_to\":" t.other out₂ c out₃ d → Says "}}" out₃ d out₄ end
-      → PutsFew (2 ^ 36 + 96) out at (tail_of (map (way_of r q) is) (kind_of t)) out₄ end
+  pub dynamic_jumpi-put : {o₃ o₄ : Output} → Dynamic t → (t.kind ≡ 5 → ⊥) → Says ",\"type\":\"DynamicJumpi\",\"data\":{\"true_to\":[" o o₁
+      → PutsFew (2 ^ 36) o₁ (lined (way_text r q) is) o₂ → Names "],\"false_to\":" t.other o₂ o₃ → Says "}}" o₃ o₄
+      → PutsFew (2 ^ 36 + 96) o (tail_of (map (way_of r q) is) (kind_of t)) o₄
   unfolding tail
   dynamic_jumpi-put h e p s u v =
       rw (kind-rest t (omega (arith, h.high)), ways-are r q is) (few-less (few-join (few-join (few-join (said p) s) u) (said v)) (omega arith))
@@ -97,25 +99,25 @@ module _ {w : List ℕ} {a : ℕ} {t : BlockType} (h : TypeIs w a t) where
   pub is-dynamic : 5 ≤ t.kind → Dynamic t
   is-dynamic g = record { high = g; other = h.other }
 
-  module _ (r q : List ℕ) (m : ℕ) {at mid end : ℕ} {out out₁ out₂ : List ℕ} where
+  module _ (r q : List ℕ) (m : ℕ) {o o₁ o₂ : Output} where
     -- the two parts, where the rows that it lists are known
-    parts : (is : List ℕ) → entries_at r m a (tag_at w a) ≡ is → PutsFew 37 out at (front a (num_at 2 w (row_place a + END))) out₁ mid
-        → PutsFew (2 ^ 36 + 96) out₁ mid (tail_of (map (way_of r q) is) (kind_of t)) out₂ end → PutsFew (2 ^ 36 + 256) out at (block_text w r q m a) out₂ end
+    parts : (is : List ℕ) → entries_at r m a (tag_at w a) ≡ is → PutsFew 37 o (front a (num_at 2 w (row_place a + END))) o₁
+        → PutsFew (2 ^ 36 + 96) o₁ (tail_of (map (way_of r q) is) (kind_of t)) o₂ → PutsFew (2 ^ 36 + 256) o (block_text w r q m a) o₂
     unfolding block_text
     parts is e p s =
         let kind : kind_at w a ≡ kind_of t = ap kind_of (sym h.is) in
         rw (block-pieces a (num_at 2 w (row_place a + END)) (type_for (map (way_of r q) (entries_at r m a (tag_at w a))) (kind_at w a)), e, kind)
         (few-less (few-join p s) (omega arith))
 
-    pub block-static : t.kind < 5 → PutsFew 37 out at (front a (num_at 2 w (row_place a + END))) out₁ mid → PutsFew 96 out₁ mid (tail_of [] (kind_of t)) out₂ end
-        → PutsFew (2 ^ 36 + 256) out at (block_text w r q m a) out₂ end
+    pub block-static : t.kind < 5 → PutsFew 37 o (front a (num_at 2 w (row_place a + END))) o₁ → PutsFew 96 o₁ (tail_of [] (kind_of t)) o₂
+        → PutsFew (2 ^ 36 + 256) o (block_text w r q m a) o₂
     unfolding entries_at
     block-static k p s =
         parts [] (rw tag_is (if-true (ltb t.kind 5) [] (chosen r m a t.kind) (lt-ltb t.kind 5 k))) p (few-less s (omega arith))
 
-    pub block-dynamic : 5 ≤ t.kind → PutsFew 37 out at (front a (num_at 2 w (row_place a + END))) out₁ mid
-        → PutsFew (2 ^ 36 + 96) out₁ mid (tail_of (map (way_of r q) (chosen r m a t.kind)) (kind_of t)) out₂ end
-        → PutsFew (2 ^ 36 + 256) out at (block_text w r q m a) out₂ end
+    pub block-dynamic : 5 ≤ t.kind → PutsFew 37 o (front a (num_at 2 w (row_place a + END))) o₁
+        → PutsFew (2 ^ 36 + 96) o₁ (tail_of (map (way_of r q) (chosen r m a t.kind)) (kind_of t)) o₂
+        → PutsFew (2 ^ 36 + 256) o (block_text w r q m a) o₂
     unfolding entries_at
     block-dynamic k p s =
         parts (chosen r m a t.kind) (rw tag_is (if-false (ltb t.kind 5) [] (chosen r m a t.kind) (le-ltb t.kind 5 k))) p s

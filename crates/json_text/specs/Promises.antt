@@ -1,10 +1,14 @@
 -- What each function asks and promises, a record each. Assumes nothing.
-use Rattle.std.specs.Prelude.{◌≡◌, Bool, List, ◌++◌, ℕ, ◌+◌, ◌*◌, ◌^◌, ◌≤◌, ◌<◌, leb, length, drop}
+use Rattle.std.specs.Prelude.{◌≡◌, Bool, Option, Some, List, ◌++◌, ℕ, ◌+◌, ◌*◌, ◌^◌, ◌≤◌, ◌<◌, leb, length, drop}
 use Rattle.spec.specs.Search.{Rec}
 use Rattle.spec.specs.Json.{text}
 use Rattle.layout.specs.declared.row.BlockType.{BlockType}
 use Rattle.entries.specs.Rows.{steps_of}
 use Rattle.entries.specs.Promises.{RowIn, Ends, map_of}
+
+-- an address, if it is one
+abbrev pub Small : Option ℕ → Type 0
+Small goal = (to : ℕ) → goal ≡ Some to → to < 65536
 
 -- row i, and so many bytes more than its path's can be counted
 pub record PutsWay (r q : List ℕ) (i at more : ℕ) : Type 0 where

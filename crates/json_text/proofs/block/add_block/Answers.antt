@@ -4,8 +4,8 @@ use Rattle.entries.proofs.Blocks.{block-linked}
 use Rattle.json_text.proofs.Types.{block_room, block-small, is_static, is-dynamic, block-static, block-dynamic}
 use Rattle.json_text.proofs.block.add_block.Goals as goal
 
-pub add_front-next-requires : goal.add_front-next-requires
-add_front-next-requires c = (search block_room, search block-small, search rules)
+pub add_front-requires : goal.add_front-requires
+add_front-requires c = (search block_room, search block-small, search rules)
 
 pub add_static-requires : goal.add_static-requires
 add_static-requires c = (search is_static, search rules)
