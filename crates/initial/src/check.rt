@@ -86,10 +86,9 @@ fn checked_jumpi(code: &[u8], w: &[u8], to: usize, other: usize) -> BlockType
         (jumpi to other)) }
 {
     if starts(code, w, other) {
-        falling(code, w, to, other)
-    } else {
-        BlockType::Terminate { success: false }
+        return falling(code, w, to, other);
     }
+    BlockType::Terminate { success: false }
 }
 
 // A Jumpi whose false side starts a block: "otherwise, if its true side starts none or isn't 5B, it becomes a Jump to its false side."

@@ -120,7 +120,7 @@ first_step r by x m i nz h =
     let back : i - 1 + 1 ≡ i = omega arith in
     rw (one, back)
 
-module _ {n m by i : ℕ} {w₀ r₀ w r : List ℕ} (a : Links n m by w₀ r₀) (l : Linking n m by w₀ r₀ w r i) (nz : i ≡ 0 → ⊥) where
+module _ {n m by i : ℕ} {w₀ r₀ w r : List ℕ} (a : Links n m by w₀ r₀) (l : Linking n m by w₀ r₀ w r i) (some : 0 < i) where
   pub link-room : Room n w
   link-room = record { short = a.lent.short; room = omega (arith, a.lent.room, l.heads.long) }
 
@@ -149,10 +149,10 @@ module _ {n m by i : ℕ} {w₀ r₀ w r : List ℕ} (a : Links n m by w₀ r₀
         split : Dec (key_at r₀ by (i - 1) ≡ x) → head_at w' n by x ≡ first_from r₀ by x (i - 1) (m - (i - 1))
         split (yes q) =
             let back : i - 1 + 1 ≡ i = omega arith in
-            rw (first_step r₀ by x m i nz l.inside, if-true (eqb (key_at r₀ by (i - 1)) x) i (first_from r₀ by x i (m - i)) (eq-eqb _ _ q), ← q)
+            rw (first_step r₀ by x m i (λ z. omega arith) l.inside, if-true (eqb (key_at r₀ by (i - 1)) x) i (first_from r₀ by x i (m - i)) (eq-eqb _ _ q), ← q)
             (read_back head-stored (omega (arith, link-few)) ∙ back)
         split (no q) =
-            rw (first_step r₀ by x m i nz l.inside, if-false (eqb (key_at r₀ by (i - 1)) x) i (first_from r₀ by x i (m - i)) (ne_eqb _ _ q), ← l.chains.heads x h)
+            rw (first_step r₀ by x m i (λ z. omega arith) l.inside, if-false (eqb (key_at r₀ by (i - 1)) x) i (first_from r₀ by x i (m - i)) (ne_eqb _ _ q), ← l.chains.heads x h)
             (kept-num head-stored 4 (fields_place n x + (HEADS + by)) (λ g. omega arith))
 
     new-link : (j : ℕ) → i - 1 ≤ j → j < m → link_at r' by j ≡ first_from r₀ by (key_at r₀ by j) (j + 1) (m - (j + 1))
@@ -173,8 +173,8 @@ module _ {n m by i : ℕ} {w₀ r₀ w r : List ℕ} (a : Links n m by w₀ r₀
       links = links-after l.links (link-only a.key.small inside t.link);
     }
 
-pub link-done : {n m by i : ℕ} {w₀ r₀ w r : List ℕ} → Linking n m by w₀ r₀ w r i → i ≡ 0 → Linked n m by w₀ r₀ w r
-link-done l z = record { chains = rw z at l.chains; heads = l.heads; links = l.links }
+pub link-done : {n m by i : ℕ} {w₀ r₀ w r : List ℕ} → Linking n m by w₀ r₀ w r i → i ≤ 0 → Linked n m by w₀ r₀ w r
+link-done {i = i} l h = let z : i ≡ 0 = omega arith in record { chains = rw z at l.chains; heads = l.heads; links = l.links }
 
 -- chains over keys, first rows and links that stay
 pub chains-kept : {n m by : ℕ} {keys w r : List ℕ} (keys' w' r' : List ℕ) → Chains n m by keys w r 0 → ((i : ℕ) → i < m → key_at keys' by i ≡ key_at keys by i)

@@ -18,9 +18,7 @@ pub fn link(w: &mut [u8], size: usize, r: &mut [u8], rows: usize, by: usize)
     requires { Links size rows by w.old r.old }
     ensures { Linked size rows by w.old r.old w.new r.new }
 {
-    let mut row = rows;
-    while row != 0 {
-        row -= 1;
+    for row in (0..rows).rev() {
         link_row(w, size, r, row, by);
     }
 }

@@ -9,5 +9,5 @@ falling-requires c = record { code_in_bounds = search rules; code_value = search
 pub returns-then-starts : goal.returns-then-starts
 returns-then-starts c = search
 
-pub returns-else-starts : goal.returns-else-starts
-returns-else-starts c = search jumpi-ends
+pub returns : goal.returns
+returns c = search jumpi-ends

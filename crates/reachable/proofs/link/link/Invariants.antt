@@ -4,6 +4,3 @@ use Rattle.reachable.proofs.link.link.Given as goal
 
 abbrev pub invariant-loop-row : goal.invariant-loop-row
 invariant-loop-row l = Linking l.size l.rows l.by l.initial.w l.initial.r l.w l.r l.row
-
-abbrev pub decreases-loop-row : goal.decreases-loop-row
-decreases-loop-row l = l.row
