@@ -1,15 +1,16 @@
 -- The contracts leave no choice: two results of one call are the same. Assumes nothing.
-use mathlib.Core.Path.{◌≡◌, sym, ◌∙◌}
+use mathlib.Core.Path.{◌≡◌, refl, sym, ap, ◌∙◌}
 use mathlib.Core.Bool.{Bool}
 use mathlib.Core.List.{List}
 use Prim.Native.Nat.{ℕ, ◌≤◌, ◌<◌}
 use native.Mathlib.Decide.{dec_lt}
 use native.Mathlib.Omega.{arith}
-use Rattle.std.specs.Prelude.{Option}
+use Rattle.std.specs.Prelude.{Option, Some, None}
 use lib.ListN.{length}
 use Rattle.spec.specs.Rooms.{units}
 use Rattle.entries.specs.declared.found.Span.{Span}
-use Rattle.entries.specs.Promises.{Answered, Writes, Written, PathsEnd, PathOf, FitsRoom}
+use Rattle.entries.specs.Links.{link_of}
+use Rattle.entries.specs.Promises.{GoalOf, Answered, Writes, Written, PathsEnd, PathOf, FitsRoom}
 
 pub one-answered : {bs out u v : List ℕ} {a e : Option ℕ} → Answered bs out u a → Answered bs out v e → (a ≡ e) × (u ≡ v)
 one-answered {bs} {out} {u} {v} {a} {e} p q = go (dec_lt (units (length out) 1) (length bs))
@@ -33,3 +34,15 @@ one-path p q =
     let from = p.begins ∙ sym q.begins in
     let steps = p.steps ∙ sym q.steps in
     λ i. record { from = from i; steps = steps i }
+
+pub one-row : {k : ℕ} {x y : Option ℕ} → link_of x ≡ k → link_of y ≡ k → x ≡ y
+one-row {k} {x} {y} p q = go x y (p ∙ sym q)
+  where
+    go : (x y : Option ℕ) → link_of x ≡ link_of y → x ≡ y
+    go None None e = refl
+    go None (Some j) e = absurd (omega arith)
+    go (Some i) None e = absurd (omega arith)
+    go (Some i) (Some j) e = let same : i ≡ j = omega arith in ap Some same
+
+pub one-goal : {r : List ℕ} {i : ℕ} {x y : Option ℕ} → GoalOf r i x → GoalOf r i y → x ≡ y
+one-goal p q = p.is ∙ sym q.is

@@ -4,9 +4,8 @@
 
 mod block;
 mod family;
+pub mod found;
 mod kept;
 mod listing;
 mod row;
-
-pub mod found;
 pub mod whole;

@@ -1,6 +1,6 @@
 // A DynamicJump whose records share one destination becomes a Jump.
 // "A DynamicJump whose entries share one target becomes a Jump."
-ghost use Rattle.std.specs.Prelude.{◌≡◌, ◌≤◌};
+ghost use Rattle.std.specs.Prelude.{◌≡◌, ◌≤◌, ◌<◌};
 ghost use Rattle.reachable.specs.Promises.{Room};
 ghost use Rattle.graph.specs.Notes.{shared_of};
 ghost use Rattle.graph.specs.Promises.{Merges, Notes, MergedRow, Merged, MergedAll};

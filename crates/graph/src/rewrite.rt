@@ -54,5 +54,9 @@ fn edge_to(w: &[u8], start: usize, to: usize) -> usize
     requires to_bound { to < 65536 }
     ensures { EdgeIs w.now start to result }
 {
-    if is_dynamic_jump(w, start) { to } else { NOWHERE }
+    if is_dynamic_jump(w, start) {
+        to
+    } else {
+        NOWHERE
+    }
 }

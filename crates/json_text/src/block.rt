@@ -1,19 +1,19 @@
 // What is put of a block: where it starts and ends, and what its type says.
 // "a list of objects with id, start, end, then type and data, as the attributes in mod.rs say"
-ghost use Rattle.std.specs.Prelude.{◌≡◌, [], map, ◌+◌, ◌*◌, ◌^◌, ◌≤◌, ◌<◌, length};
+ghost use Rattle.std.specs.Prelude.{◌≡◌, map, ◌+◌, ◌*◌, ◌^◌, ◌≤◌, ◌<◌, length};
 ghost use Rattle.lent.specs.Bytes.{num_at};
 ghost use Rattle.layout.specs.Parts.{ROW, row_place};
-ghost use Rattle.layout.specs.Rows.{END, tag_at};
+ghost use Rattle.layout.specs.Rows.{END, tag_at, tag_of};
 ghost use Rattle.initial.specs.Rows.{kind_of};
 ghost use Rattle.output.specs.Promises.{PutsFew};
-ghost use Rattle.entries.specs.Rows.{chosen};
+ghost use Rattle.entries.specs.Rows.{entries_at};
 ghost use Rattle.entries.specs.Promises.{RowsIn, LinkedAt, PutsBlock};
 ghost use Rattle.json_text.specs.Rows.{front, tail_of, way_of, block_text};
-ghost use Rattle.json_text.specs.Promises.{Static, Dynamic};
+ghost use Rattle.json_text.specs.Promises.{Sides};
 
 use crate::listing::add_ways;
 use entries::found::Found;
-use layout::row::{BlockType, DYNAMIC_JUMP, END, JUMP, ROW, SUCCESS, TERMINATE, type_at};
+use layout::row::{BlockType, END, ROW, type_at};
 use lent::get16;
 use output::Output;
 
@@ -27,42 +27,41 @@ fn add_front(w: &[u8], start: usize, output: &mut Output<'_>)
     output.add_named(b",\"end\":", get16(w, ROW * start + END));
 }
 
-// A type that lists no rows.
-fn add_static(block: BlockType, output: &mut Output<'_>)
-    requires { (Static block) × (output.old.end + 96 ≤ 2 ^ 62) }
-    ensures { PutsFew 96 output.old (tail_of [] (kind_of block)) output.new }
-{
-    if block.kind == TERMINATE {
-        return output.add_text(b",\"type\":\"Terminate\",\"data\":{\"success\":false}}");
-    }
-    if block.kind == SUCCESS {
-        return output.add_text(b",\"type\":\"Terminate\",\"data\":{\"success\":true}}");
-    }
-    if block.kind == JUMP {
-        output.add_named(b",\"type\":\"Jump\",\"data\":{\"to\":", block.to);
-        return output.add_text(b"}}");
-    }
-    output.add_named(b",\"type\":\"Jumpi\",\"data\":{\"true_to\":", block.to);
-    output.add_named(b",\"false_to\":", block.other);
-    output.add_text(b"}}");
-}
-
-// A type that does.
-fn add_dynamic(found: &Found<'_>, start: usize, block: BlockType, output: &mut Output<'_>)
+// Its type, and the rows that it lists.
+fn add_type(found: &Found<'_>, start: usize, block: BlockType, output: &mut Output<'_>)
     requires { (LinkedAt found.now.size found.now.rows found.now.w.now found.now.r.now start)
-        × (RowsIn found.now.r.now found.now.q.now found.now.rows) × (Dynamic block) × (output.old.end + 64 ≤ 2 ^ 61) }
+        × (RowsIn found.now.r.now found.now.q.now found.now.rows) × (Sides block) × (output.old.end + 128 ≤ 2 ^ 61) }
     ensures { PutsFew (2 ^ 36 + 96) output.old
-        (tail_of (map (way_of found.now.r.now found.now.q.now) (chosen found.now.r.now found.now.rows start block.kind)) (kind_of block)) output.new }
+        (tail_of (map (way_of found.now.r.now found.now.q.now) (entries_at found.now.r.now found.now.rows start (tag_of block))) (kind_of block)) output.new }
 {
-    if block.kind == DYNAMIC_JUMP {
-        output.add_text(b",\"type\":\"DynamicJump\",\"data\":{\"to\":[");
-        add_ways(found, start, block.kind, output);
-        return output.add_text(b"]}}");
+    match block {
+        BlockType::Terminate { success: false } => {
+            output.add_text(b",\"type\":\"Terminate\",\"data\":{\"success\":false}}");
+        }
+        BlockType::Terminate { success: true } => {
+            output.add_text(b",\"type\":\"Terminate\",\"data\":{\"success\":true}}");
+        }
+        BlockType::Jump { to } => {
+            output.add_named(b",\"type\":\"Jump\",\"data\":{\"to\":", to);
+            output.add_text(b"}}");
+        }
+        BlockType::Jumpi { to, other } => {
+            output.add_named(b",\"type\":\"Jumpi\",\"data\":{\"true_to\":", to);
+            output.add_named(b",\"false_to\":", other);
+            output.add_text(b"}}");
+        }
+        BlockType::DynamicJump => {
+            output.add_text(b",\"type\":\"DynamicJump\",\"data\":{\"to\":[");
+            add_ways(found, start, block, output);
+            output.add_text(b"]}}");
+        }
+        BlockType::DynamicJumpi { other } => {
+            output.add_text(b",\"type\":\"DynamicJumpi\",\"data\":{\"true_to\":[");
+            add_ways(found, start, block, output);
+            output.add_named(b"],\"false_to\":", other);
+            output.add_text(b"}}");
+        }
     }
-    output.add_text(b",\"type\":\"DynamicJumpi\",\"data\":{\"true_to\":[");
-    add_ways(found, start, block.kind, output);
-    output.add_named(b"],\"false_to\":", block.other);
-    output.add_text(b"}}");
 }
 
 // The block at `start`.
@@ -71,10 +70,7 @@ pub fn add_block(found: &Found<'_>, start: usize, output: &mut Output<'_>)
         × (tag_at found.now.w.now start ≡ 0 → ⊥) }
     ensures { PutsFew (2 ^ 36 + 256) output.old (block_text found.now.w.now found.now.r.now found.now.q.now found.now.rows start) output.new }
 {
-    let block = type_at(found.w, start);
+    let block = type_at(found.w, start).unwrap();
     add_front(found.w, start, output);
-    if block.kind < DYNAMIC_JUMP {
-        return add_static(block, output);
-    }
-    add_dynamic(found, start, block, output);
+    add_type(found, start, block, output);
 }

@@ -27,8 +27,7 @@ fn add_map(found: &Found<'_>, output: &mut Output<'_>)
 // What three buffers hold is bytes: told to the proof, where the buffers stand in a struct; nothing is done.
 fn hold_bytes(w: &[u8], r: &[u8], q: &[u8])
     ensures { (Bytes w.now) × (Bytes r.now) × (Bytes q.now) }
-{
-}
+{}
 
 // Whether the text has at most `room` bytes. Energy and choice are no part of it.
 pub fn text_fits(found: &Found<'_>, room: usize) -> bool
@@ -58,10 +57,7 @@ pub fn write_text(found: &Found<'_>, out: &mut [u8]) -> usize
 {
     // Read for its bound: the paths end below 2^32, so that no count passes 64 bits.
     let _ends = found.begin_of(found.rows);
-    let mut output = Output {
-        bytes: out,
-        end: 0,
-    };
+    let mut output = Output { bytes: out, end: 0 };
     add_map(found, &mut output);
     output.end
 }
