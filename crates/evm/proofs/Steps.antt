@@ -84,3 +84,7 @@ module _ (code : List ℕ) (at : ℕ) where
         go : Dec (next code at ≤ length code) → walk (drop at code) at 0 ≡ []
         go (yes h) = let f = whole h in let z : ◌≡◌ {A = ℕ} 0 1 = cc in absurd (omega arith)
         go (no h) = walk_end code at (omega arith)
+
+    -- a step forward leaves less of the code
+    pub less-left : {i : Instruction} → r ≡ Some i → length code - i.next < length code - at
+    less-left w = let k = took w in omega (arith, k.size, k.inside)

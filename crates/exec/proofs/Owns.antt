@@ -14,10 +14,13 @@ use Rattle.spec.specs.Walk.{Ins, ins, walk}
 use Rattle.spec.specs.Stacks.{Sym, Stack, entry, Does, pushes_value, pushes_pc, dups, swaps, ands, adds, jumps, jumpis, lands, halts, plain, does, act, Ran, still, after, runs, before, cells, trims, trim, own}
 use Rattle.lent.proofs.Parts.{take_less}
 use Rattle.lent.proofs.Stored.{kept-take, kept-drop}
-use Rattle.evm.specs.Step.{step_at}
+use Rattle.std.specs.Borrow.{Bor}
+use Rattle.evm.specs.Walker.{walker_at, Walks}
+use Rattle.evm.specs.declared.walker.Walker.{Walker}
 use Rattle.evm.specs.declared.walk.Instruction.{Instruction}
 use Rattle.std.specs.Prelude.{Option, Some, None}
-use Rattle.evm.proofs.Steps.{Took, took, ended}
+use Rattle.evm.proofs.Steps.{Took}
+use Rattle.evm.proofs.Walkers.{walks-took, walks-next, walks-ended}
 use Rattle.state.specs.Cells.{syms_at, Put, depth, Lies}
 use Rattle.state.specs.Symbols.{sym_of}
 use Rattle.exec.specs.Working.{stack_of, end_of, Held}
@@ -128,37 +131,40 @@ module _ (m : ℕ) {k : ℕ} {s : Stack} (b : Bounded k s) (code : List ℕ) (st
 
 -- ---- the loop
 
-pub record Running (mode : ℕ) (code : List ℕ) (start : ℕ) (w₀ : List ℕ) (end : ℕ) (w : List ℕ) (at : ℕ) (t : Top) : Type 0 where
-  pub rest : runs (in_mode mode) code start (walk (drop at code) at 0) (stack_of w t) ≡ runs (in_mode mode) code start (walk (drop start code) start 0) entry
-  pub passed : start ≤ at
-  pub within : at - start ≤ length code
-  pub bounded : Bounded (at - start) (stack_of w t)
+pub record Running (mode : ℕ) (code : List ℕ) (start : ℕ) (w₀ : List ℕ) (end : ℕ) (w : List ℕ) (v : Walker) (t : Top) : Type 0 where
+  pub over : v.code.now ≡ code
+  pub rest : runs (in_mode mode) code start (walk (drop v.at code) v.at 0) (stack_of w t) ≡ runs (in_mode mode) code start (walk (drop start code) start 0) entry
+  pub passed : start ≤ v.at
+  pub within : v.at - start ≤ length code
+  pub bounded : Bounded (v.at - start) (stack_of w t)
   pub held : Held w t
   pub ends : end_of t ≡ end
   pub inside : Inside code w₀ end w
 
 module _ {mode : ℕ} {code : List ℕ} {start : ℕ} {w₀ : List ℕ} {end : ℕ} (q : Runs code w₀ end) where
-  pub running-start : Running mode code start w₀ end w₀ start (record { at = end - 9; n = 0; base = 0 })
+  pub running-start : {v : Walker} {b : Bor (List ℕ)} → v ≡ walker_at b start → b.now ≡ code → Running mode code start w₀ end w₀ v (record { at = end - 9; n = 0; base = 0 })
   unfolding stack_of
-  running-start =
+  running-start {v} e f =
+      let p : v.at ≡ start = ap (λ (u : Walker). u.at) e in
       let none : syms_at w₀ (end - 9) 0 ≡ [] = syms-none w₀ (end - 9) in
       let z : start - start ≡ 0 = omega arith in
       record {
-        rest = rw none;
+        over = ap (λ (u : Walker). u.code.now) e ∙ f;
+        rest = rw (p, none);
         passed = omega arith;
         within = omega arith;
-        bounded = rw (none, z) bounded-entry;
+        bounded = rw (p, none, z) bounded-entry;
         held = record { inside = omega (arith, q.inside, q.room); cells = cells-none (omega (arith, q.inside)) };
         ends = omega (arith, q.room);
         inside = record { front = refl; back = refl; kept = refl };
       }
 
-  module _ {w : List ℕ} {at : ℕ} {t : Top} (l : Running mode code start w₀ end w at t) where
+  module _ {w : List ℕ} {v v' : Walker} {t : Top} (l : Running mode code start w₀ end w v t) {r : Option Instruction} (s : Walks v r v') where
     -- at the end of the code
-    pub ended-none : {r : Option Instruction} → r ≡ step_at code at → r ≡ None → ToEnd mode code start w₀ end w (record { top = t; goes = None })
-    ended-none e f =
+    pub ended-none : r ≡ None → ToEnd mode code start w₀ end w (record { top = t; goes = None })
+    ended-none f =
         record {
-          is = rw (ended code at e f) at l.rest;
+          is = rw (rw l.over at (walks-ended s f)) at l.rest;
           bounded = bounded-later l.within l.bounded;
           near = omega arith;
           held = l.held;
@@ -166,9 +172,9 @@ module _ {mode : ℕ} {code : List ℕ} {start : ℕ} {w₀ : List ℕ} {end : �
           inside = l.inside;
         }
 
-    module _ {now : Instruction} {r : Option Instruction} (e : r ≡ step_at code at) (f : r ≡ Some now) where
-      took-here : Took code at now.pc now.op now.next
-      took-here = took code at e f
+    module _ {now : Instruction} (f : r ≡ Some now) where
+      took-here : Took code v.at now.pc now.op now.next
+      took-here = rw l.over at (walks-took s f)
 
       pub running-steps : Steps code now.pc now.op w t
       unfolding stack_of
@@ -183,13 +189,10 @@ module _ {mode : ℕ} {code : List ℕ} {start : ℕ} {w₀ : List ℕ} {end : �
             low = omega (arith, l.bounded.low, k.here);
           }
 
-      pub running-less : length code - now.next < length code - at
-      running-less = let k = took-here in omega (arith, k.size, k.inside)
-
       -- after one more
       module _ {w' : List ℕ} {x : Stepped} (bytes : (j : ℕ) → Fits w8 (get_or code j 0)) (d : Turns w t (next mode code start (ins now.pc now.op (drop (now.pc + 1) code)) (stack_of w t)) w' x) (kept : length w' ≡ length w) where
         i : Ins
-        i = ins at now.op (drop (at + 1) code)
+        i = ins v.at now.op (drop (v.at + 1) code)
 
         due : next_of w' x ≡ next mode code start i (stack_of w t)
         unfolding i
@@ -204,14 +207,14 @@ module _ {mode : ℕ} {code : List ℕ} {start : ℕ} {w₀ : List ℕ} {end : �
             ∙ l.rest
 
         small : now.op < 0x100
-        small = omega (arith, took-here.byte, bytes at)
+        small = omega (arith, took-here.byte, bytes v.at)
 
         later : Bounded (now.next - start) (stack_of w' (top_of x))
         unfolding i
         later =
             let k = took-here in
             let b = bounded-next mode l.bounded code start i small in
-            let m : suc (at - start) ≤ now.next - start = omega (arith, k.size, l.passed) in
+            let m : suc (v.at - start) ≤ now.next - start = omega (arith, k.size, l.passed) in
             rw (← stack-in w' x, due) (bounded-later m b)
 
         within : now.next - start ≤ length code
@@ -229,13 +232,15 @@ module _ {mode : ℕ} {code : List ℕ} {start : ℕ} {w₀ : List ℕ} {end : �
               kept = kept ∙ l.inside.kept;
             }
 
-        pub running-on : {u : Top} → x ≡ On u → Running mode code start w₀ end w' now.next u
+        pub running-on : {u : Top} → x ≡ On u → Running mode code start w₀ end w' v' u
         running-on {u} g =
+            let p : v'.at ≡ now.next = ap (λ (u : Walker). u.at) (walks-next s f) in
             record {
-              rest = rw g at rest;
-              passed = omega (arith, l.passed, took-here.size);
-              within = within;
-              bounded = rw g at later;
+              over = ap (λ (u : Walker). u.code.now) (walks-next s f) ∙ l.over;
+              rest = rw p (rw g at rest);
+              passed = omega (arith, p, l.passed, took-here.size);
+              within = omega (arith, p, within);
+              bounded = rw p (rw g at later);
               held = rw g at d.moves.held;
               ends = rw g at d.moves.ends ∙ l.ends;
               inside = inside;

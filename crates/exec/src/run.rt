@@ -10,7 +10,7 @@ ghost use Rattle.exec.specs.Owns.{Runs, ToEnd, Trims, Owned};
 use crate::mode::Mode;
 use crate::step::{Stepped, step};
 use crate::top::Top;
-use evm::walk::{Instruction, step_at};
+use evm::walker::Walker;
 use state::cell::{get_cell, put_cell};
 use state::sym::StackSym;
 
@@ -34,18 +34,14 @@ fn to_end(mode: Mode, code: &[u8], start: usize, w: &mut [u8], end: usize) -> En
     requires { Runs code.now w.old end }
     ensures { ToEnd (mode_of mode) code.now start w.old end w.new result }
 {
-    let mut at = start;
     let mut top = Top {
         at: end - 9,
         n: 0,
         base: 0,
     };
-    while let Some(Instruction { pc, op, next }) = step_at(code, at) {
-        match step(mode, code, start, pc, op, w, top) {
-            Stepped::On(after) => {
-                top = after;
-                at = next;
-            }
+    for instruction in Walker::new(code, start) {
+        match step(mode, code, start, instruction.pc, instruction.op, w, top) {
+            Stepped::On(after) => top = after,
             Stepped::Ends(after) => {
                 return End {
                     top: after,

@@ -5,7 +5,7 @@ use mathlib.Core.List.{List, [], ◌∷◌}
 use Prim.Native.Nat.{ℕ, ◌≤◌}
 use lib.Dec.{eqb}
 use borrow.Author.Tests.{eqb-true, eq-eqb, ne_eqb}
-use Rattle.std.specs.Prelude.{Option, Some, None}
+use Rattle.std.specs.Prelude.{Option, Some, None, option_to_list}
 use Rattle.spec.specs.Lists.{if, mem}
 use Rattle.spec.specs.Search.{sides}
 use Rattle.laws.proofs.Branch.{both, if-true, if-false}
@@ -15,7 +15,7 @@ use Rattle.layout.specs.declared.row.BlockType.{BlockType}
 use Rattle.layout.specs.declared.row.BlockType.TheVariants.{Terminate, Jump, Jumpi, DynamicJump, DynamicJumpi}
 use Rattle.layout.proofs.Types.{row-none, row-some}
 use Rattle.initial.specs.Rows.{kind_of}
-use Rattle.reachable.specs.Edges.{sides_at, targets, SidesOf}
+use Rattle.reachable.specs.Edges.{sides_at, SidesOf}
 use Rattle.reachable.specs.Promises.{SidesWithin, SideWithin}
 use Rattle.reachable.proofs.Tests.{mem-one}
 use Rattle.reachable.proofs.Rows.{sides-of}
@@ -60,10 +60,10 @@ module _ {w : List ℕ} {x : ℕ} {o : Option BlockType} (r : TypeIs w x o) wher
 
 module _ {n x : ℕ} {w : List ℕ} {to other : Option ℕ} (s : SidesWithin w n) (h : x ≤ n) (p : SidesOf w x to other) where
   pub to-within : SideWithin n to
-  to-within = record { within = λ t i. s.within x t h (p.same t ∙ mem-append t (targets to) (targets other) ∙ rw i) }
+  to-within = record { within = λ t i. s.within x t h (p.same t ∙ mem-append t (option_to_list to) (option_to_list other) ∙ rw i) }
 
   pub other-within : SideWithin n other
-  other-within = record { within = λ t i. s.within x t h (p.same t ∙ mem-append t (targets to) (targets other) ∙ rw (i, or-true (mem t (targets to)))) }
+  other-within = record { within = λ t i. s.within x t h (p.same t ∙ mem-append t (option_to_list to) (option_to_list other) ∙ rw (i, or-true (mem t (option_to_list to)))) }
 
 -- a side that there is
 pub within-some : {n t : ℕ} {side : Option ℕ} → SideWithin n side → side ≡ Some t → t ≤ n

@@ -8,7 +8,7 @@ use native.Mathlib.Decide.{ℕ_discrete}
 use native.Mathlib.Omega.{arith}
 use lib.Dec.{eqb, leb}
 use borrow.Author.Tests.{le-leb, lt-leb, eqb-true, eqb-false, eq-eqb, ne_eqb, leb-true, leb-false}
-use Rattle.std.specs.Prelude.{Option, Some, None}
+use Rattle.std.specs.Prelude.{Option, Some, None, option_to_list}
 use Rattle.spec.specs.Lists.{if, mem, little}
 use Rattle.laws.proofs.Branch.{both, if-true, if-false, and_right, and-false}
 use Rattle.laws.proofs.Members.{mem-append, and_both, or_cases}
@@ -19,7 +19,7 @@ use Rattle.lent.proofs.Stored.{kept-take, kept-drop, kept-part, kept-num, read_b
 use Rattle.layout.specs.Fields.{HIGHEST, FLAG, LAST, HEADS, mark_at, high_at, flag_at, entry_at}
 use Rattle.layout.specs.Parts.{rows_end, fields_place, list_place, entry_place, buckets_place, SameRows}
 use Rattle.reachable.specs.Marks.{flagged, entries, remark}
-use Rattle.reachable.specs.Edges.{sides_at, targets, SidesOf}
+use Rattle.reachable.specs.Edges.{sides_at, SidesOf}
 use Rattle.reachable.specs.Promises.{Room, Address, SideWithin, Kept, KeptBut, Marked, Top, Highest, raised, Raised, Took}
 use Rattle.reachable.proofs.Tests.{not-both, decided, mem-one}
 use Rattle.reachable.proofs.Flags.{flagged-same}
@@ -142,17 +142,17 @@ pub raises-side : {n t : ℕ} {w : List ℕ} {side : Option ℕ} → Room n w �
 raises-side l s e = record { lent = l; inside = within-some s e }
 
 module _ {n a : ℕ} {w : List ℕ} {side : Option ℕ} where
-  pub raised-side : {t : ℕ} {w' : List ℕ} → side ≡ Some t → Raised n (t ∷ []) w a w' → Raised n (targets side) w a w'
+  pub raised-side : {t : ℕ} {w' : List ℕ} → side ≡ Some t → Raised n (t ∷ []) w a w' → Raised n (option_to_list side) w a w'
   raised-side e p = rw e p
 
-  pub raised-no-side : side ≡ None → Raised n (targets side) w a w
+  pub raised-no-side : side ≡ None → Raised n (option_to_list side) w a w
   raised-no-side e = rw e raised-none
 
 pub raised-room : {n a : ℕ} {ts w w₁ : List ℕ} → Address n w a → Raised n ts w a w₁ → Room n w₁
 raised-room g t = record { short = g.lent.short; room = omega (arith, g.lent.room, t.long) }
 
-module _ {n a : ℕ} {w : List ℕ} {to other : Option ℕ} (p : SidesOf w a to other) {w₁ : List ℕ} (t : Raised n (targets to) w a w₁) where
-  pub raised-both : {w₂ : List ℕ} → Raised n (targets other) w₁ a w₂ → Raised n (sides_at w a) w a w₂
+module _ {n a : ℕ} {w : List ℕ} {to other : Option ℕ} (p : SidesOf w a to other) {w₁ : List ℕ} (t : Raised n (option_to_list to) w a w₁) where
+  pub raised-both : {w₂ : List ℕ} → Raised n (option_to_list other) w₁ a w₂ → Raised n (sides_at w a) w a w₂
   raised-both o = raised-same (sides_at w a) (raised-after t o) p.same
 
 -- ---- they are right

@@ -1,5 +1,5 @@
 -- The static edges of the blocks that stand in the rows of W. Assumes nothing.
-use Rattle.std.specs.Prelude.{◌≡◌, List, [], ◌∷◌, ◌++◌, map, ℕ, Option, Some, None}
+use Rattle.std.specs.Prelude.{◌≡◌, List, ◌++◌, map, ℕ, Option, option_to_list}
 use Rattle.spec.specs.Lists.{gather, mem}
 use Rattle.spec.specs.Blocks.{Block}
 use Rattle.spec.specs.Reach.{Edge, edge}
@@ -10,14 +10,9 @@ use Rattle.initial.specs.Rows.{row_blocks, blocks_at}
 unfoldable pub sides_at : List ℕ → ℕ → List ℕ
 sides_at w a = gather (λ (b : Block). sides b.kind) (row_blocks w a)
 
--- a side, if there is one
-abbrev pub targets : Option ℕ → List ℕ
-targets None = []
-targets (Some t) = t ∷ []
-
 -- the two are the static sides of the block that starts at an address; equal sides count once, and none are where no block starts
 pub record SidesOf (w : List ℕ) (a : ℕ) (to other : Option ℕ) : Type 0 where
-  pub same : (t : ℕ) → mem t (sides_at w a) ≡ mem t (targets to ++ targets other)
+  pub same : (t : ℕ) → mem t (sides_at w a) ≡ mem t (option_to_list to ++ option_to_list other)
 
 -- the edges of blocks, as the search has them
 unfoldable pub block_edges : List Block → List Edge

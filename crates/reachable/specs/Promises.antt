@@ -1,5 +1,5 @@
 -- What each function asks and promises, a record each. Assumes nothing.
-use Rattle.std.specs.Prelude.{◌≡◌, Bool, true, not, ◌&&◌, ◌||◌, List, [], ◌∷◌, ◌++◌, ℕ, ◌+◌, ◌≤◌, ◌<◌, eqb, leb, length, replicate, Option}
+use Rattle.std.specs.Prelude.{◌≡◌, Bool, true, not, ◌&&◌, ◌||◌, List, [], ◌∷◌, ◌++◌, ℕ, ◌+◌, ◌≤◌, ◌<◌, eqb, leb, length, replicate, Option, option_to_list}
 use Rattle.spec.specs.Lists.{if, mem, little}
 use Rattle.spec.specs.Reach.{closure}
 use Rattle.spec.specs.Rooms.{longest, work_need}
@@ -7,7 +7,7 @@ use Rattle.lent.specs.Bytes.{Stored, patch}
 use Rattle.layout.specs.Fields.{HIGHEST, FLAG, LAST, HEADS, mark_at, high_at, flag_at}
 use Rattle.layout.specs.Parts.{rows_end, fields_place, SameRows, SameStart, SameFields, PastFields, PastList}
 use Rattle.reachable.specs.Marks.{flagged, entries, wiped, remark}
-use Rattle.reachable.specs.Edges.{sides_at, targets, row_edges}
+use Rattle.reachable.specs.Edges.{sides_at, row_edges}
 
 -- ---- what is asked
 
@@ -107,7 +107,7 @@ pub record Going (n : ℕ) (w : List ℕ) (x when count : ℕ) : Type 0 where
 
 -- a side is an address, if there is one
 pub record SideWithin (n : ℕ) (side : Option ℕ) : Type 0 where
-  pub within : (t : ℕ) → mem t (targets side) ≡ true → t ≤ n
+  pub within : (t : ℕ) → mem t (option_to_list side) ≡ true → t ≤ n
 
 -- what following a side asks
 pub record GoingSide (n : ℕ) (w : List ℕ) (side : Option ℕ) (when count : ℕ) : Type 0 where
@@ -116,12 +116,12 @@ pub record GoingSide (n : ℕ) (w : List ℕ) (side : Option ℕ) (when count : 
   pub small : when < 4294967296
   pub few : count ≤ length (flagged w n)
 
--- Some targets were taken, over what was got and what waited: those that are new wait.
+-- Some option_to_list were taken, over what was got and what waited: those that are new wait.
 pub record More (ts old todo got todo' : List ℕ) : Type 0 where
   pub all : (y : ℕ) → mem y got ≡ mem y ts || mem y old
   pub waits : (y : ℕ) → mem y todo' ≡ (mem y got && not (mem y old)) || mem y todo
 
--- Some targets were taken in W: those that were not flagged are now, are marked, and wait in the worklist.
+-- Some option_to_list were taken in W: those that were not flagged are now, are marked, and wait in the worklist.
 pub record Took (n when : ℕ) (ts w : List ℕ) (count : ℕ) (w' : List ℕ) (count' : ℕ) : Type 0 where
   pub more : More ts (flagged w n) (entries w n count) (flagged w' n) (entries w' n count')
   pub sets : Sets n when w w'

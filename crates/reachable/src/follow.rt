@@ -1,11 +1,11 @@
 // The worklist, and what is followed from one address.
 // "`HashSet` of addresses: marks in W."
-ghost use Rattle.std.specs.Prelude.{◌≡◌, [], ◌∷◌, ◌+◌, ◌*◌, ◌-◌, ◌≤◌, ◌<◌};
+ghost use Rattle.std.specs.Prelude.{◌≡◌, [], ◌∷◌, ◌+◌, ◌*◌, ◌-◌, ◌≤◌, ◌<◌, option_to_list};
 ghost use Rattle.spec.specs.Lists.{little};
 ghost use Rattle.lent.specs.Bytes.{Stored};
 ghost use Rattle.layout.specs.Fields.{entry_at};
 ghost use Rattle.layout.specs.Parts.{entry_place};
-ghost use Rattle.reachable.specs.Edges.{sides_at, targets};
+ghost use Rattle.reachable.specs.Edges.{sides_at};
 ghost use Rattle.reachable.specs.Promises.{Room, Going, GoingSide, SidesWithin, Took};
 
 use crate::fields::mark;
@@ -51,7 +51,7 @@ pub fn enter(w: &mut [u8], size: usize, address: usize, when: usize, count: usiz
 // Takes a side, if there is one.
 fn enter_side(w: &mut [u8], size: usize, side: Option<usize>, when: usize, count: usize) -> usize
     requires { GoingSide size w.old side when count }
-    ensures { Took size when (targets side) w.old count w.new result }
+    ensures { Took size when (option_to_list side) w.old count w.new result }
 {
     match side {
         Some(to) => enter(w, size, to, when, count),

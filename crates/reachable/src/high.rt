@@ -1,8 +1,8 @@
 // The highest direct parent of each address that is marked, as a link: no direct parent past it is.
 // "for every static side (equal sides once), of a DynamicJumpi the false side only."
-ghost use Rattle.std.specs.Prelude.{◌≡◌, [], ◌∷◌, ◌≤◌};
+ghost use Rattle.std.specs.Prelude.{◌≡◌, [], ◌∷◌, ◌≤◌, option_to_list};
 ghost use Rattle.layout.specs.Fields.{high_at};
-ghost use Rattle.reachable.specs.Edges.{sides_at, targets};
+ghost use Rattle.reachable.specs.Edges.{sides_at};
 ghost use Rattle.reachable.specs.Promises.{Room, Address, SideWithin, SidesWithin, Raised};
 
 use crate::sides::sides;
@@ -36,7 +36,7 @@ fn raise_side(w: &mut [u8], size: usize, side: Option<usize>, start: usize)
     requires room { Room size w.old }
     requires side_within { SideWithin size side }
     requires start_le_size { start ≤ size }
-    ensures { Raised size (targets side) w.old start w.new }
+    ensures { Raised size (option_to_list side) w.old start w.new }
 {
     if let Some(to) = side {
         raise(w, size, to, start);

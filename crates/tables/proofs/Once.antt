@@ -17,7 +17,7 @@ use Rattle.tables.specs.Rows.{shelf_at, Stamped, Pushed}
 use Rattle.tables.specs.Mets.{Memorized, Emptied}
 use Rattle.tables.specs.declared.Rooms.{Rooms}
 use Rattle.tables.specs.declared.Counts.{Counts}
-use Rattle.tables.specs.declared.Reply.{Reply}
+use Rattle.tables.specs.Replies.{Reply}
 use Rattle.tables.specs.declared.row.Seen.{Seen}
 use Rattle.tables.proofs.Chains.{keyed, newest-same}
 use Rattle.tables.proofs.Shelves.{tells-stamp, shelf-same}
