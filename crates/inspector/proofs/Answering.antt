@@ -1,24 +1,21 @@
 -- The inspector's answers and refusals. Assumes nothing.
 use Prim.Native.Nat.{ℕ, ◌+◌, ◌*◌, ◌≤◌, ◌<◌}
 use native.Mathlib.Omega.{arith}
-use native.Mathlib.Nat.{zero-add}
 use mathlib.Core.Path.{◌≡◌, refl, sym, ap, subst, ◌∙◌}
 use mathlib.Core.Bool.{Bool, true, false}
 use mathlib.Core.List.{List, [], ◌∷◌, ◌++◌}
-use lib.Dec.{eqb, leb, ltb}
+use lib.Dec.{leb, ltb}
 use lib.ListN.{length, take, drop, replicate, length-replicate}
 use lib.Seq.{take-append_seam, drop-append_seam}
 use borrow.Author.Tests.{lt-ltb, le-ltb, ltb-false, le-leb, lt-leb}
-use Rattle.std.specs.Prelude.{Result, Ok, Err, IsErr, IsErrAnd, MatchResult}
+use Rattle.std.specs.Prelude.{Result, Ok, Err, IsErr, IsErrAnd}
 use Rattle.spec.specs.Lists.{if, little}
 use Rattle.spec.specs.Opcodes.{Rules, in_mode}
 use Rattle.spec.specs.Rooms.{longest, work_need}
-use Rattle.spec.specs.Entries.{Map}
 use Rattle.spec.specs.Reader.{Reading as Said, holds, bad, read}
 use Rattle.spec.specs.Inspector.{Inspection, refused, bad_entry, not_right, accepted, WrongPath, first_of, wrong_from, looks_at, inspect_from, inspect, number_of, value_of, place_after, rows, rows_after, work_after}
 use Rattle.laws.proofs.Branch.{both, if-true, if-false}
 use Rattle.theorems.proofs.ReaderPlaces.{never}
-use Rattle.lent.specs.Bytes.{patch, Stored}
 use Rattle.lent.proofs.Numbers.{length-little}
 use Rattle.reader.specs.Shapes.{from}
 use Rattle.reader.specs.Scanning.{reading_of}

@@ -1,17 +1,14 @@
 -- A block of a path is sound: its run, one instruction after the other, meets no unknown byte. Assumes nothing.
-use Prim.Native.Nat.{ℕ, ◌-◌, ◌≤◌, ◌<◌}
-use native.Mathlib.Omega.{arith}
+use Prim.Native.Nat.{ℕ, ◌≤◌, ◌<◌}
 use mathlib.Core.Path.{◌≡◌, refl, sym, ap, subst, ◌∙◌}
 use mathlib.Core.Bool.{Bool, true, false, ◌&&◌, ◌||◌, not}
 use mathlib.Core.List.{List, []}
-use lib.Dec.{eqb}
 use lib.ListN.{length, drop}
-use borrow.Author.Tests.{ne_eqb, lt-ltb, le-ltb}
+use borrow.Author.Tests.{lt-ltb, le-ltb}
 use Rattle.std.specs.Prelude.{Option, Some, None}
 use Rattle.std.specs.Borrow.{Bor}
 use Rattle.spec.specs.Walk.{walk}
 use Rattle.spec.specs.Opcodes.{row}
-use Rattle.spec.specs.Meaning.{closing}
 use Rattle.spec.specs.PathMeaning.{all_known}
 use Rattle.spec.specs.Inspector.{sound}
 use Rattle.evm.specs.Walker.{walker_at, Walks}

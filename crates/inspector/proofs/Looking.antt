@@ -1,22 +1,20 @@
 -- A symbol looked up in a block's own run. Assumes nothing.
 use Prim.Native.Nat.{ℕ, ◌+◌, ◌*◌, ◌^◌, ◌≤◌, ◌<◌}
 use native.Mathlib.Omega.{arith}
-use mathlib.Core.Path.{◌≡◌, refl, sym, ap, ◌∙◌}
-use mathlib.Core.Bool.{false}
+use mathlib.Core.Path.{◌≡◌, refl, sym, ◌∙◌}
 use mathlib.Core.List.{List}
-use lib.Dec.{eqb}
 use lib.ListN.{length}
 use Rattle.spec.specs.Opcodes.{in_mode}
-use Rattle.spec.specs.Stacks.{jumpdest, read, through, own, eq_sym}
+use Rattle.spec.specs.Stacks.{read, through, own}
 use Rattle.state.specs.Symbols.{sym_of}
 use Rattle.state.specs.Cells.{stack_at, depth, reach}
 use Rattle.state.specs.Stored.{Readable}
-use Rattle.exec.specs.Owns.{goes_of, far, Runs, Owned}
+use Rattle.exec.specs.Owns.{Runs, Owned}
 use Rattle.state.specs.declared.sym.StackSym.{StackSym}
 use Rattle.state.specs.declared.sym.StackSym.TheVariants.{Before, Constant, Jumpdest, Other}
 use Rattle.exec.specs.declared.run.Own.{Own}
 use Rattle.state.proofs.Reach.{depth-read}
-use Rattle.inspector.specs.Symbols.{Lent, step, taken_of, Taken, Looks, Looked}
+use Rattle.inspector.specs.Symbols.{Lent, step, Looks, Looked}
 
 module _ {code w : List ℕ} (l : Lent code w) where
   pub run-asks : Runs code w (64 * length code + 256)

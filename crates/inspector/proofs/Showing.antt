@@ -4,12 +4,11 @@ use native.Mathlib.Omega.{arith}
 use native.Mathlib.Decide.{dec_le}
 use native.Mathlib.Nat.{le_refl}
 use mathlib.Core.Path.{◌≡◌, refl, sym, ap, subst, ◌∙◌}
-use mathlib.Core.Bool.{Bool, true, false, not}
+use mathlib.Core.Bool.{Bool, true, false}
 use mathlib.Core.Option.{Option, none, some}
 use mathlib.Core.List.{List, ◌∷◌}
 use lib.Dec.{leb}
 use lib.ListN.{length, take, drop}
-use borrow.Author.Tests.{leb-true, leb-false}
 use Rattle.std.specs.Prelude.{Option as Maybe, Some, None, unwrap_or, Result, Ok, Err}
 use Rattle.spec.specs.Lists.{if}
 use Rattle.spec.specs.Opcodes.{in_mode}
@@ -17,7 +16,6 @@ use Rattle.spec.specs.Forms.{wide_in, announced, entry, sort}
 use Rattle.spec.specs.Reader.{Item, item_for, items, addresses}
 use Rattle.spec.specs.BadEntries.{Whole}
 use Rattle.spec.specs.Inspector.{fault, PathEntry, shows, path_entries, WrongPath, or_next, all_wrong, since}
-use Rattle.laws.proofs.Branch.{both}
 use Rattle.theorems.proofs.Bytes.{Bytes}
 use Rattle.theorems.proofs.ReaderPlaces.{never}
 use Rattle.reader.specs.Dests.{found_of}

@@ -10,13 +10,13 @@ use lent::put64;
 use reader::{Step, next};
 
 // Writes the row of a block that starts there and stands at an offset, if the code has the address; of another entry nothing.
-fn note(map: &[u8], code: &[u8], w: &mut [u8], start: Option<usize>, at: usize)
-    requires at_in_bounds { at < length map.now }
-    requires lent { Lent code.now w.old }
-    ensures { Noted code.now w.old start at w.new }
+fn note(replay: Replay, w: &mut [u8], start: Option<usize>, at: usize)
+    requires at_in_bounds { at < length replay.map.now }
+    requires lent { Lent replay.code.now w.old }
+    ensures { Noted replay.entry.code.now w.old start at w.new }
 {
     if let Some(start) = start {
-        if start < code.len() {
+        if start < replay.code.len() {
             put64(w, 8 * start, at + 1);
         }
     }
@@ -29,7 +29,7 @@ pub fn fill(replay: Replay, w: &mut [u8])
 {
     let mut at = 0;
     while let Some(Step { entry, behind }) = next(replay.map, at) {
-        note(replay.map, replay.code, w, start_of(entry), at);
+        note(replay, w, start_of(entry), at);
         at = behind;
     }
 }

@@ -40,10 +40,10 @@ fn along(
         if !is_sound(replay.code, start) {
             return Err(place);
         }
-        if !joined(replay.map, replay.code, w, start, last) {
+        if !joined(replay, w, start, last) {
             return Err(place);
         }
-        found = looked(replay.mode, replay.code, w, start, found);
+        found = looked(replay, w, start, found);
         last = start;
     }
     if is_jumpdest(found, path.to) {
@@ -68,6 +68,6 @@ pub fn judge(replay: Replay, w: &mut [u8], owner: usize, path: Path) -> Result<(
     if owner != first {
         return Err(0);
     }
-    let symbol = taken(replay.mode, replay.code, w, first);
+    let symbol = taken(replay, w, first);
     along(replay, w, path, first, symbol)
 }

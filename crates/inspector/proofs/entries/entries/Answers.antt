@@ -1,6 +1,5 @@
 -- `entries` meets its contract: each way out is a law of its own. Assumes nothing.
 use Rattle.theorems.proofs.Bytes.{Bytes}
-use borrow.Author.Rules.{rules}
 use Rattle.inspector.proofs.Showing.{looking-start, looking-tables, looking-path, looking-less, looking-right, looking-wrong, looking-of, looking-over}
 use Rattle.inspector.proofs.entries.entries.Goals as goal
 

@@ -1,5 +1,4 @@
 -- `rest` meets its contract: each way out is a law of its own. Assumes nothing.
-use borrow.Author.Rules.{rules}
 use Rattle.inspector.proofs.Rowing.{rest-start, rest-walking, rest-tables, rest-within, rest_over, rest-less, rest-full, rest_sum, rest-on}
 use Rattle.inspector.proofs.list.rest.Goals as goal
 

@@ -1,5 +1,5 @@
 use Rattle.follow.proofs.Passing.{one-none, one-some, row-none, row-walking, row_at, row-over}
-use Rattle.follow.proofs.find.row.Goals as goal
+use Rattle.follow.proofs.find.Finder.row.Goals as goal
 
 pub returns-in_err-own : goal.returns-in_err-own
 returns-in_err-own c = rw c.from_residual.ensures (row-none c.requires.indexed c.requires.start_lt_rows c.get64.ensures (one-none c.checked_sub.ensures c.in_err-own.was))
