@@ -8,8 +8,8 @@ returns-then-size-gt-LONGEST c = search first-long
 pub returns-then-limit-gt500000 : goal.returns-then-limit-gt500000
 returns-then-limit-gt500000 c = search first-over
 
-pub returns-then-mode-gt1 : goal.returns-then-mode-gt1
-returns-then-mode-gt1 c = search first-moded
+pub returns-in_err-taken : goal.returns-in_err-taken
+returns-in_err-taken c = search first-moded
 
 pub returns-then-lent-need_of : goal.returns-then-lent-need_of
 returns-then-lent-need_of c = search first-scant
