@@ -42,7 +42,6 @@ const DYNAMIC_JUMP: usize = 5;
 const DYNAMIC_JUMPI: usize = 6;
 
 // A block's type: where it goes (the true side), and its false side, as far as it has them.
-// "Each block's type: Terminate, Jump, Jumpi, DynamicJump, DynamicJumpi"
 #[derive(Clone, Copy, PartialEq, Eq)]
 pub enum BlockType {
     Terminate { success: bool },

@@ -63,7 +63,7 @@ sets-fresh {n} {w'} e m f s = record {
     first true = refl
     first false = refl
 
--- ---- option_to_list, one step after the other
+-- ---- targets, one step after the other
 
 pub took-none : (n when count : ℕ) (w : List ℕ) → Took n when [] w count w count
 took-none n when count w = record { more = more-none; sets = sets-none n when w; number = refl; grew = omega arith; kept = kept-none }
@@ -78,7 +78,7 @@ took-after p q = record {
   kept = kept-after p.kept q.kept;
 }
 
--- other option_to_list that add the same
+-- other targets that add the same
 pub took-same : {n when count count' : ℕ} {ts w w' : List ℕ} (us : List ℕ) → Took n when ts w count w' count'
     → ((y : ℕ) → mem y us || mem y (flagged w n) ≡ mem y ts || mem y (flagged w n)) → Took n when us w count w' count'
 took-same us p e = record {

@@ -38,7 +38,7 @@ module _ {es : List Edge} {seeds got : List ℕ} (k : Work es seeds got []) wher
       all y (seed h) = k.seeded y h
       all y (along e i p q) = work_closed e i (all e.place p) (all e.witness q)
 
--- ---- option_to_list taken
+-- ---- targets taken
 
 waits-after : (t u old d : Bool) → ((u || (t || old)) && not (t || old)) || (((t || old) && not old) || d) ≡ ((u || (t || old)) && not old) || d
 waits-after true true true d = refl

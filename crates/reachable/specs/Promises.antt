@@ -116,12 +116,12 @@ pub record GoingSide (n : ℕ) (w : List ℕ) (side : Option ℕ) (when count : 
   pub small : when < 4294967296
   pub few : count ≤ length (flagged w n)
 
--- Some option_to_list were taken, over what was got and what waited: those that are new wait.
+-- Some targets were taken, over what was got and what waited: those that are new wait.
 pub record More (ts old todo got todo' : List ℕ) : Type 0 where
   pub all : (y : ℕ) → mem y got ≡ mem y ts || mem y old
   pub waits : (y : ℕ) → mem y todo' ≡ (mem y got && not (mem y old)) || mem y todo
 
--- Some option_to_list were taken in W: those that were not flagged are now, are marked, and wait in the worklist.
+-- Some targets were taken in W: those that were not flagged are now, are marked, and wait in the worklist.
 pub record Took (n when : ℕ) (ts w : List ℕ) (count : ℕ) (w' : List ℕ) (count' : ℕ) : Type 0 where
   pub more : More ts (flagged w n) (entries w n count) (flagged w' n) (entries w' n count')
   pub sets : Sets n when w w'

@@ -36,7 +36,7 @@ pub trait Chain {
         ensures { result ≡ hit self.now row };
 }
 
-// Whether one of the rows is what is looked for.
+// Whether one of the rows is what is looked for. How long the chain is stands nowhere, so nothing is counted.
 pub fn found<C: Chain>(chain: &C) -> bool
     requires held { C.holds chain.now }
     requires keyed { Keyed (C.key chain.now) (C.hit chain.now) (C.rows chain.now) (C.own chain.now) }

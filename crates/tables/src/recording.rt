@@ -31,6 +31,7 @@ fn shortage(rooms: Rooms, counts: Counts, np: usize, cells: usize) -> Result<(),
 }
 
 // Records the path in hand with the entry's destination and its state, which is kept, or with no destination, unless it is so recorded. A refusal leaves all as it was.
+// The buffers stay apart: what is lent to read, or not lent at all as T, does not change by its type, which a struct of all six would have to promise.
 pub fn record_entry(
     w: &mut [u8],
     p: &[u8],
