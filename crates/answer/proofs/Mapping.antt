@@ -61,7 +61,7 @@ module _ (n limit mode w : ℕ) where
       pub first-moded : {e : Refusal} → (e ≡ refusal.Mode) × (1 < mode) → Tested n limit mode w (Err e)
       first-moded h = rw h.0 (refuse refusal.Mode (sym (if-false _ _ _ (le-ltb _ _ short) ∙ if-false _ _ _ (le-ltb _ _ limited) ∙ if-true _ _ _ (lt-ltb _ _ h.1))))
 
-      module _ {m : Mode} (is : mode_of m ≡ mode) {need : ℕ} (e : need ≡ work_need n) where
+      module _ (m : Mode) (is : mode_of m ≡ mode) {need : ℕ} (e : need ≡ work_need n) where
         first-room : early_of n limit mode w ≡ if (ltb w (work_need n)) 3 0
         first-room = if-false _ _ _ (le-ltb _ _ short) ∙ if-false _ _ _ (le-ltb _ _ limited) ∙ if-false _ _ _ (le-ltb _ _ (mode-small m is))
 
@@ -142,10 +142,10 @@ early-mode {n} {limit} {mode} {w} {x} f z = by (subst (Early n limit mode w) (sy
     by (taken e short limited m lent) z = m
 
 -- the mode that is taken
-module _ {mode limit : ℕ} {code w : List ℕ} {x : Result Mode Refusal} {m : Mode} (t : Tested (length code) limit mode (length w) x) (e : x ≡ Ok m) where
-  pub taken-lends : Lends limit code w
-  taken-lends = early-lends (t.taken m e).0 refl
+pub taken-lends : {mode limit : ℕ} {code w : List ℕ} {x : Result Mode Refusal} {m : Mode} → Tested (length code) limit mode (length w) x → x ≡ Ok m → Lends limit code w
+taken-lends {m = m} t e = early-lends (t.taken m e).0 refl
 
+module _ {n w mode limit : ℕ} {x : Result Mode Refusal} (m : Mode) (t : Tested n limit mode w x) (e : x ≡ Ok m) where
   pub taken-small : mode ≤ 1
   taken-small = early-mode (t.taken m e).0 refl
 
@@ -153,7 +153,7 @@ module _ {mode limit : ℕ} {code w : List ℕ} {x : Result Mode Refusal} {m : M
   taken-mode = (t.taken m e).1
 
 -- a refusal has a number
-some-number : (e : Refusal) → refusals.number_of e ≡ 0 → ⊥
+pub some-number : (e : Refusal) → refusals.number_of e ≡ 0 → ⊥
 some-number Code z = omega (arith, z)
 some-number Limit z = omega (arith, z)
 some-number Work z = omega (arith, z)

@@ -75,7 +75,7 @@ same-some : {k j : ℕ} → Some k ≡ Some j → k ≡ j
 same-some q = cc
 
 -- a room that is short has a number
-short-some : (s : Shortage) → short_number s ≡ 0 → ⊥
+pub short-some : (s : Shortage) → short_number s ≡ 0 → ⊥
 short-some P z = omega (arith, z)
 short-some S z = omega (arith, z)
 short-some T z = omega (arith, z)
@@ -113,18 +113,18 @@ module _ (w r q : List ℕ) (n choice : ℕ) (out text : List ℕ) where
       rw (f, h) record { short = λ _. record { number = refl; count = refl; shows = refl; out_is = refl; text_is = refl }; answer = λ z. absurd (short-some s z) }
 
   module _ {finding : Result Finding Shortage} {f : Finding} (ok : finding ≡ Ok f) where
-    pub both-nine : {u : ℕ} {b : Bool} → u ≡ units (length out) 1 → FitsRoom w r q n f.records choice u b → not b ≡ true
+    pub both-nine : {u : ℕ} {b : Bool} → u ≡ units (length out) 1 → FitsRoom w r q n f.records choice u b → b ≡ false
         → PutBoth w r q n (found_of finding) choice out out text text (told_both (Err Output))
     both-nine {u} {b} e s h = rw ok record {
       short = λ on. absurd (on refl);
       answer = λ _ mode code recs x l o.
           let m = map_of mode code recs f.energy choice in
           by-room l m (λ (y : spec.Answer). TellsBoth (within_text (length text) y) out out text text (told_both (Err Output)))
-          (λ fits. absurd (omega (arith, e, leb-false (length (bytes m)) u (sym (s.is mode code recs f.energy x) ∙ not-true b h), rw (← o) at fits)))
+          (λ fits. absurd (omega (arith, e, leb-false (length (bytes m)) u (sym (s.is mode code recs f.energy x) ∙ h), rw (← o) at fits)))
           (λ _. record { number = refl; count = refl; shows = refl; out_is = refl; text_is = refl });
     }
 
-    pub both-eleven : {u v : ℕ} {b c : Bool} → u ≡ units (length text) 1 → texts.FitsRoom w r q n f.records u b → not b ≡ true → v ≡ units (length out) 1
+    pub both-eleven : {u v : ℕ} {b c : Bool} → u ≡ units (length text) 1 → texts.FitsRoom w r q n f.records u b → b ≡ false → v ≡ units (length out) 1
         → FitsRoom w r q n f.records choice v c → c ≡ true → PutBoth w r q n (found_of finding) choice out out text text (told_both (Err Text))
     both-eleven {v = v} {b} {c} e t h g s i = rw ok record {
       short = λ on. absurd (on refl);
@@ -132,7 +132,7 @@ module _ (w r q : List ℕ) (n choice : ℕ) (out text : List ℕ) where
           let m = map_of mode code recs f.energy choice in
           by-room l m (λ (y : spec.Answer). TellsBoth (within_text (length text) y) out out text text (told_both (Err Text)))
           (λ _.
-          let short : leb (length (spec-json.text m)) (units (length text) 1) ≡ false = rw e at (sym (t.is mode code recs f.energy choice x) ∙ not-true b h) in
+          let short : leb (length (spec-json.text m)) (units (length text) 1) ≡ false = rw e at (sym (t.is mode code recs f.energy choice x) ∙ h) in
           rw (if-false _ (answered m) (refused 11) short) record { number = refl; count = refl; shows = refl; out_is = refl; text_is = refl })
           (λ low. absurd (omega (arith, g, leb-true (length (bytes m)) v (sym (s.is mode code recs f.energy x) ∙ i), rw (← o) at low)));
     }

@@ -72,11 +72,16 @@ pub fn map_json(
     ensures lent { StillLent buffers.old buffers.new }
     ensures mapped { MappedBoth limit choice mode code.now (held buffers.old) out.old text.old (held buffers.new) out.new text.new (told_both result) }
 {
-    let taken = early(code.len(), limit, mode, buffers.w.len())?;
+    let lent = buffers.w.len();
+    let taken = match early(code.len(), limit, mode, lent) {
+        Ok(taken) => taken,
+        Err(refusal) => return Err(refusal),
+    };
     let finding = find(limit, taken, code, buffers);
-    let answer = put_both(
-        buffers.w, buffers.r, buffers.q, code.len(), finding, choice, out, text,
-    );
+    let w = &mut *buffers.w;
+    let r = &mut *buffers.r;
+    let q = &mut *buffers.q;
+    let answer = put_both(w, r, q, code.len(), finding, choice, out, text);
     wipe_rooms(buffers);
     answer
 }

@@ -27,7 +27,10 @@ pub fn early(size: usize, limit: usize, mode: usize, lent: usize) -> Result<Mode
     if 500000 < limit {
         return Err(Refusal::Limit);
     }
-    let taken = Mode::try_from(mode)?;
+    let taken = match Mode::try_from(mode) {
+        Ok(taken) => taken,
+        Err(refusal) => return Err(refusal),
+    };
     if lent < need_of(size) {
         return Err(Refusal::Work);
     }
