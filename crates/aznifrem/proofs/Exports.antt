@@ -12,10 +12,37 @@ use Rattle.spec.specs.JsonAnswer.{json_answer, texted, exported_json}
 use Rattle.theorems.proofs.JsonCall.{gave-text}
 use Rattle.layout.specs.Buffers.{Mem}
 use Rattle.answer.specs.Promises.{lent_of, Mapped, MappedBoth}
-use Rattle.answer.specs.declared.map.Answer.{Answer}
-use Rattle.answer.specs.declared.both.Both.{Both}
+use Rattle.std.specs.Prelude.{Result, Ok, Err}
+use Rattle.refusal.specs.Numbers as refusal
+use Rattle.refusal.specs.declared.Refusal.{Refusal}
+use Rattle.answer.specs.Told.{Answer, Both, told, told_both}
+use Rattle.answer.specs.declared.both.Written.{Written}
 use Rattle.answer.proofs.Numbers.{by_zero}
+use Rattle.aznifrem.proofs.Telling.{number-some}
 use Rattle.aznifrem.specs.Promises.{Gives, Exported, Few, GivesBoth, ExportedJson}
+
+-- ---- given
+
+module _ {a : Result ℕ Refusal} where
+  pub gives-count : {n : ℕ} → a ≡ Ok n → Gives (told a) n
+  gives-count q = rw q (record { number = λ h. absurd (h refl); count = λ _. refl })
+
+  pub gives-number : {e : Refusal} → a ≡ Err e → {n : ℕ} → n ≡ refusal.number_of e → Gives (told a) n
+  gives-number {e} q k = rw (q, k) (record { number = λ _. refl; count = λ z. absurd (number-some e z) })
+
+module _ {a : Result Written Refusal} where
+  pub gives-counts : {b : Written} → a ≡ Ok b → GivesBoth (told_both a) (b.entries + 2 ^ 32 * b.text)
+  gives-counts q = rw q (record { number = λ h. absurd (h refl); counts = λ _. refl })
+
+  pub gives-refusal : {e : Refusal} → a ≡ Err e → {n : ℕ} → n ≡ refusal.number_of e → GivesBoth (told_both a) n
+  gives-refusal {e} q k = rw (q, k) (record { number = λ _. refl; counts = λ z. absurd (number-some e z) })
+
+  -- both counts fit one number
+  pub few-entries : Few (told_both a) → {b : Written} → a ≡ Ok b → b.entries ≤ 2 ^ 30
+  few-entries f q = let k = rw q at f in k.out
+
+  pub few-text : Few (told_both a) → {b : Written} → a ≡ Ok b → b.text ≤ 2 ^ 30
+  few-text f q = let k = rw q at f in k.text
 
 -- a number that is not 0 is the refusal's
 number-given : (x : spec.Answer) → (number_of x ≡ 0 → ⊥) → number_of x ≡ exported x
