@@ -14,11 +14,10 @@ fn near(map: &[u8], code: &[u8], w: &[u8], from: usize, to: usize) -> bool
     requires from_in_bounds { from < length code.now }
     ensures { Sought map.now to from result }
 {
-    let at = get64(w, 8 * from);
-    if at == 0 {
-        return false;
+    match get64(w, 8 * from).checked_sub(1) {
+        Some(at) => seek(map, at, from, to),
+        None => false,
     }
-    seek(map, at - 1, from, to)
 }
 
 // Whether the map has an edge between two starts.

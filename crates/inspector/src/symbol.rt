@@ -7,7 +7,7 @@ ghost use Rattle.state.specs.Symbols.{sym_of};
 ghost use Rattle.inspector.specs.Symbols.{Lent, Taken, Looks, Looked};
 
 use exec::mode::Mode;
-use exec::run::{Goes, run};
+use exec::run::run;
 use layout::part::{NEED, NEED_MORE};
 use state::read::symbol_at;
 use state::sym::StackSym;
@@ -19,10 +19,9 @@ pub fn taken(mode: Mode, code: &[u8], w: &mut [u8], start: usize) -> StackSym
 {
     let end = NEED * code.len() + NEED_MORE;
     let own = run(mode, code, start, w, end);
-    let goes = own.goes;
-    match goes {
-        Goes::To(symbol) => symbol,
-        Goes::Nowhere => StackSym::Other(0),
+    match own.goes {
+        Some(symbol) => symbol,
+        None => StackSym::Other(0),
     }
 }
 
@@ -38,9 +37,7 @@ pub fn looked(mode: Mode, code: &[u8], w: &mut [u8], start: usize, symbol: Stack
             let own = run(mode, code, start, w, end);
             symbol_at(w, own.at, own.n, position)
         }
-        StackSym::Constant(value) => StackSym::Constant(value),
-        StackSym::Jumpdest(value) => StackSym::Jumpdest(value),
-        StackSym::Other(pc) => StackSym::Other(pc),
+        _ => symbol,
     }
 }
 
@@ -48,10 +45,5 @@ pub fn looked(mode: Mode, code: &[u8], w: &mut [u8], start: usize, symbol: Stack
 pub fn is_jumpdest(symbol: StackSym, to: usize) -> bool
     ensures { result ≡ eq_sym (jumpdest to) (sym_of symbol) }
 {
-    match symbol {
-        StackSym::Jumpdest(value) => to == value,
-        StackSym::Before(_) => false,
-        StackSym::Constant(_) => false,
-        StackSym::Other(_) => false,
-    }
+    symbol == StackSym::Jumpdest(to)
 }
