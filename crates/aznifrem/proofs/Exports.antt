@@ -34,8 +34,8 @@ module _ {a : Result Written Refusal} where
   pub gives-counts : {b : Written} → a ≡ Ok b → GivesBoth (told_both a) (b.entries + 2 ^ 32 * b.text)
   gives-counts q = rw q (record { number = λ h. absurd (h refl); counts = λ _. refl })
 
-  pub gives-refusal : {e : Refusal} → a ≡ Err e → {n : ℕ} → n ≡ refusal.number_of e → GivesBoth (told_both a) n
-  gives-refusal {e} q k = rw (q, k) (record { number = λ _. refl; counts = λ z. absurd (number-some e z) })
+  pub gives-refusal : {e : Refusal} → a ≡ Err e → {n : ℕ} → Gives (told (Err e)) n → GivesBoth (told_both a) n
+  gives-refusal {e} q k = rw q (record { number = k.number; counts = λ z. absurd (number-some e z) })
 
   -- both counts fit one number
   pub few-entries : Few (told_both a) → {b : Written} → a ≡ Ok b → b.entries ≤ 2 ^ 30

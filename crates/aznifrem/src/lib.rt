@@ -107,7 +107,7 @@ fn given_both(answer: Result<Written, Refusal>) -> u64
 {
     match answer {
         Ok(written) => (written.entries + 4294967296 * written.text) as u64,
-        Err(refusal) => refusal.number() as u64,
+        Err(refusal) => given(Err(refusal)),
     }
 }
 

@@ -33,6 +33,6 @@ pub fn told_place(answer: Result<usize, Refusal>) -> u64
 {
     match answer {
         Ok(place) => told(0, place),
-        Err(refusal) => told(refusal.number(), refusal.value()),
+        Err(refusal) => told_of(Err(refusal)),
     }
 }
