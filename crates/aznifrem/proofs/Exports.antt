@@ -1,5 +1,5 @@
 -- The number, or the count. Assumes nothing.
-use mathlib.Core.Path.{◌≡◌, refl, sym, ◌∙◌}
+use mathlib.Core.Path.{◌≡◌, refl, sym, subst, ◌∙◌}
 use Prim.Native.Nat.{ℕ, ◌+◌, ◌*◌, ◌/◌, ◌^◌, ◌≤◌}
 use native.Mathlib.Nat.{min-le_right}
 use native.Mathlib.Omega.{arith}
@@ -53,9 +53,9 @@ count-given : (x : spec.Answer) → number_of x ≡ 0 → length (written x) ≡
 count-given (refused n) h = sym h
 count-given (answered m) h = refl
 
-pub exported-given : {limit choice mode : ℕ} {code : List ℕ} {m m' : Mem} {out out' : List ℕ} {a : Answer} {x : ℕ} → Mapped limit choice mode code m out m' out' a → Gives a x
+exported-gives : {limit choice mode : ℕ} {code : List ℕ} {m m' : Mem} {out out' : List ℕ} {a : Answer} {x : ℕ} → Mapped limit choice mode code m out m' out' a → Gives a x
     → Exported limit choice mode code m out m' out' x
-exported-given {limit} {choice} {mode} {code} {m} {m'} {out} {out'} {a} d g =
+exported-gives {limit} {choice} {mode} {code} {m} {m'} {out} {out'} {a} d g =
     let y = spec.answer (in_mode mode) (lent_of m out) limit choice code in
     record {
       number = by_zero a.number (λ z. g.count z ∙ d.tells.count ∙ count-given y (sym d.tells.number ∙ z))
@@ -68,6 +68,11 @@ exported-given {limit} {choice} {mode} {code} {m} {m'} {out} {out'} {a} d g =
       r = d.r;
       q = d.q;
     }
+
+-- the six are back
+pub exported-given : {limit choice mode : ℕ} {code : List ℕ} {m m' n : Mem} {out out' : List ℕ} {a : Answer} {x : ℕ} → Mapped limit choice mode code m out m' out' a → Gives a x → m' ≡ n
+    → Exported limit choice mode code m out n out' x
+exported-given {limit} {choice} {mode} {code} {m} {out = out} {out'} {x = x} d g e = subst (λ (k : Mem). Exported limit choice mode code m out k out' x) e (exported-gives d g)
 
 -- ---- with the text
 
@@ -100,8 +105,8 @@ module _ {limit choice mode : ℕ} {code : List ℕ} {m m' : Mem} {out text out'
   pub json-few : Few a
   json-few = record { out = omega (arith, d.tells.count, small.out); text = omega (arith, d.tells.shows, small.text) }
 
-  pub json-given : {x : ℕ} → GivesBoth a x → ExportedJson limit choice mode code m out text m' out' text' x
-  json-given g = record {
+  json-gives : {x : ℕ} → GivesBoth a x → ExportedJson limit choice mode code m out text m' out' text' x
+  json-gives g = record {
     number = by_zero a.number (λ z. g.counts z ∙ rw (d.tells.count, d.tells.shows) (counts-both answers (sym d.tells.number ∙ z)))
         (λ h. g.number h ∙ d.tells.number ∙ number-both answers (λ z. h (d.tells.number ∙ z)));
     out_is = d.tells.out_is;
@@ -113,3 +118,6 @@ module _ {limit choice mode : ℕ} {code : List ℕ} {m m' : Mem} {out text out'
     r = d.r;
     q = d.q;
   }
+
+  pub json-given : {x : ℕ} → GivesBoth a x → {n : Mem} → m' ≡ n → ExportedJson limit choice mode code m out text n out' text' x
+  json-given {x} g e = subst (λ (k : Mem). ExportedJson limit choice mode code m out text k out' text' x) e (json-gives g)

@@ -1,4 +1,5 @@
 -- `aznifrem_json` gives the number, or both counts. Assumes nothing.
+use Rattle.aznifrem.proofs.Backs.{six-back}
 use Rattle.aznifrem.proofs.Exports.{json-few, json-given}
 use Rattle.aznifrem.proofs.aznifrem_json.Goals as goal
 
@@ -6,4 +7,4 @@ pub given_both-requires : goal.given_both-requires
 given_both-requires c = json-few c.map_json.ensures.mapped
 
 pub returns : goal.returns
-returns c = json-given c.map_json.ensures.mapped c.given_both.ensures
+returns c = search (six-back, json-given)
