@@ -3,7 +3,7 @@ use mathlib.Core.Path.{◌≡◌, refl}
 use mathlib.Core.Bool.{Bool, true, false}
 use mathlib.Core.List.{List}
 use mathlib.Core.Option.{Option, none, some}
-use Prim.Native.Nat.{ℕ, ◌+◌, ◌-◌, ◌^◌, ◌≤◌, ◌<◌}
+use Prim.Native.Nat.{ℕ, ◌+◌, ◌^◌, ◌≤◌, ◌<◌}
 use native.Mathlib.Omega.{arith}
 use borrow.Author.Tests.{lt-ltb, le-ltb}
 use Rattle.spec.specs.Lists.{if}
@@ -29,11 +29,11 @@ module _ (pc : ℕ) (a b : Sym) (p : Bool) (e : p ≡ is mask (known_value a)) w
 
 module _ (code : List ℕ) (pc : ℕ) where
   module _ (v u : ℕ) where
-    pub sum_fits : (x : Sym) → v ≤ 0xffffffffffffffff - u → u < 2 ^ 64 → x ≡ from_value code (v + u) → x ≡ summed code pc (some v) (some u)
+    pub sum_fits : {s : ℕ} (x : Sym) → (v + u < 2 ^ 64) × (s ≡ v + u) → x ≡ from_value code s → x ≡ summed code pc (some v) (some u)
     unfolding if
-    sum_fits x h g e = let l : v + u < 2 ^ 64 = omega arith in rw (lt-ltb _ _ l) e
+    sum_fits x (l, h) e = rw (lt-ltb _ _ l) (rw h at e)
 
-    pub sum_past : 0xffffffffffffffff - u < v → other pc ≡ summed code pc (some v) (some u)
+    pub sum_past : (v + u < 2 ^ 64 → ⊥) → other pc ≡ summed code pc (some v) (some u)
     unfolding if
     sum_past h = let l : 2 ^ 64 ≤ v + u = omega arith in rw (le-ltb _ _ l)
 

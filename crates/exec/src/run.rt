@@ -11,7 +11,7 @@ use crate::mode::Mode;
 use crate::step::{Stepped, step};
 use crate::top::Top;
 use evm::walker::Walker;
-use state::cell::{get_cell, put_cell};
+use state::cell::{CELL, get_cell, put_cell};
 use state::sym::StackSym;
 
 // Where a run ended: the stack in hand, and the symbol that its jump takes, if it ends with one.
@@ -35,12 +35,12 @@ fn to_end(mode: Mode, code: &[u8], start: usize, w: &mut [u8], end: usize) -> En
     ensures { ToEnd (mode_of mode) code.now start w.old end w.new result }
 {
     let mut top = Top {
-        at: end - 9,
+        at: end - CELL,
         n: 0,
         base: 0,
     };
     for instruction in Walker::new(code, start) {
-        match step(mode, code, start, instruction.pc, instruction.op, w, top) {
+        match step(mode, code, start, instruction, w, top) {
             Stepped::On(after) => top = after,
             Stepped::Ends(after) => {
                 return End {
@@ -75,17 +75,13 @@ fn trimmed(w: &[u8], at: usize, count: usize, base: usize) -> usize
     requires { Trims w.now at count base }
     ensures { Lies w.now at result (trims (syms_at w.now at count) base) }
 {
-    let mut left = count;
-    let mut low = base;
-    while left != 0 {
-        if joined(get_cell(w, at + 9 * (left - 1)), low) {
-            left -= 1;
-            low -= 1;
-        } else {
+    for i in 0..count {
+        let left = count - i;
+        if !joined(get_cell(w, at + CELL * (left - 1)), base - i) {
             return left + 1;
         }
     }
-    left + 1
+    1
 }
 
 // Runs the block at `start` in a mode, and stores its state in the part of w that ends at `end`, which has a cell for each byte of code, and seventeen.
@@ -96,7 +92,7 @@ pub fn run(mode: Mode, code: &[u8], start: usize, w: &mut [u8], end: usize) -> O
     let ended = to_end(mode, code, start, w, end);
     let top = ended.top;
     let goes = ended.goes;
-    put_cell(w, end - 9, StackSym::Before(top.base));
+    put_cell(w, end - CELL, StackSym::Before(top.base));
     let cells = trimmed(w, top.at, top.n, top.base);
     Own {
         at: top.at,

@@ -40,10 +40,10 @@ fn sum_of(code: &[u8], pc: usize, first: StackSym, second: StackSym) -> StackSym
 fn sum_of_values(code: &[u8], pc: usize, first: usize, second: usize) -> StackSym
     ensures { sym_of result ≡ summed code.now pc (some first) (some second) }
 {
-    if first <= 0xffff_ffff_ffff_ffff - second {
-        return StackSym::from_value(first + second, code);
+    match first.checked_add(second) {
+        Some(sum) => StackSym::from_value(sum, code),
+        None => StackSym::Other(pc),
     }
-    StackSym::Other(pc)
 }
 
 // The stack after AND.

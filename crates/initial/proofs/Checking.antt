@@ -1,15 +1,15 @@
 -- The checks afterwards: a destination is looked up in the rows, a row's block is checked, and all blocks one after the other, each listed. Assumes nothing.
 use mathlib.Core.Path.{◌≡◌, refl, sym, ap, ◌∙◌}
-use mathlib.Core.Bool.{Bool, true, false, and-true}
-use mathlib.Core.List.{List, [], ◌∷◌, ◌++◌, map, map-append, append-nil}
+use mathlib.Core.Bool.{Bool, true, false, not, and-true}
+use mathlib.Core.List.{List, [], ◌∷◌, ◌++◌, map, map-append, append-nil, nil≢cons}
 use Prim.Native.Nat.{ℕ, zero, suc, ◌+◌, ◌-◌, ◌^◌, ◌≤◌, ◌<◌}
 use native.Mathlib.Nat.{zero-add, suc-add}
 use native.Mathlib.Numerals.{add-one}
 use native.Mathlib.Omega.{arith}
-use lib.Dec.{leb}
+use lib.Dec.{eqb, leb}
 use lib.ListN.{length, get_or, take, drop, get_or-eq_default}
-use borrow.Author.Tests.{lt-leb, eq-eqb, ne_eqb}
-use Rattle.std.specs.Option.{is_some}
+use borrow.Author.Tests.{lt-leb, eqb-true, eqb-false, not-true, not-false, eq-eqb, ne_eqb}
+use Rattle.std.specs.Option.{is_some, unwrap_or}
 use Rattle.std.specs.Prelude.{Option, Some, None}
 use Rattle.spec.specs.Lists.{mem}
 use Rattle.spec.specs.Blocks.{Kind, jump, jumpi, Block, block, with_kind, starts, lands, checked, check_all}
@@ -18,7 +18,7 @@ use Rattle.lent.proofs.Parts.{take_less, drop_more, part-prefix, part-suffix}
 use Rattle.lent.proofs.Stored.{kept-take, kept-drop}
 use Rattle.laws.proofs.Branch.{both, if-true, if-false, and-false}
 use Rattle.layout.specs.Parts.{ROW, row_place, rows_end, starts_place, start_place, SameRows}
-use Rattle.layout.specs.Rows.{END, Put, TypeIs, starts_at}
+use Rattle.layout.specs.Rows.{END, tag_at, Put, TypeIs, starts_at}
 use Rattle.layout.specs.declared.row.BlockType.{BlockType}
 use Rattle.layout.specs.declared.row.BlockType.TheVariants.{Terminate, Jump, Jumpi, DynamicJump, DynamicJumpi}
 use Rattle.layout.proofs.Types.{is-jump, is-jumpi, row-none, row-some, row-is_some}
@@ -27,7 +27,7 @@ use Rattle.initial.specs.Promises.{Rows, Apart, no_more, one_more, through, rech
 use Rattle.initial.proofs.Types.{Good, kind-type, good-terminate, good-jump, good}
 use Rattle.initial.proofs.Rows.{part_at, here-row, from-prefix, from-part, from-split, blocks-split, here-empty, here-block, by_row, row-changed, start-at, start-past}
 use Rattle.initial.proofs.Writing.{put-here, put-laid, laid-prefix}
-use Rattle.initial.proofs.Listing.{list-suffix}
+use Rattle.initial.proofs.Listing.{list-none, list-suffix}
 
 -- ---- a destination is looked up
 
@@ -58,9 +58,6 @@ module _ (code ss : List ℕ) where
 
   pub jumpi-ends : {m : Bool} (to f : ℕ) → m ≡ mem f ss → m ≡ false → Terminate false ≡ type_of (checked code ss (jumpi to f))
   jumpi-ends to f d q = sym (ap type_of (if-false _ _ _ (sym d ∙ q)))
-
-  pub side-starts : {m : Bool} (f : ℕ) → m ≡ mem f ss → m ≡ true → mem f ss ≡ true
-  side-starts f d q = sym d ∙ q
 
   pub jumpi-kept : {l : Bool} (to f : ℕ) → mem f ss ≡ true → l ≡ lands code ss to → l ≡ true → Jumpi to f ≡ type_of (checked code ss (jumpi to f))
   jumpi-kept to f q e p = sym (ap type_of (if-true _ _ _ q ∙ if-true _ _ _ (sym e ∙ p)))
@@ -138,6 +135,13 @@ module _ {code w : List ℕ} {a : ℕ} {o : Option BlockType} (r : Rows code w) 
       let none = here-empty w a (row-none y z) in
       row_kept (rw none) (rw none)
 
+  -- whether a block starts there is said
+  pub empty-starts : o ≡ None → false ≡ not (eqb (tag_at w a) 0)
+  empty-starts z = sym (ap is_some z) ∙ row-is_some y
+
+  pub some-starts : {t : BlockType} → o ≡ Some t → true ≡ not (eqb (tag_at w a) 0)
+  some-starts z = sym (ap is_some z) ∙ row-is_some y
+
   pub row_same : {t : BlockType} {end : ℕ} → o ≡ Some t → ((to : ℕ) → t ≡ Jump to → ⊥) → ((to f : ℕ) → t ≡ Jumpi to f → ⊥) → Holds 2 w (row_place a + END) end → CheckedRow code w a w end
   row_same {t} z c d e =
       let s = kind-same code (starts (blocks_at w (length code))) t c d in
@@ -211,9 +215,6 @@ unfolding blocks_from starts_at
 check-none r = record { front = refl; list = refl; few = omega arith; back = refl; past = refl; laid = r.laid; kept = refl; inside = omega arith }
 
 module _ {code w₀ w : List ℕ} {a many : ℕ} (r : Rows code w₀) (g : Checking code w₀ w a many) where
-  pub check-rows : Rows code w
-  check-rows = record { lent = record { short = r.lent.short; room = omega arith }; laid = g.laid }
-
   -- a part of the rows that are not checked yet
   ahead : (x m : ℕ) → a ≤ x → x + m ≤ length code + 1 → blocks_from w x m ≡ blocks_from w₀ x m
   ahead x m l h = from-part w w₀ x m (starts_place (length code) - row_place a) (row_place a) g.back (omega arith) (omega (arith, g.inside))
@@ -237,11 +238,11 @@ module _ {code w₀ w : List ℕ} {a many : ℕ} (r : Rows code w₀) (g : Check
     pub check-listing : Listing (length code) w₁ a many
     check-listing = record { short = r.lent.short; room = omega (arith, c.kept, g.kept, r.lent.room); inside = h; few = g.few }
 
-    pub check-fits : end + 1 < 2 ^ 64
-    check-fits = omega (arith, passed.inside, r.lent.short)
+    fits : end + 1 < 2 ^ 64
+    fits = omega (arith, passed.inside, r.lent.short)
 
-    pub check-less : length code + 1 - (end + 1) < length code + 1 - a
-    check-less = omega (arith, passed.forward)
+    less : length code + 1 - (end + 1) < length code + 1 - a
+    less = omega (arith, passed.forward)
 
     -- the row's block starts where it did
     same_start : starts (row_blocks w₁ a) ≡ starts (row_blocks w₀ a)
@@ -281,8 +282,8 @@ module _ {code w₀ w : List ℕ} {a many : ℕ} (r : Rows code w₀) (g : Check
           ∙ part-suffix w₁ w (row_place (a + 1)) c.past k (row_place (end + 1)) (omega (arith, passed.forward))
           ∙ part_at w w₀ (starts_place (length code) - row_place a) (row_place a) g.back k (row_place (end + 1)) (omega (arith, passed.forward)) (omega (arith, passed.inside))
 
-      pub check-more : Checking code w₀ w₂ (end + 1) more
-      check-more =
+      more-checked : Checking code w₀ w₂ (end + 1) more
+      more-checked =
           record {
             front = rw add-one checked-front;
             list = rw add-one listed-front;
@@ -296,6 +297,34 @@ module _ {code w₀ w : List ℕ} {a many : ℕ} (r : Rows code w₀) (g : Check
             kept = l.kept ∙ c.kept ∙ g.kept;
             inside = omega (arith, passed.inside);
           }
+
+  -- as the loop has them: the block's end, if one starts there
+  module _ (s : Apart (length code) 0 (blocks_at w₀ (length code))) (h : a ≤ length code) {w₁ : List ℕ} {o : Option ℕ} (c : CheckedRow code w a w₁ (unwrap_or o a))
+      (q : is_some o ≡ not (eqb (tag_at w a) 0)) where
+    module _ {end : ℕ} (e : o ≡ Some end) where
+      is-end : unwrap_or o a ≡ end
+      is-end = ap (λ (r : Option ℕ). unwrap_or r a) e
+
+      pub check-starts : tag_at w₁ a ≡ 0 → ⊥
+      check-starts z =
+          let there = here-block w a (eqb-false _ _ (not-true _ (sym q ∙ ap is_some e))) in
+          let kept : row_blocks w₁ a ≡ rechecked code (starts (blocks_at w (length code))) (block_at w a) ∷ [] = c.same ∙ ap (map (rechecked code (starts (blocks_at w (length code))))) there in
+          nil≢cons (sym (here-empty w₁ a z) ∙ kept)
+
+      pub check-fits : end + 1 < 2 ^ 64
+      check-fits = rw is-end at (fits s h c)
+
+      pub check-less : length code + 1 - (end + 1) < length code + 1 - a
+      check-less = rw is-end at (less s h c)
+
+      pub check-more : {w₂ : List ℕ} → ListedRow (length code) w₁ a many w₂ (many + 1) → Checking code w₀ w₂ (end + 1) (many + 1)
+      check-more l = rw is-end at (more-checked s h c l)
+
+    pub check-past : o ≡ None → Checking code w₀ w₁ (a + 1) many
+    check-past e =
+        let none = here-empty w a (eqb-true _ _ (not-false _ (sym q ∙ ap is_some e))) in
+        let same : unwrap_or o a ≡ a = ap (λ (r : Option ℕ). unwrap_or r a) e in
+        rw same at (more-checked s h c (list-none (check-listing s h c) (c.same ∙ rw none)))
 
   pub check_done : length code < a → CheckedAll code w₀ w many
   check_done h =

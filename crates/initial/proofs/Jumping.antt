@@ -59,13 +59,9 @@ module _ (code : List ℕ) (prev : ℕ) where
           if-true _ _ _ (rw (le-leb 0x60 (get_or code prev 0) h, le-leb (get_or code prev 0) 0x63 g))
           ∙ ap (λ (n : ℕ). some n) (ap (λ (k : ℕ). big 0 (take k (drop (prev + 1) code))) size ∙ sym s.spelt)
 
-      pub static-near : v < 0xFFFF → Some v ≡ target_of (pushed_at code prev)
+      pub static-some : {m : ℕ} → m ≡ min v 0xFFFF → Some m ≡ target_of (pushed_at code prev)
       unfolding target_of
-      static-near l = let m : min v 0xFFFF ≡ v = omega arith in rw (push-static, m)
-
-      pub static-far : 0xFFFF ≤ v → Some 0xFFFF ≡ target_of (pushed_at code prev)
-      unfolding target_of
-      static-far l = let m : min v 0xFFFF ≡ 0xFFFF = omega arith in rw (push-static, m)
+      static-some e = rw (push-static, e)
 
 -- ---- the types of jumps
 

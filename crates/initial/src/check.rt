@@ -1,10 +1,12 @@
 // The checks afterwards, from a block to behind its end, and the list of the blocks' starts.
 // "Afterwards a Jump to no block, or to a block whose first byte isn't 5B, becomes Terminate false. So does a Jumpi whose false side starts no block;
 // otherwise, if its true side starts none or isn't 5B, it becomes a Jump to its false side."
-ghost use Rattle.std.specs.Prelude.{◌≡◌, true, ◌+◌, ◌*◌, ◌≤◌, length};
+ghost use Rattle.std.specs.Prelude.{◌≡◌, true, not, eqb, ◌+◌, ◌*◌, ◌≤◌, length};
+ghost use Rattle.std.specs.Option.{is_some, unwrap_or};
 ghost use Rattle.spec.specs.Lists.{mem};
 ghost use Rattle.spec.specs.Blocks.{jump, jumpi, starts, lands, checked};
 ghost use Rattle.layout.specs.Parts.{rows_end};
+ghost use Rattle.layout.specs.Rows.{tag_at};
 ghost use Rattle.initial.specs.Rows.{type_of, blocks_at};
 ghost use Rattle.initial.specs.Promises.{Rows, Apart, CheckedRow, Listing, ListedRow, CheckedAll};
 
@@ -23,33 +25,36 @@ pub fn check(code: &[u8], w: &mut [u8]) -> usize
     let mut many = 0;
     let mut start = 0;
     while start <= size {
-        let end = check_row(code, w, start);
-        many = list_row(w, size, start, many);
-        start = end + 1;
+        match check_row(code, w, start) {
+            Some(end) => {
+                list_row(w, size, start, many);
+                many += 1;
+                start = end + 1;
+            }
+            None => start += 1,
+        }
     }
     many
 }
 
-// Lists the start of the block that starts at `start`, if one does, behind `many` others; answers how many are listed then.
-fn list_row(w: &mut [u8], size: usize, start: usize, many: usize) -> usize
-    requires { Listing size w.old start many }
-    ensures { ListedRow size w.old start many w.new result }
+// Lists the start of the block that starts at `start` behind `many` others.
+fn list_row(w: &mut [u8], size: usize, start: usize, many: usize)
+    requires listing { Listing size w.old start many }
+    requires starts { tag_at w.old start ≡ 0 → ⊥ }
+    ensures { ListedRow size w.old start many w.new (many + 1) }
 {
-    if type_at(w, start).is_none() {
-        return many;
-    }
     put16(w, STARTS * size + STARTS_MORE + START * many, start);
-    many + 1
 }
 
-// The checks of the block that starts at `start`, and its end; `start` where none does.
-fn check_row(code: &[u8], w: &mut [u8], start: usize) -> usize
+// The checks of the block that starts at `start`, if one does, and its end.
+fn check_row(code: &[u8], w: &mut [u8], start: usize) -> Option<usize>
     requires rows { Rows code.now w.old }
     requires start_in_bounds { start ≤ length code.now }
-    ensures { CheckedRow code.now w.old start w.new result }
+    ensures checked { CheckedRow code.now w.old start w.new (unwrap_or result start) }
+    ensures starts { is_some result ≡ not (eqb (tag_at w.old start) 0) }
 {
     let Some(block) = type_at(w, start) else {
-        return start;
+        return None;
     };
     let end = get16(w, ROW * start + END);
     match block {
@@ -63,7 +68,7 @@ fn check_row(code: &[u8], w: &mut [u8], start: usize) -> usize
         }
         _ => {}
     }
-    end
+    Some(end)
 }
 
 // A Jump to no block, or to one without a JUMPDEST, becomes Terminate false.
@@ -86,10 +91,9 @@ fn checked_jumpi(code: &[u8], w: &[u8], to: usize, other: usize) -> BlockType
         (jumpi to other)) }
 {
     if starts(code, w, other) {
-        falling(code, w, to, other)
-    } else {
-        BlockType::Terminate { success: false }
+        return falling(code, w, to, other);
     }
+    BlockType::Terminate { success: false }
 }
 
 // A Jumpi whose false side starts a block: "otherwise, if its true side starts none or isn't 5B, it becomes a Jump to its false side."

@@ -19,11 +19,7 @@ fn is_static_jump(code: &[u8], prev: usize) -> Option<usize>
         return None;
     }
     let value = argument_at(code, prev, (op - PUSH0) as usize);
-    if value < 0xffff {
-        Some(value as usize)
-    } else {
-        Some(0xffff)
-    }
+    Some(value.min(0xffff) as usize)
 }
 
 // A JUMP after the instruction at prev.

@@ -4,8 +4,8 @@ use mathlib.Core.Bool.{true, false, not}
 use mathlib.Core.List.{List}
 use Prim.Native.Nat.{ℕ, ◌≤◌, ◌<◌}
 use native.Mathlib.Omega.{arith}
-use lib.Dec.{eqb}
-use borrow.Author.Tests.{eqb-true, eqb-false, eq-eqb, ne_eqb}
+use lib.Dec.{eqb, leb}
+use borrow.Author.Tests.{eqb-true, eqb-false, eq-eqb, ne_eqb, le-leb}
 use Rattle.std.specs.Option.{is_some}
 use Rattle.std.specs.Prelude.{Option, Some, None}
 use Rattle.spec.specs.Lists.{if}
@@ -109,6 +109,14 @@ tag-range (Jump to) = (omega arith, omega arith)
 tag-range (Jumpi to f) = (omega arith, omega arith)
 tag-range DynamicJump = (omega arith, omega arith)
 tag-range (DynamicJumpi f) = (omega arith, omega arith)
+
+pub read-back : (t : BlockType) → read_as (tag_of t) (to_of t) (other_of t) ≡ Some t
+read-back t = sym (read-some (to_of t) (other_of t) (λ z. omega (arith, (tag-range t).0)) (typed-back t))
+
+-- the dynamic kinds have the bytes from 5 on
+pub tag-dynamic : (k to f : ℕ) → (k ≡ 0 → ⊥) → leb 5 (tag_of (typed k to f)) ≡ leb 5 k
+tag-dynamic k to f z =
+    by-byte k to f (λ t. leb 5 (tag_of t) ≡ leb 5 k) (λ e. rw e) (λ e. rw e) (λ e. rw e) (λ e. rw e) (λ e. rw e) (λ _ h. sym (le-leb 5 k (omega arith))) z
 
 -- ---- the row of an address, by what was read of it
 

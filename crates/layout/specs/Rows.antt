@@ -89,6 +89,10 @@ tag_at w a = num_at 1 w (row_place a)
 abbrev pub type_at : List ℕ → ℕ → BlockType
 type_at w a = typed (tag_at w a) (num_at 2 w (row_place a + TO)) (num_at 2 w (row_place a + OTHER))
 
+-- the type in the row of a, if a block starts there
+abbrev pub read_at : List ℕ → ℕ → Option BlockType
+read_at w a = read_as (tag_at w a) (num_at 2 w (row_place a + TO)) (num_at 2 w (row_place a + OTHER))
+
 abbrev pub head_of : ℕ → BlockType → List ℕ
 head_of end t = little 2 (tag_of t) ++ (little 2 end ++ (little 2 (to_of t) ++ little 2 (other_of t)))
 
@@ -96,9 +100,9 @@ head_of end t = little 2 (tag_of t) ++ (little 2 end ++ (little 2 (to_of t) ++ l
 pub record Put (w : List ℕ) (a end : ℕ) (t : BlockType) (w' : List ℕ) : Type 0 where
   pub stored : Stored BLOCK w (row_place a) (head_of end t) w'
 
--- t is the type that stands in the row of a, if a block starts there
+-- t is what stands in the row of a
 pub record TypeIs (w : List ℕ) (a : ℕ) (t : Option BlockType) : Type 0 where
-  pub is : t ≡ read_as (tag_at w a) (num_at 2 w (row_place a + TO)) (num_at 2 w (row_place a + OTHER))
+  pub is : t ≡ read_at w a
   pub to : num_at 2 w (row_place a + TO) < 65536
   pub other : num_at 2 w (row_place a + OTHER) < 65536
 

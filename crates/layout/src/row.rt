@@ -1,6 +1,6 @@
 // The rows of W: one of 20 bytes for the block of each address from 0 to the code's length.
 // "`id` equals `start`; that is proved."
-ghost use Rattle.std.specs.Prelude.{◌≡◌, ◌+◌, ◌≤◌, length};
+ghost use Rattle.std.specs.Prelude.{◌≡◌, ◌+◌, ◌≤◌, leb, length};
 ghost use Rattle.layout.specs.Parts.{row_place};
 ghost use Rattle.layout.specs.Rows.{BLOCK, tag_of, to_of, other_of, read_as, Put, TypeIs};
 
@@ -28,7 +28,7 @@ pub const NEXT_OTHER: usize = 16;
 
 pub const TAKER: usize = 18;
 
-// The byte of each kind; 0 where no block starts. Only this file knows them.
+// The byte of each kind; 0 where no block starts. docs/LAYOUT.md has these bytes, and only this file knows them.
 const FAILURE: usize = 1;
 
 const SUCCESS: usize = 2;
@@ -42,7 +42,6 @@ const DYNAMIC_JUMP: usize = 5;
 const DYNAMIC_JUMPI: usize = 6;
 
 // A block's type: where it goes (the true side), and its false side, as far as it has them.
-// "Each block's type: Terminate, Jump, Jumpi, DynamicJump, DynamicJumpi"
 #[derive(Clone, Copy, PartialEq, Eq)]
 pub enum BlockType {
     Terminate { success: bool },
@@ -50,6 +49,18 @@ pub enum BlockType {
     Jumpi { to: usize, other: usize },
     DynamicJump,
     DynamicJumpi { other: usize },
+}
+
+impl BlockType {
+    // Does only a run say where it goes?
+    pub fn is_dynamic(self) -> bool
+        ensures { result ≡ leb 5 (tag_of self) }
+    {
+        matches!(
+            self,
+            BlockType::DynamicJump | BlockType::DynamicJumpi { .. }
+        )
+    }
 }
 
 // What a row says of a type: the kind's byte, where it goes and its false side; a side that the kind does not have is 0.

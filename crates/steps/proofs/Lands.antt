@@ -3,6 +3,8 @@ use mathlib.Core.Path.{◌≡◌, refl, sym, ap, ap₂, subst, ◌∙◌}
 use mathlib.Core.Logic.{◌⊎◌, inl, inr}
 use mathlib.Core.Bool.{Bool, true, false, ◌&&◌, ◌||◌, or_assoc}
 use mathlib.Core.List.{List, [], ◌∷◌, ◌++◌, append-nil}
+use Rattle.std.specs.Prelude.{Some, None}
+use Rattle.std.proofs.lemmas.Option.{none-some, same_Some}
 use Prim.Native.Nat.{ℕ, zero, suc, ◌+◌, ◌-◌, ◌*◌, ◌^◌, ◌≤◌, ◌<◌}
 use native.Mathlib.Decide.{ℕ_discrete}
 use native.Mathlib.Omega.{arith}
@@ -19,7 +21,6 @@ use Rattle.lent.proofs.Parts.{take_less, drop_more, part-suffix}
 use Rattle.lent.proofs.Numbers.{num-suffix}
 use Rattle.lent.proofs.Stored.{kept-take, kept-drop, kept-part, kept-num}
 use Rattle.layout.specs.Fields.{FIRST-FOUND, LAST-FOUND, COUNT, HIGHEST, FLAG, mark_at, high_at}
-use Rattle.layout.specs.Marks.{NOWHERE}
 use Rattle.layout.specs.Parts.{rows_end, fields_place, list_place, bucket_place, SameRows, SameFields, SameList, PastBuckets}
 use Rattle.state.specs.Cells.{stack_at}
 use Rattle.reachable.specs.Edges.{sides_at}
@@ -318,12 +319,12 @@ pub lands-few : {p : List ℕ} {np : ℕ} {k : Plan} {m : tables.Mem} {c : Count
 lands-few y = let i = y.ready.tables.within in omega (arith, i.fits_r, i.most_r)
 
 -- a destination is an address
-lands-inside : {p : List ℕ} {np : ℕ} {k : Plan} {m : tables.Mem} {c : Counts} {e : Entry} → Lands p np k m c e → (e.to ≡ NOWHERE → ⊥) → e.to ≤ k.size
-lands-inside {k = k} {m = m} {e = e} y d = go y.ready.entry
+lands-inside : {p : List ℕ} {np : ℕ} {k : Plan} {m : tables.Mem} {c : Counts} {e : Entry} {to : ℕ} → Lands p np k m c e → e.to ≡ Some to → to ≤ k.size
+lands-inside {k = k} {m = m} {e = e} {to = to} y d = go y.ready.entry
   where
-    go : Enters k.size m.s e → e.to ≤ k.size
-    go (enters_nowhere z _) = absurd (d z)
-    go (enters i _) = i
+    go : Enters k.size m.s e → to ≤ k.size
+    go (enters_nowhere z _) = absurd (none-some _ (sym z ∙ d))
+    go (enters z i _) = omega (arith, i, same_Some _ _ (sym z ∙ d))
 
 module _ {p : List ℕ} {np : ℕ} {k : Plan} {w r q s w₁ r₁ q₁ s₁ : List ℕ} {c : Counts} {e : Entry} {a : Reply} (y : Lands p np k (tables.mem w r q s) c e)
     (h : Recorded p np k.size k.buckets k.rooms (tables.mem w r q s) c e.start e.energy (new_found s e) (tables.mem w₁ r₁ q₁ s₁) a) where
@@ -335,11 +336,11 @@ module _ {p : List ℕ} {np : ℕ} {k : Plan} {w r q s w₁ r₁ q₁ s₁ : Lis
       → Noted p np k (tables.mem w r q s) c e.start e.energy (new_found s e) (tables.mem w₂ r₁ q₁ s₁) a
   noted-as {w₂ = w₂} is n = subst (λ (x : Found). Noted p np k (tables.mem w r q s) c e.start e.energy x (tables.mem w₂ r₁ q₁ s₁) a) (sym is) n
 
-  pub landed-nowhere : e.to ≡ NOWHERE → Noted p np k (tables.mem w r q s) c e.start e.energy (new_found s e) (tables.mem w₁ r₁ q₁ s₁) a
+  pub landed-nowhere : e.to ≡ None → Noted p np k (tables.mem w r q s) c e.start e.energy (new_found s e) (tables.mem w₁ r₁ q₁ s₁) a
   landed-nowhere z = let is = new-nowhere s e z in noted-as is (strayed (recorded-as is))
 
   -- what `mark_found` asks
-  pub lands-address : (e.to ≡ NOWHERE → ⊥) → Address k.size w₁ e.to
+  pub lands-address : {to : ℕ} → e.to ≡ Some to → Address k.size w₁ to
   lands-address some_to =
       record {
         lent = record { short = y.lent.short; room = omega (arith, y.lent.room, h.beyond.apart.long) };
@@ -350,24 +351,24 @@ module _ {p : List ℕ} {np : ℕ} {k : Plan} {w r q s w₁ r₁ q₁ s₁ : Lis
   lands_within = within-sides (sides-kept w w₁ k.size h.beyond.apart.front) y.within
 
   -- a record was added, so its destination is marked
-  pub landed-new : (e.to ≡ NOWHERE → ⊥) → {w₂ : List ℕ} → (a.counts.records ≡ c.records → ⊥) → FoundMarked k.size w₁ e.to (c.records + 2) w₂
+  pub landed-new : {to : ℕ} → e.to ≡ Some to → {w₂ : List ℕ} → (a.counts.records ≡ c.records → ⊥) → FoundMarked k.size w₁ to (c.records + 2) w₂
       → Noted p np k (tables.mem w r q s) c e.start e.energy (new_found s e) (tables.mem w₂ r₁ q₁ s₁) a
-  landed-new some_to d o =
-      let is : new_found s e ≡ found e.to (stack_at s (9 * e.from) e.cells) = new-at s e y.ready.tables.few (lands-inside y some_to) in
+  landed-new {to} some_to d o =
+      let is : new_found s e ≡ found to (stack_at s (9 * e.from) e.cells) = new-at s e some_to in
       let at = lands-address some_to in
       let m = o.marks in
       let v = o.raises in
       let front : SameRows k.size w o.between = (marked-kept at m).rows ∙ h.beyond.apart.front in
       noted-as is
-      (noted-by (recorded-as is) (spared-then (spared-mark at m) (spared-raised v)) (λ g. absurd (d g)) (λ _ z l. raised-marks v z l ∙ marked z (ℕ_discrete z e.to))
-      (λ _ z l. v.highs z l ∙ ap₂ (λ (ts : List ℕ) (f : ℕ). raised (mem z ts) e.to f) (sides-kept w o.between k.size front e.to (lands-inside y some_to)) (kept-highs (marked-kept at m) z l))
+      (noted-by (recorded-as is) (spared-then (spared-mark at m) (spared-raised v)) (λ g. absurd (d g)) (λ _ z l. raised-marks v z l ∙ marked z (ℕ_discrete z to))
+      (λ _ z l. v.highs z l ∙ ap₂ (λ (ts : List ℕ) (f : ℕ). raised (mem z ts) to f) (sides-kept w o.between k.size front to (lands-inside y some_to)) (kept-highs (marked-kept at m) z l))
       (λ g. highest-marked g at (omega arith) (lands-few y) m v))
     where
-      marked : (z : ℕ) → Dec (z ≡ e.to) → mark_at o.between k.size z ≡ remarked (mem z (e.to ∷ [])) c.records (mark_at w₁ k.size z)
+      marked : (z : ℕ) → Dec (z ≡ to) → mark_at o.between k.size z ≡ remarked (mem z (to ∷ [])) c.records (mark_at w₁ k.size z)
       marked z (yes i) =
-          rw (mem-one z e.to, eq-eqb z e.to i, i) (marked-one (lands-address some_to) o.marks (lands-few y))
+          rw (mem-one z to, eq-eqb z to i, i) (marked-one (lands-address some_to) o.marks (lands-few y))
       marked z (no i) =
-          marked-others (lands-address some_to) o.marks z i ∙ sym (if-false (mem z (e.to ∷ []) && eqb (mark_at w₁ k.size z) 0) _ _ (rw (mem-one z e.to, ne_eqb z e.to i)))
+          marked-others (lands-address some_to) o.marks z i ∙ sym (if-false (mem z (to ∷ []) && eqb (mark_at w₁ k.size z) 0) _ _ (rw (mem-one z to, ne_eqb z to i)))
 
 -- ---- for the caller: the older records stay
 

@@ -6,7 +6,6 @@ ghost use Rattle.reachable.specs.Promises.{Address, SidesWithin};
 ghost use Rattle.steps.specs.Lands.{FoundMarked, Lands, Noted};
 
 use crate::plan::Plan;
-use layout::NOWHERE;
 use reachable::{mark, raise_sides};
 use refusal::Shortage;
 use tables::{Counts, Entry, record_entry};
@@ -22,6 +21,7 @@ fn mark_found(w: &mut [u8], size: usize, to: usize, when: usize)
 }
 
 // Records the path of np addresses with the entry's destination and its state, or with none, unless it is so recorded, and marks a new destination. A refusal leaves all as it was.
+// The buffers stay apart, as `record_entry` takes them: no function of this crate uses all six.
 pub fn land(
     w: &mut [u8],
     p: &[u8],
@@ -50,11 +50,11 @@ pub fn land(
         plan.buckets,
         entry,
     )?;
-    if entry.to == NOWHERE {
+    let Some(to) = entry.to else {
         return Ok(after);
-    }
+    };
     if after.records != counts.records {
-        mark_found(w, plan.size, entry.to, counts.records + 2);
+        mark_found(w, plan.size, to, counts.records + 2);
     }
     Ok(after)
 }

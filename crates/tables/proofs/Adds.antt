@@ -1,5 +1,5 @@
 -- The laws of a record more. Assumes nothing.
-use Rattle.std.proofs.Common.{◌≡◌, ℕ, ◌+◌, ◌-◌, ◌*◌, ◌<◌, ◌≤◌, eqb, ◌⊎◌, List, [], ◌∷◌, ◌++◌, length, take, drop, sym, refl, ap, ◌∙◌, inl, inr, add-one, arith, eq-eqb, Option, Some, None, IfSome, unwrap_or, ne_eqb}
+use Rattle.std.proofs.Common.{◌≡◌, ℕ, ◌+◌, ◌-◌, ◌*◌, ◌<◌, ◌≤◌, eqb, ◌⊎◌, List, [], ◌∷◌, ◌++◌, length, take, drop, sym, refl, ap, ◌∙◌, inl, inr, add-one, arith, unwrap_or, ne_eqb}
 use Rattle.spec.specs.Lists.{if}
 use Rattle.spec.specs.Search.{nowhere, found}
 use Rattle.lent.specs.Bytes.{Stored}
@@ -10,8 +10,8 @@ use Rattle.state.specs.Cells.{stack_at, State, Lies}
 use Rattle.state.proofs.States.{state-lies, lies-copied}
 use Rattle.tables.specs.Addrs.{addrs, path_sum}
 use Rattle.tables.specs.Records.{path_at, found_at, rec_at, recs_of, Row}
-use Rattle.tables.specs.Links.{Links, Linked}
-use Rattle.tables.specs.Tables.{mem, Goes, leads_nowhere, leads, Within, Tables, new_found, new_rec, Enters, enters_nowhere, enters, fields, Counting, Keeps, Adds, counted, Added}
+use Rattle.tables.specs.Links.{Linked}
+use Rattle.tables.specs.Tables.{mem, Goes, leads_nowhere, leads, Within, Tables, new_found, new_rec, Enters, enters_nowhere, enters, fields, Adds, counted, Added}
 use Rattle.tables.specs.declared.Rooms.{Rooms}
 use Rattle.tables.specs.declared.Counts.{Counts}
 use Rattle.tables.specs.declared.Entry.{Entry}
@@ -21,34 +21,8 @@ use Rattle.tables.proofs.Orders.{below}
 use Rattle.tables.proofs.Frames.{ends_same, kept_same, row_kept, goes_kept, recs-kept}
 
 module _ {p w r q s : List ℕ} {np n buckets sum : ℕ} {k : Rooms} {c : Counts} {e : Entry} (a : Adds p np n buckets k (mem w r q s) c e sum) where
-  leads_to : Enters n s e → IfSome e.to (λ b. b ≤ n)
-  leads_to (enters_nowhere z y) = rw z _
-  leads_to (enters z h t) = rw z h
-
-  pub adds-counting : Counting c np e
-  adds-counting = let i = a.ready.tables.within in record { records = omega arith; addresses = omega arith; kept = omega arith }
-
   adds-path : 2 * (c.addresses + np) ≤ length q
   adds-path = omega (arith, a.room_q, a.ready.tables.within)
-
-  module _ {f : Fields} (says : f ≡ fields c np e sum) where
-    pub adds-links : Links n buckets w r c.records f
-    adds-links =
-        let t = a.ready.tables in
-        let i = t.within in
-        rw says (record {
-          chains = t.chains;
-          parents = t.parents;
-          says = record { start = a.ready.start; to = leads_to a.ready.entry; ends = omega arith; kept = omega arith; sum = a.summed.small; energy = a.ready.energy };
-          in_r = omega arith;
-          few = t.few;
-          small = omega arith;
-        })
-
-    pub adds-state : Keeps s k.s f.kept e.from e.cells
-    adds-state =
-        let i = a.ready.tables.within in
-        rw says (record { source = omega (arith, a.ready.inside, a.room_s); fits = omega arith; most = omega (arith, a.room_s); lent = i.lent_s })
 
   module _ {w' r' q' s' : List ℕ} (l : Linked n buckets w r c.records (fields c np e sum) w' r')
       (tq : Stored (2 * np) q (2 * c.addresses) (take (2 * np) (drop 0 p)) q')

@@ -1,5 +1,5 @@
 -- The laws of recording, one for each way out. Assumes nothing.
-use Rattle.std.proofs.Common.{◌≡◌, ℕ, suc, ◌+◌, ◌*◌, ◌<◌, ◌≤◌, Bool, true, false, ◌⊎◌, List, [], ◌∷◌, ◌++◌, length, sym, refl, ap, ◌∙◌, inl, inr, add-one, arith, eq-eqb, ne_eqb, Option, Some, None, unwrap_or}
+use Rattle.std.proofs.Common.{◌≡◌, ℕ, suc, ◌+◌, ◌*◌, Bool, true, false, ◌⊎◌, List, [], ◌∷◌, ◌++◌, length, sym, refl, ap, ◌∙◌, inl, inr, add-one, arith, Option, Some, None, unwrap_or}
 use Rattle.spec.specs.Lists.{if, total}
 use Rattle.spec.specs.Stacks.{cells}
 use Rattle.spec.specs.Search.{Found, nowhere, found, Rec, kept, R, Q, Need, St, Turn, in_use, addresses, record_nowhere, record_found}
@@ -10,7 +10,7 @@ use Rattle.layout.specs.Marks.{NOWHERE}
 use Rattle.state.specs.Cells.{stack_at}
 use Rattle.state.proofs.States.{state-lies, lies-count}
 use Rattle.tables.specs.Addrs.{addrs, Summed}
-use Rattle.tables.specs.Records.{has_rec}
+use Rattle.tables.specs.Records.{has_rec, Seek}
 use Rattle.tables.specs.Links.{Beyond}
 use Rattle.tables.specs.Tables.{Mem, mem, recs, found_by, new_found, new_rec, Enters, enters_nowhere, enters, Ready, Adds, counted, Stays, Added}
 use Rattle.tables.specs.Recording.{Lends, short_of, entry_needs, noted, Holding, recorded?, Recorded}
@@ -56,6 +56,10 @@ module _ {p w r q s : List ℕ} {np n buckets : ℕ} {k : Rooms} {c : Counts} {e
 
   abbrev M : Mem
   M = mem w r q s
+
+  -- what looking the path up asks
+  pub ready-seek : {sum : ℕ} → Summed path sum → Seek p np w r q n buckets c.records sum
+  ready-seek h = record { path = y.path; summed = h; rows = y.tables.rows; chains = y.tables.chains }
 
   -- what a record more asks
   pub ready-adds : {sum : ℕ} → Summed path sum → 0 ≡ short_of k (entry_needs c np e.cells) → Adds p np n buckets k M c e sum

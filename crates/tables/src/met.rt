@@ -19,11 +19,9 @@ fn counted_row(counts: Counts, seen: Seen) -> Counts
     ensures { result ≡ remembering counts seen }
 {
     Counts {
-        records: counts.records,
-        addresses: counts.addresses,
-        kept: counts.kept,
         used: counts.used + seen.cells,
         rows: counts.rows + 1,
+        ..counts
     }
 }
 
@@ -52,10 +50,8 @@ pub fn begin_rows(t: &mut [u8], buckets: usize)
     requires { Begins buckets t.old }
     ensures { Emptied buckets t.old t.new }
 {
-    let mut bucket = 0;
-    while bucket < buckets {
+    for bucket in 0..buckets {
         put32(t, SEEN * bucket + HEAD, 0);
-        bucket += 1;
     }
 }
 
@@ -64,10 +60,8 @@ pub fn forget(t: &mut [u8], buckets: usize, rows: usize)
     requires { Shelves buckets t.old rows }
     ensures { Emptied buckets t.old t.new }
 {
-    let mut row = 0;
-    while row < rows {
+    for row in 0..rows {
         let bucket = bucket_of(stamp_at(t, row), buckets);
         put32(t, SEEN * bucket + HEAD, 0);
-        row += 1;
     }
 }

@@ -6,8 +6,9 @@ ghost use Rattle.tables.specs.Replies.{code_of, reply_of};
 ghost use Rattle.tables.specs.Recording.{short_of, entry_needs, Testing, Recorded};
 
 use crate::add::add_record;
-use crate::path::path_sum;
-use crate::record::recorded;
+use crate::chain::found;
+use crate::path::PathInHand;
+use crate::record::PathLookup;
 use crate::{Counts, Entry, Rooms};
 use layout::NOWHERE;
 use refusal::Shortage;
@@ -30,6 +31,7 @@ fn shortage(rooms: Rooms, counts: Counts, np: usize, cells: usize) -> Result<(),
 }
 
 // Records the path in hand with the entry's destination and its state, which is kept, or with no destination, unless it is so recorded. A refusal leaves all as it was.
+// The buffers stay apart: what is lent to read, or not lent at all as T, does not change by its type, which a struct of all six would have to promise.
 pub fn record_entry(
     w: &mut [u8],
     p: &[u8],
@@ -47,11 +49,22 @@ pub fn record_entry(
     ensures { Recorded p.now np size buckets rooms (mem w.old r.old q.old s.old) counts entry.start entry.energy (new_found s.old entry)
         (mem w.new r.new q.new s.new) (reply_of counts result) }
 {
-    let sum = path_sum(p, np);
-    let to = entry.to.unwrap_or(NOWHERE);
-    if recorded(w, p, r, q, np, size, buckets, counts.records, to, sum) {
+    let path = PathInHand { p, np };
+    let sum = path.sum();
+    let lookup = PathLookup {
+        w,
+        path,
+        r,
+        q,
+        size,
+        buckets,
+        records: counts.records,
+        to: entry.to.unwrap_or(NOWHERE),
+        sum,
+    };
+    if found(&lookup) {
         return Ok(counts);
     }
     shortage(rooms, counts, np, entry.cells)?;
-    Ok(add_record(w, p, s, r, q, np, rooms, counts, size, buckets, entry, sum))
+    Ok(add_record(w, &path, s, r, q, rooms, counts, size, buckets, entry, sum))
 }
