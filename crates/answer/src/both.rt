@@ -73,6 +73,7 @@ pub fn map_json(
     ensures mapped { MappedBoth limit choice mode code.now (held buffers.old) out.old text.old (held buffers.new) out.new text.new (told_both result) }
 {
     let lent = buffers.w.len();
+    // Not by `?`, behind which the proof does not see which refusal is handed on.
     let taken = match early(code.len(), limit, mode, lent) {
         Ok(taken) => taken,
         Err(refusal) => return Err(refusal),

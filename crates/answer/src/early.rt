@@ -27,6 +27,7 @@ pub fn early(size: usize, limit: usize, mode: usize, lent: usize) -> Result<Mode
     if 500000 < limit {
         return Err(Refusal::Limit);
     }
+    // Not by `?`, behind which the proof does not see which refusal is handed on.
     let taken = match Mode::try_from(mode) {
         Ok(taken) => taken,
         Err(refusal) => return Err(refusal),

@@ -56,6 +56,7 @@ pub fn put_lines(raw: &[u8], count: usize, out: &mut [u8]) -> usize
 {
     let mut at = 0;
     let mut end = 0;
+    // No `for`: each entry says how far the next one is.
     while at < count {
         let size = get32(raw, at) + 6;
         put_line(raw, at, size, out, end);
