@@ -15,13 +15,12 @@ use Rattle.theorems.proofs.FollowCounts.{above}
 use Rattle.lent.specs.Bytes.{num_at, Stored}
 use Rattle.lent.proofs.Numbers.{num-zeros}
 use Rattle.lent.proofs.Stored.{kept-num, read_back}
-use Rattle.reader.specs.Walks.{Walking}
 use Rattle.follow.specs.Blocks.{finals_at, Begins, GivesBlock}
 use Rattle.follow.specs.Finding.{Ready, Spot, RowIs, Rows, RowPut, Tells, Table}
 use Rattle.follow.specs.Edges.{Owned, Linked}
 use Rattle.follow.specs.declared.block.Block.{Block}
 use Rattle.follow.specs.declared.block.Blocks.{Blocks}
-use Rattle.follow.proofs.Passing.{Passing, pass_on, pass-sum, pass-walking, its-block, split-here, same-slot, slots-none, ready-walks, starting-append, starting-nil, starting-here, starting-later}
+use Rattle.follow.proofs.Passing.{Passing, pass_on, pass-sum, its-block, split-here, same-slot, slots-none, ready-walks, starting-append, starting-nil, starting-here, starting-later}
 use Rattle.follow.proofs.Following.{held-rises}
 
 -- ---- the first of blocks that starts at an address
@@ -107,9 +106,6 @@ row-later {b} {fs} {w} {w'} {q} f r n e d =
 
 module _ {b work : List ℕ} {rows : ℕ} {s : Blocks} {slot : ℕ} {w : List ℕ} (i : Filling b work rows s slot w) {r : Maybe Block} {t : Blocks} (h : GivesBlock s r t) where
   module _ {k : Block} (z : r ≡ Some k) where
-    pub fill-walking : Walking b k.named.at
-    fill-walking = pass-walking i.passing h z
-
     pub fill-owned : Owned b (slot + 1) k.named
     fill-owned =
         let its = its-block i.passing h z in

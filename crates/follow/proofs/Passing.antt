@@ -65,14 +65,6 @@ module _ {b : List ℕ} {s : Blocks} {n : ℕ} (i : Passing b s n) {r : Option B
   pub found-here : next_block b s.at r
   found-here = subst (λ (m : List ℕ). next_block m s.at r) i.same g.here
 
-  pub pass_all : r ≡ None → n ≡ slots_of (finals_at b 0)
-  pass_all q =
-      i.count ∙ omega_zero
-      ∙ sym (ap slots_of i.is ∙ slots-append i.before (finals_at b s.at) ∙ ap (λ (l : List Final). slots_of i.before + slots_of l) (subst (next_block b s.at) q found-here) ∙ ap (λ (k : ℕ). slots_of i.before + k) slots-none)
-    where
-      omega_zero : slots_of i.before ≡ slots_of i.before + 0
-      omega_zero = omega arith
-
   module _ {k : Block} (q : r ≡ Some k) where
     pub its-block : Begins b s.at k
     its-block = subst (next_block b s.at) q found-here
