@@ -6,7 +6,7 @@ use Rattle.spec.specs.Lists.{if, keep, mem}
 use Rattle.spec.specs.Counting.{count, distinct}
 use Rattle.spec.specs.Entries.{flag}
 use Rattle.laws.proofs.Branch.{both, if-true, if-false}
-use Rattle.laws.proofs.Members.{In, here, mem-in, in_mem, in_right}
+use Rattle.laws.proofs.Members.{In, here, in_right}
 use Rattle.theorems.proofs.ReaderPlaces.{never}
 use Rattle.theorems.proofs.DistinctOnes.{in-distinct, distinct-once}
 use Rattle.reader.specs.Walks.{Walking}
@@ -85,13 +85,6 @@ parted q (x ∷ xs) ys h =
       is = ap {B = List ℕ} (λ (l : List ℕ). x ∷ l)
           (ap (others x) p.is ∙ others-append x (distinct xs) (q ∷ p.later) ∙ ap (λ (l : List ℕ). others x (distinct xs) ++ l) (others-other x q p.later k.0));
     }
-
-mem-distinct : (q : ℕ) (xs : List ℕ) → mem q xs ≡ false → mem q (distinct xs) ≡ false
-mem-distinct q xs h = go (mem q (distinct xs)) refl
-  where
-    go : (t : Bool) → mem q (distinct xs) ≡ t → t ≡ false
-    go true e = let z = in_mem q (in-distinct q xs (mem-in q (distinct xs) e)) in never (cc)
-    go false e = refl
 
 mem-last : (q x : ℕ) (xs : List ℕ) → mem q xs ≡ false → (q ≡ x → ⊥) → mem q (xs ++ x ∷ []) ≡ false
 mem-last q x [] h n = ap (λ (t : Bool). t || false) (ne_eqb q x n)
