@@ -41,10 +41,12 @@ pub fn decode(code: &mut [u8], text: &[u8]) -> Option<usize>
     }
     let count = size / 2;
     for i in 0..count {
-        let Some(a) = worth(get8(text, 2 * i)) else {
+        let first = get8(text, 2 * i);
+        let second = get8(text, 2 * i + 1);
+        let Some(a) = worth(first) else {
             return None;
         };
-        let Some(b) = worth(get8(text, 2 * i + 1)) else {
+        let Some(b) = worth(second) else {
             return None;
         };
         put8(code, i, 16 * a + b);
