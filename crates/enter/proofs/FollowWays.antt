@@ -1,10 +1,9 @@
 -- What `follow` asks on its way, and the ways in which it ends. Assumes nothing.
 use mathlib.Core.Path.{◌≡◌, refl, sym, ap, ◌∙◌}
-use Prim.Native.Nat.{ℕ, ◌*◌, ◌≤◌}
+use Prim.Native.Nat.{ℕ, ◌*◌}
 use native.Mathlib.Omega.{arith}
 use mathlib.Core.Bool.{true, false}
 use mathlib.Core.List.{List}
-use lib.ListN.{length}
 use Rattle.spec.specs.Lists.{last_of}
 use Rattle.spec.specs.Stacks.{Sym, before, constant, jumpdest, other}
 use Rattle.spec.specs.Search.{Found, nowhere, found, Turn, follow}
@@ -45,10 +44,6 @@ module _ {code : List ℕ} {k : Plan} {start : ℕ} {l : Level} {at np : ℕ} {w
   pub followed-short : {w' s' : List ℕ} {e : Shortage} → Took code w s k o.counts l (stack_cursor (mode_in k) code r s k.rooms.s at) w' s' (Err e)
       → Followed code k start l at np (buffers w p s t r q) o (buffers w' p s' t r q) (shut_with (refused_with o (short_number e)) l)
   followed-short a turn since b fits = follow-short h a turn since b fits refl
-
-  -- the last block of the path in hand
-  pub follow-sees : (1 ≤ np) × (2 * np ≤ length p)
-  follow-sees = (omega (arith, h.is, h.some), omega (arith, h.room, h.entering.fits.planned.lent_p))
 
   module _ {w' s' : List ℕ} {x : Taken} (a : Took code w s k o.counts l (stack_cursor (mode_in k) code r s k.rooms.s at) w' s' (Ok x)) {y : Seen} (saw : Saw p np x o.counts.used y) where
     last-is : y.last ≡ last_of (addrs p 0 np)

@@ -9,15 +9,10 @@ use Rattle.tables.specs.declared.Entry.{Entry}
 use Rattle.tables.proofs.Noted.{new-nowhere}
 use Rattle.tables.specs.Replies.{Reply}
 use Rattle.steps.specs.Lands.{Noted}
-use Rattle.enter.specs.Enters.{Opening, shut_with, after_with, ended_with, Landed, Ended}
+use Rattle.enter.specs.Enters.{Opening, shut_with, ended_with, Landed, Ended}
 use Rattle.steps.specs.declared.plan.Plan.{Plan}
 use Rattle.steps.specs.declared.Level.{Level}
 use Rattle.steps.specs.Goings.{Gone}
-
--- what was answered is how the search goes then
-pub landed-in : {p : List ℕ} {np : ℕ} {k : Plan} {m m' : tables.Mem} {o d : Gone} {y : Entry} {a : Reply}
-    → Noted p np k m o.counts y.start y.energy (new_found m.s y) m' a → d ≡ after_with o a.code a.counts → Landed p np k m y o m' d
-landed-in n f = rw f (record { noted = n; is = refl })
 
 -- and no level opens
 pub ended-in : {p : List ℕ} {np : ℕ} {k : Plan} {m m' : tables.Mem} {o d : Gone} {y : Entry} {l : Level} → Landed p np k m y o m' d

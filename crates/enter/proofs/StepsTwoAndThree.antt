@@ -34,12 +34,12 @@ use Rattle.tables.specs.Replies.{Reply}
 use Rattle.tables.proofs.Addrs.{addrs-length}
 use Rattle.tables.proofs.Uses.{cells-in-use}
 use Rattle.steps.specs.Cursors.{path_cursor}
-use Rattle.steps.specs.Paths.{OnPath, Growing, Grown}
+use Rattle.steps.specs.Paths.{OnPath, Grown}
 use Rattle.steps.specs.Sound.{SoundRec}
 use Rattle.steps.specs.Lands.{Lands, Noted}
 use Rattle.steps.specs.Runs.{st_of, Did}
 use Rattle.enter.specs.Fits.{Fits, level_of, held, Stays}
-use Rattle.enter.specs.Enters.{Opening, refused_with, shut_with, ended_with, SkipAsks, skips, going, onward, Ended, Outcome, Entering, Entered, Following, Followed}
+use Rattle.enter.specs.Enters.{Opening, refused_with, shut_with, ended_with, skips, going, onward, Ended, Outcome, Entering, Entered, Following, Followed}
 use Rattle.steps.specs.declared.plan.Plan.{Plan}
 use Rattle.steps.specs.declared.Level.{Level}
 use Rattle.steps.specs.Goings.{Gone}
@@ -76,9 +76,6 @@ module _ {code : List ℕ} {k : Plan} {start : ℕ} {l : Level} {at : ℕ} {w p 
   more = path_cursor r q at
 
   -- ---- "A one-block parent already on the path is skipped."
-
-  pub enter-skips : SkipAsks k.size w at
-  enter-skips = record { some = h.parental.some; direct = λ i. record { lent = h.fits.planned.lent_w; inside = h.parental.near i } }
 
   skips-loops : skips w k.size at ≡ loops more path
   unfolding skips
@@ -247,16 +244,6 @@ module _ {code : List ℕ} {k : Plan} {start : ℕ} {l : Level} {at : ℕ} {w p 
 
   pub entered-skip : {v : Bool} {e : Opening} → v ≡ skips w k.size at → v ≡ true → e ≡ shut_with o l → Entered code k start l at (buffers w p s t r q) o (buffers w p s t r q) e
   entered-skip y z g turn since b f = rw g (enter-skip turn since b f (sym y ∙ z))
-
-  pub enter-grows : Growing p r q k.rooms.p l.np at
-  enter-grows = record {
-    some = h.parental.some;
-    direct = λ i. omega (arith, h.parental.near i, h.fits.planned.lent_w.short);
-    found = λ i. h.fits.tables.rows (at - 0x10000) (h.parental.there i);
-    in_p = h.fits.planned.lent_p;
-    most = h.fits.planned.most_p;
-    fits = h.stands.room;
-  }
 
   module _ {v : Bool} (is : v ≡ skips w k.size at) (unskipped : v ≡ false) {p' : List ℕ} where
     pub entered-short : {e : Shortage} → Grown p l.np k.rooms.p (path_cursor r q at) p' (Err e)

@@ -6,5 +6,4 @@ pub mod Arguments
 pub mod Table
 pub mod Once
 pub mod Listed
-mod Held
 mod Spelling

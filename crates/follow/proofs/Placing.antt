@@ -86,12 +86,6 @@ parted q (x ∷ xs) ys h =
           (ap (others x) p.is ∙ others-append x (distinct xs) (q ∷ p.later) ∙ ap (λ (l : List ℕ). others x (distinct xs) ++ l) (others-other x q p.later k.0));
     }
 
-mem-last : (q x : ℕ) (xs : List ℕ) → mem q xs ≡ false → (q ≡ x → ⊥) → mem q (xs ++ x ∷ []) ≡ false
-mem-last q x [] h n = ap (λ (t : Bool). t || false) (ne_eqb q x n)
-mem-last q x (y ∷ xs) h n =
-    let k = mem-not q y xs h in
-    ap₂ ◌||◌ (ne_eqb q y k.0) (mem-last q x xs k.1 n)
-
 -- ---- fresh
 
 pub all-not : (q : ℕ) (xs : List ℕ) → list_all (λ (x : ℕ). not (eqb x q)) xs ≡ not (mem q xs)

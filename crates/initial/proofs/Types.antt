@@ -1,6 +1,6 @@
 -- Block types as a row has them: read back, and small enough for it. Assumes nothing.
 use mathlib.Core.Path.{◌≡◌, refl, ap}
-use mathlib.Core.Bool.{Bool, true, false}
+use mathlib.Core.Bool.{Bool}
 use mathlib.Core.Option.{Option, none, some}
 use Prim.Native.Nat.{ℕ, ◌≤◌, ◌<◌, min}
 use native.Mathlib.Nat.{min-le_right}
@@ -9,7 +9,7 @@ use Rattle.spec.specs.Blocks.{Kind, terminate, jump, jumpi, dynamic_jump, dynami
 use Rattle.layout.specs.Rows.{to_of, other_of, typed}
 use Rattle.layout.specs.declared.row.BlockType.{BlockType}
 use Rattle.layout.specs.declared.row.BlockType.TheVariants.{Terminate, Jump, Jumpi, DynamicJump, DynamicJumpi}
-use Rattle.layout.proofs.Types.{typed-failure, typed-success, typed-jump, typed-jumpi, typed-dynamic_jump, typed-dynamic_jumpi}
+use Rattle.layout.proofs.Types.{typed-dynamic_jump, typed-dynamic_jumpi}
 use Rattle.initial.specs.Rows.{type_of, kind_of}
 use Rattle.initial.specs.Turn.{clip}
 
@@ -29,21 +29,9 @@ type-kind (Jumpi t f) = refl
 type-kind DynamicJump = refl
 type-kind (DynamicJumpi f) = refl
 
--- ---- the kind that each byte stands for
+-- ---- the kinds that the bytes from 5 on stand for
 
 module _ (to f : ℕ) {k : ℕ} where
-  pub kind-terminate : k ≡ 1 → kind_of (typed k to f) ≡ terminate false
-  kind-terminate e = ap kind_of (typed-failure to f e)
-
-  pub kind-success : k ≡ 2 → kind_of (typed k to f) ≡ terminate true
-  kind-success e = ap kind_of (typed-success to f e)
-
-  pub kind-jump : k ≡ 3 → kind_of (typed k to f) ≡ jump to
-  kind-jump e = ap kind_of (typed-jump to f e)
-
-  pub kind-jumpi : k ≡ 4 → kind_of (typed k to f) ≡ jumpi to f
-  kind-jumpi e = ap kind_of (typed-jumpi to f e)
-
   pub kind-dynamic_jump : k ≡ 5 → kind_of (typed k to f) ≡ dynamic_jump
   kind-dynamic_jump e = ap kind_of (typed-dynamic_jump to f e)
 

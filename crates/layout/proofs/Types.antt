@@ -1,4 +1,4 @@
--- What a row's numbers say of the type of its block, and back: for each kind's byte the type, and for each type the byte. Assumes nothing.
+-- What a row's numbers say of the type of its block, and back: for each kind's byte the type, and from a type the byte. Assumes nothing.
 use mathlib.Core.Path.{◌≡◌, refl, sym, ap, ◌∙◌}
 use mathlib.Core.Bool.{true, false, not}
 use mathlib.Core.List.{List}
@@ -73,20 +73,11 @@ module _ (k to f : ℕ) where
       (λ n4. both F (eqb k 5) (λ h. e (eqb-true k 5 h))
       (λ n5. g z (omega (arith, z, eqb-false k 1 n1, eqb-false k 2 n2, eqb-false k 3 n3, eqb-false k 4 n4, eqb-false k 5 n5)))))))
 
-  pub is-failure : (k ≡ 0 → ⊥) → typed k to f ≡ Terminate false → k ≡ 1
-  is-failure = by-byte (λ t. t ≡ Terminate false → k ≡ 1) (λ h _. h) (λ _ e. cc) (λ _ e. cc) (λ _ e. cc) (λ _ e. cc) (λ _ _ e. cc)
-
-  pub is-success : (k ≡ 0 → ⊥) → typed k to f ≡ Terminate true → k ≡ 2
-  is-success = by-byte (λ t. t ≡ Terminate true → k ≡ 2) (λ _ e. cc) (λ h _. h) (λ _ e. cc) (λ _ e. cc) (λ _ e. cc) (λ _ _ e. cc)
-
   pub is-jump : {x : ℕ} → (k ≡ 0 → ⊥) → typed k to f ≡ Jump x → (k ≡ 3) × (to ≡ x)
   is-jump {x} = by-byte (λ t. t ≡ Jump x → (k ≡ 3) × (to ≡ x)) (λ _ e. cc) (λ _ e. cc) (λ h e. (h, cc)) (λ _ e. cc) (λ _ e. cc) (λ _ _ e. cc)
 
   pub is-jumpi : {x y : ℕ} → (k ≡ 0 → ⊥) → typed k to f ≡ Jumpi x y → (k ≡ 4) × (to ≡ x) × (f ≡ y)
   is-jumpi {x} {y} = by-byte (λ t. t ≡ Jumpi x y → (k ≡ 4) × (to ≡ x) × (f ≡ y)) (λ _ e. cc) (λ _ e. cc) (λ _ e. cc) (λ h e. (h, cc, cc)) (λ _ e. cc) (λ _ _ e. cc)
-
-  pub is-dynamic_jump : (k ≡ 0 → ⊥) → typed k to f ≡ DynamicJump → k ≡ 5
-  is-dynamic_jump = by-byte (λ t. t ≡ DynamicJump → k ≡ 5) (λ _ e. cc) (λ _ e. cc) (λ _ e. cc) (λ _ e. cc) (λ h _. h) (λ _ _ e. cc)
 
   pub is-dynamic_jumpi : {y : ℕ} → (k ≡ 0 → ⊥) → typed k to f ≡ DynamicJumpi y → (6 ≤ k) × (f ≡ y)
   is-dynamic_jumpi {y} = by-byte (λ t. t ≡ DynamicJumpi y → (6 ≤ k) × (f ≡ y)) (λ _ e. cc) (λ _ e. cc) (λ _ e. cc) (λ _ e. cc) (λ _ e. cc) (λ _ h e. (h, cc))

@@ -103,9 +103,6 @@ module _ {code : List ℕ} {k : Plan} {start : ℕ} {l : Level} {m₀ : Mem} {o 
         let w = here.fits.planned.lent_w in
         record { short = w.short; inside = g.block; room = omega (arith, w.room) }
 
-    pub going-spend : cur.energy + 1 < 2 ^ 64
-    going-spend = omega (arith, g.energy, pre.fits.planned.limit, pre.stands.left)
-
     pub level-ends : at ≡ 0 → Leveled code k start l m₀ o m cur
     level-ends e = record {
       came = λ t since f.

@@ -6,39 +6,20 @@ use native.Mathlib.Decide.{ℕ_discrete}
 use native.Mathlib.Nat.{sub_self}
 use native.Mathlib.Omega.{arith}
 use lib.Dec.{eqb}
-use lib.ListN.{length}
 use borrow.Author.Tests.{eq-eqb, ne_eqb}
 use Rattle.spec.specs.Lists.{if, little}
 use Rattle.laws.proofs.Branch.{if-true, if-false}
-use Rattle.lent.specs.Bytes.{num_at, Holds, Stored}
+use Rattle.lent.specs.Bytes.{num_at, Stored}
 use Rattle.lent.proofs.Stored.{kept-take, kept-drop, kept-part, kept-num, read_back}
 use Rattle.layout.specs.Edges.{E-LINKS, key_at, link_at}
 use Rattle.layout.specs.Fields.{HEADS, head_at}
 use Rattle.layout.specs.Parts.{rows_end, fields_place, list_place}
 use Rattle.layout.specs.Records.{record_place}
 use Rattle.reachable.specs.Links.{first_from}
-use Rattle.reachable.specs.Promises.{Room, Address}
+use Rattle.reachable.specs.Promises.{Room}
 use Rattle.reachable.specs.Pruning.{EdgeRow, EdgeRows, LinkedRow, HeadsOnly, LinksOnly, Chains, Links}
 use Rattle.reachable.proofs.Frames.{num-in}
-use Rattle.reachable.specs.Keys.{offset_of}
-use Rattle.reachable.specs.declared.link.By.{By}
-use Rattle.reachable.proofs.EdgeRows.{by-key, key-within, first_of, first-kept, SameRow, row_kept}
-
--- ---- one row
-
-module _ {n i x o : ℕ} (by : By) {w r : List ℕ} (l : Room n w) (e : EdgeRow n r i) (q : o ≡ offset_of by) (h : Holds 2 r (record_place i + o) x) where
-  key-held : Holds 2 r (record_place i + offset_of by) x
-  key-held = rw q at h
-
-  pub row-address : Address n w x
-  row-address = record { lent = l; inside = rw key-held.is (key-within e (by-key by)) }
-
-  pub head-room : fields_place n x + (HEADS + o) + 4 ≤ length w
-  head-room = omega (arith, l.room, q, (by-key by).small, row-address.inside)
-
-  pub linked-row : {next : ℕ} {w' r' : List ℕ} → next ≡ head_at w n (offset_of by) x → Stored 4 r (record_place i + (E-LINKS + o)) (little 4 next) r'
-      → Stored 4 w (fields_place n x + (HEADS + o)) (little 4 (i + 1)) w' → LinkedRow n (offset_of by) w r i w' r'
-  linked-row g s t = record { head = rw (← key-held.is) (rw q at t); link = rw (← key-held.is, ← g) (rw q at s) }
+use Rattle.reachable.proofs.EdgeRows.{key-within, first_of, first-kept, SameRow, row_kept}
 
 -- ---- what stays
 

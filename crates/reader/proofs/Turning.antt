@@ -1,11 +1,9 @@
 -- One turn of the scan: what it asks of its callees, and its ways out. Assumes nothing.
 use mathlib.Core.Path.{◌≡◌, refl, sym, ap, subst, ◌∙◌}
 use mathlib.Core.List.{List, [], ◌∷◌}
-use Prim.Native.Nat.{ℕ, ◌+◌, ◌^◌, ◌≤◌, ◌<◌}
+use Prim.Native.Nat.{ℕ, ◌+◌, ◌≤◌, ◌<◌}
 use native.Mathlib.Omega.{arith}
 use native.Mathlib.Decide.{dec_le}
-use mir.Syntax.{w64}
-use mir.Val.{Fits}
 use Rattle.std.specs.Prelude.{Option, Some, None, Result, Ok, Err}
 use lib.Dec.{eqb, leb}
 use lib.ListN.{length, drop, length-drop}
@@ -101,13 +99,6 @@ one-record (Some (Block s)) = omega arith
 one-record (Some (Dynamic s n)) = omega arith
 one-record (Some Way) = omega arith
 one-record (Some (Record numbered)) = omega arith
-
-module _ {b : List ℕ} {s : Scan} (w : Within b s) (h : s.at < length b) (f : length b < 2 ^ 64) where
-  pub sum-blocks : (k : Option Class) {x : ℕ} → x ≡ block_inside k → Fits w64 (s.blocks + x)
-  sum-blocks k q = omega (arith, one_block k)
-
-  pub sum-records : (k : Option Class) {x : ℕ} → x ≡ record_inside k → Fits w64 (s.records + x)
-  sum-records k q = omega (arith, one-record k)
 
 -- ---- one turn
 
