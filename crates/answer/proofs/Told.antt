@@ -2,11 +2,11 @@
 use mathlib.Core.Path.{◌≡◌, refl, sym, ap, ◌∙◌}
 use Prim.Native.Nat.{ℕ, zero, suc, ◌≤◌, ◌<◌}
 use native.Mathlib.Omega.{arith}
-use mathlib.Core.Bool.{Bool, true, false, not}
+use mathlib.Core.Bool.{Bool, true, false}
 use mathlib.Core.List.{List}
 use lib.Dec.{leb}
 use lib.ListN.{length}
-use borrow.Author.Tests.{leb-true, leb-false, not-true, not-false, le-leb}
+use borrow.Author.Tests.{leb-true, leb-false, le-leb}
 use Rattle.spec.specs.Opcodes.{in_mode}
 use Rattle.spec.specs.Rooms.{Lent, units, shortage}
 use Rattle.spec.specs.Entries.{Map, bytes}
@@ -19,7 +19,7 @@ use Rattle.laws.proofs.Branch.{both, if-true, if-false}
 use Rattle.std.specs.Prelude.{Option, Some, None, Result, Ok, Err, ok_or}
 use Rattle.refusal.specs.Numbers.{short_number}
 use Rattle.refusal.specs.declared.Refusal.{Refusal}
-use Rattle.refusal.specs.declared.Refusal.TheVariants.{Room, Output, Text}
+use Rattle.refusal.specs.declared.Refusal.TheVariants.{Output, Text}
 use Rattle.refusal.specs.declared.Shortage.{Shortage}
 use Rattle.refusal.specs.declared.Shortage.TheVariants.{P, S, T, R, Q}
 use Rattle.entries.specs.Promises.{map_of, FitsRoom}
@@ -85,9 +85,6 @@ short-some Q z = omega (arith, z)
 -- ---- the entries alone
 
 module _ (w r q : List ℕ) (n choice : ℕ) (out : List ℕ) where
-  pub put-short : {finding : Result Finding Shortage} {s : Shortage} {e : Refusal} → finding ≡ Err s → e ≡ Room s → Put w r q n (found_of finding) choice out out (told (Err e))
-  put-short {s = s} f h = rw (f, h) record { short = λ _. record { number = refl; count = refl; out_is = refl }; answer = λ z. absurd (short-some s z) }
-
   pub put-done : {finding : Result Finding Shortage} {f : Finding} {out' : List ℕ} {end : Option ℕ} {a : Result ℕ Refusal} → finding ≡ Ok f
       → entries.Written w r q n f.records f.energy choice out out' end → a ≡ ok_or end Output → Put w r q n (found_of finding) choice out out' (told a)
   put-done {f = f} {out'} {end} g k c = rw (g, c) record {
@@ -107,11 +104,6 @@ pub text-room : {w r q : List ℕ} {n m u v : ℕ} {b : Bool} → u ≡ v → te
 text-room e f h = rw (e, h) at f
 
 module _ (w r q : List ℕ) (n choice : ℕ) (out text : List ℕ) where
-  pub both-short : {finding : Result Finding Shortage} {s : Shortage} {e : Refusal} → finding ≡ Err s → e ≡ Room s
-      → PutBoth w r q n (found_of finding) choice out out text text (told_both (Err e))
-  both-short {s = s} f h =
-      rw (f, h) record { short = λ _. record { number = refl; count = refl; shows = refl; out_is = refl; text_is = refl }; answer = λ z. absurd (short-some s z) }
-
   module _ {finding : Result Finding Shortage} {f : Finding} (ok : finding ≡ Ok f) where
     pub both-nine : {u : ℕ} {b : Bool} → u ≡ units (length out) 1 → FitsRoom w r q n f.records choice u b → b ≡ false
         → PutBoth w r q n (found_of finding) choice out out text text (told_both (Err Output))

@@ -82,21 +82,6 @@ module _ {t : BlockType} (r q : List ℕ) (m a : ℕ) {o : Output} where
   dynamic_jumpi-put e p s u v =
       rw (e, listing r m a 6 (omega arith), ways-are r q (chosen r m a 6)) (few-less (few-join (few-join (few-join (said p) s) u) (said v)) (omega arith))
 
--- the sides that a type has
-module _ {t : BlockType} {to : ℕ} (s : Sides t) where
-  pub small-jump : t ≡ Jump to → to < 65536
-  small-jump e = rw e at s.to
-
-  pub small-dynamic : t ≡ DynamicJumpi to → to < 65536
-  small-dynamic e = rw e at s.other
-
-module _ {t : BlockType} {to other : ℕ} (s : Sides t) (e : t ≡ Jumpi to other) where
-  pub small-true : to < 65536
-  small-true = rw e at s.to
-
-  pub small-false : other < 65536
-  small-false = rw e at s.other
-
 -- ---- the block
 
 module _ {n m a at : ℕ} {w r q : List ℕ} (b : PutsBlock n m w r q a at) where

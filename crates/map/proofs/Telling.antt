@@ -1,36 +1,18 @@
 -- An answer that is handed over, and what is printed of it. Assumes nothing.
 use mathlib.Core.Path.{◌≡◌, refl, sym}
 use mathlib.Core.List.{List}
-use Prim.Native.Nat.{ℕ, ◌≤◌, ◌<◌}
+use Prim.Native.Nat.{ℕ, ◌≤◌}
 use native.Mathlib.Omega.{arith}
 use lib.ListN.{length}
 use Rattle.spec.specs.Entries.{Map, bytes, entries}
 use Rattle.spec.specs.Answer.{Answer, refused, answered}
-use Rattle.spec.specs.Program.{says_refused, prints}
+use Rattle.spec.specs.Program.{prints}
 use Rattle.lent.specs.Bytes.{Stored}
 use Rattle.std.specs.Prelude.{Result, Ok}
 use Rattle.refusal.specs.declared.Refusal.{Refusal}
 use Rattle.answer.specs.Told.{told}
 use Rattle.map.specs.Promises.{Cut, Lists, Lined, Numbered, refusal, map, Told, Shows, Prints}
 use Rattle.map.proofs.Items.{entries-items}
-
--- ---- a refusal
-
-small-number : (x : Answer) {number count : ℕ} {raw : List ℕ} → Numbered x → Told x number count raw → number < 100
-small-number (refused n) (refusal h g) t = omega (arith, t.number_is)
-small-number (answered m) (map h) t = omega (arith, t.number_is)
-
-pub refusal-fits : {number count : ℕ} {raw out : List ℕ} → Shows number count raw out → (number < 100) × (11 ≤ length out)
-refusal-fits s = (small-number s.answer s.told.numbered s.told, omega (arith, s.room))
-
-prints-refusal : (x : Answer) {number count end : ℕ} {raw out out' : List ℕ} → (number ≡ 0 → ⊥) → Stored end out 0 (says_refused number) out' → Told x number count raw
-    → Stored end out 0 (prints x) out'
-prints-refusal (refused n) z s t = rw (← t.number_is) s
-prints-refusal (answered m) z s t = absurd (z t.number_is)
-
-pub refusal-printed : {number end : ℕ} (count : ℕ) (raw : List ℕ) {out out' : List ℕ} → (number ≡ 0 → ⊥) → Stored end out 0 (says_refused number) out'
-    → Prints number count raw out out' end
-refusal-printed count raw z s = record { stored = λ x t. prints-refusal x z s t; kept = s.kept }
 
 -- ---- a map
 

@@ -23,7 +23,7 @@ use Rattle.layout.specs.Parts.{fields_place, buckets_place, bucket_place}
 use Rattle.layout.specs.Records.{to_at}
 use Rattle.layout.specs.Buffers.{buffers}
 use Rattle.tables.specs.Records.{found_at, rec_at, recs_of}
-use Rattle.tables.specs.Tables.{SameLinks, Goes, leads_nowhere, leads}
+use Rattle.tables.specs.Tables.{SameLinks}
 use Rattle.tables.proofs.Counted.{dest-if, recs-length}
 use Rattle.tables.proofs.Uses.{tables-kept}
 use Rattle.parents.proofs.Knows.{known-prefix}
@@ -36,7 +36,7 @@ use Rattle.reachable.proofs.Rows.{node-edges}
 use Rattle.reachable.proofs.Spreading.{room-but, within-but}
 use Rattle.steps.specs.Runs.{recs_in}
 use Rattle.enter.specs.Fits.{prepared_in}
-use Rattle.resolver.specs.Turns.{Idle, HandsOver, dests_from, HandedAll}
+use Rattle.resolver.specs.Turns.{Idle, dests_from, HandedAll}
 use Rattle.steps.specs.declared.plan.Plan.{Plan}
 use Rattle.steps.proofs.Helds.{helds-past}
 use Rattle.steps.specs.Goings.{Gone}
@@ -76,23 +76,6 @@ marked m by l h = and-true (ltb 0 m) (leb m by) (lt-ltb 0 m l) (le-leb m by h)
 module _ {code : List ℕ} {k : Plan} {since : ℕ} {w p s t r q : List ℕ} {cur : Gone}
     (i : Idle code k (reached_by (prepared_in k code) (take since (recs_in k (buffers w p s t r q) cur.counts))) since (buffers w p s t r q) cur)
     (f : (x : ℕ) → mem x (flagged w k.size) ≡ mem x (reached_by (prepared_in k code) (take since (recs_in k (buffers w p s t r q) cur.counts)))) where
-  -- what it asks
-  pub renew-settles : HandsOver k.size w r since cur.counts.records
-  renew-settles = record {
-    lent = i.planned.lent_w;
-    within = i.within;
-    closed = i.closed;
-    high = i.marks.high;
-    order = i.began;
-    in_r = omega (arith, i.tables.within.fits_r, i.tables.within.lent_r);
-    few = omega (arith, i.tables.within.fits_r, i.tables.within.most_r);
-    goes = λ j l. goes j (i.tables.goes j l);
-  }
-    where
-      goes : (j : ℕ) → Goes k.size k.rooms.s r s j → (to_at r j ≡ NOWHERE) ⊎ (to_at r j ≤ k.size)
-      goes j (leads_nowhere e g) = inl e
-      goes j (leads e g) = inr e
-
   abbrev recs : List Rec
   recs = recs_in k (buffers w p s t r q) cur.counts
 

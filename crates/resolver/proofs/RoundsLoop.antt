@@ -1,5 +1,5 @@
 -- The rounds of the search: what is left to do from here ends where the whole ends. Assumes nothing.
-use mathlib.Core.Path.{◌≡◌, refl, sym, ap, subst, ◌∙◌}
+use mathlib.Core.Path.{◌≡◌, sym, ap, subst, ◌∙◌}
 use mathlib.Core.Bool.{Bool, true, false}
 use mathlib.Core.List.{List}
 use Prim.Native.Nat.{ℕ, suc, ◌-◌, ◌≤◌, ◌<◌}
@@ -19,13 +19,13 @@ use Rattle.layout.specs.Buffers.{Mem, buffers}
 use Rattle.tables.proofs.Counted.{recs-length}
 use Rattle.steps.specs.Runs.{recs_in, st_of, Did}
 use Rattle.enter.specs.Fits.{prepared_in}
-use Rattle.resolver.specs.Turns.{Idle, Passed, Between, RoundAsks, Rounded, HandsOver, HandedAll, last_since, Rounds}
+use Rattle.resolver.specs.Turns.{Idle, Passed, Between, RoundAsks, Rounded, HandedAll, last_since, Rounds}
 use Rattle.steps.specs.declared.plan.Plan.{Plan}
 use Rattle.std.specs.Borrow.{MutBor}
 use Rattle.layout.specs.declared.buffers.Buffers.{Buffers}
 use Rattle.enter.specs.Lent.{StillLent}
 use Rattle.steps.specs.Goings.{Gone}
-use Rattle.resolver.proofs.AfterSettle.{renew-settles, renew-flags, renewed}
+use Rattle.resolver.proofs.AfterSettle.{renew-flags, renewed}
 use Rattle.levels.proofs.Sequence.{did_nothing, did-same, did_then, did-stops}
 
 -- ---- one round of document 01
@@ -78,15 +78,6 @@ pub record RoundsSoFar (code : List ℕ) (k : Plan) (m₀ : Mem) (o : Gone) (m :
   pub lasts : (x : ℕ) → ((mid : St) → clear mid ≡ st_of k m cur → last_since left k.limit (prepared_in k code) since mid ≡ x)
       → last_since 128 k.limit (prepared_in k code) 0 (st_of k m₀ o) ≡ x
 
-pub so-far-start : {code : List ℕ} {k : Plan} {m : Mem} {o : Gone} → Between code k 0 m o → RoundsSoFar code k m o m o 0 128
-so-far-start {k = k} {m = m} {o = o} b = record {
-  between = b;
-  rows = refl;
-  beyond = refl;
-  ends = λ number b d. d;
-  lasts = λ x h. h (st_of k m o) refl;
-}
-
 -- ---- the ways out
 
 module _ {code : List ℕ} {k : Plan} {m₀ : Mem} {o : Gone} {m : Mem} {cur : Gone} {since left : ℕ} (g : RoundsSoFar code k m₀ o m cur since left) where
@@ -117,9 +108,6 @@ module _ {code : List ℕ} {k : Plan} {m₀ : Mem} {o : Gone} {m : Mem} {cur : G
 
 module _ {code : List ℕ} {k : Plan} {m₀ : Mem} {o : Gone} {w p s t r q : List ℕ} {cur : Gone} {since left : ℕ}
     (g : RoundsSoFar code k m₀ o (buffers w p s t r q) cur since left) where
-  pub so-far-settles : HandsOver k.size w r since cur.counts.records
-  so-far-settles = renew-settles g.between.idle g.between.flags
-
   module _ {w₁ : List ℕ} (e : HandedAll k.size w r since cur.counts.records w₁) where
     abbrev recs : List Rec
     recs = recs_in k (buffers w p s t r q) cur.counts

@@ -36,7 +36,6 @@ use Rattle.tables.proofs.Uses.{tables-none}
 use Rattle.parents.proofs.Knows.{known-prefix}
 use Rattle.reachable.specs.Marks.{flagged, marked_by, wiped}
 use Rattle.reachable.specs.Promises.{Begun, Reaches}
-use Rattle.reachable.specs.Promises as reachable
 use Rattle.reachable.proofs.Tests.{not-both}
 use Rattle.reachable.proofs.Flags.{flagged-same}
 use Rattle.reachable.proofs.Frames.{num-in}
@@ -55,11 +54,6 @@ use Rattle.tables.proofs.Shorts.{short-some}
 use Rattle.steps.specs.declared.Run.{Run}
 use Rattle.steps.specs.Goings.{Gone, gone}
 pub use Rattle.enter.proofs.TurnKept.{known-within}
-
--- ---- what `reach` asks
-
-pub search-room : {mode : Mode} {code w : List ℕ} {limit many : ℕ} → SearchAsks mode code w limit many → reachable.Room (length code) w
-search-room a = record { short = a.short; room = a.lent }
 
 -- ---- a mark of 1, or none
 

@@ -18,7 +18,7 @@ use Rattle.reachable.proofs.Rows.{edges-kept}
 use Rattle.reachable.proofs.Entering.{sets-none, sets-after}
 use Rattle.reachable.proofs.Expanding.{expand-round}
 use Rattle.reachable.proofs.Spreading.{room-but, within-but}
-use Rattle.resolver.specs.Turns.{HandsOver, dests_from, HandedAll}
+use Rattle.resolver.specs.Turns.{HandsOver, dests_from}
 use Rattle.resolver.specs.Batches.{HandedOver}
 use Rattle.resolver.proofs.Destinations.{dests-split}
 use Rattle.resolver.proofs.ClosedSet.{closed-own}
@@ -114,8 +114,3 @@ module _ {n since records i : ℕ} {w r w' : List ℕ} (s : Settling n w r since
 
       after : (y : ℕ) → mem y (flagged w' n) ≡ true → mem y (flagged w'' n) ≡ true
       after y p = x.expanded.reached y ∙ closure-complete (row_edges w' n) (batch ++ flagged w' n) y (seed (in_mem y (in_right batch (mem-in y (flagged w' n) p))))
-
-pub settle-done : {n since records i : ℕ} {w r w' : List ℕ} → Settling n w r since records i w' → records ≤ i → HandedAll n w r since records w'
-settle-done {records = records} {i} s l =
-    let e : i ≡ records = omega (arith, s.most) in
-    record { reached = rw e at s.reached; marks = s.sets.marks; closed = s.closed; high = s.high; kept = s.kept }
