@@ -37,7 +37,7 @@ abbrev pub out : List Sym → Option Sym → Option Out
 out xs o = some (record { stack = xs; symbol = o })
 
 -- Before b, Before (b + 1) and so on downwards, n of them
-abbrev beneath : ℕ → ℕ → List Sym
+abbrev pub beneath : ℕ → ℕ → List Sym
 beneath b zero = []
 beneath b (suc n) = before b ∷ beneath (suc b) n
 
@@ -83,23 +83,23 @@ real-exec row code start (i ∷ is) xs = and_then (ensured (row i.op).taken xs) 
 -- ---- exec
 
 -- line 139: the symbol is Before(nb) with nb + pos == base_before
-abbrev continues : ℕ → ℕ → Sym → Bool
+abbrev pub continues : ℕ → ℕ → Sym → Bool
 continues base pos (before nb) = eqb (nb + pos) base
 continues base pos (constant v) = false
 continues base pos (jumpdest v) = false
 continues base pos (other pc) = false
 
 -- lines 135 to 140: how many do, from the bottom
-abbrev prefix : ℕ → ℕ → List Sym → ℕ
+abbrev pub prefix : ℕ → ℕ → List Sym → ℕ
 prefix base pos [] = 0
 prefix base pos (x ∷ xs) = if (continues base pos x) (suc (prefix base (suc pos) xs)) 0
 
 -- `drain(..n)`: the first n from the bottom
-abbrev drained : ℕ → List Sym → Option (List Sym)
+abbrev pub drained : ℕ → List Sym → Option (List Sym)
 drained n xs = if (leb n (length xs)) (some (reverse (drop n (reverse xs)))) none
 
 -- lines 142 to 144
-abbrev minimal : ℕ → List Sym → Option (List Sym)
+abbrev pub minimal : ℕ → List Sym → Option (List Sym)
 minimal base xs = let n = prefix base 0 (reverse xs) in if (ltb 1 n) (drained (n - 1) xs) (some xs)
 
 -- lines 123 to 146: the bottom is asserted to be a Before, before and after
