@@ -22,7 +22,7 @@ use Rattle.theorems.proofs.Walking.{Stands, Walked, stops, steps, walked}
 use Rattle.theorems.proofs.Cutting.{Made, made, starts-rise, starts-checked}
 use Rattle.source.specs.Collections.{insert_sorted}
 use Rattle.source.specs.State.{four_bytes}
-use Rattle.source.specs.Graph.{BlockType, Terminate, Jump, RustBlock, rust_block, with_type, Blocks}
+use Rattle.source.specs.Types.{BlockType, Terminate, Jump, RustBlock, rust_block, with_type, Blocks}
 use Rattle.source.specs.Shown.{type_of, shown}
 use Rattle.source.specs.Initial.{is_static_jump, new_block, Cutting, cutting, closed, jumpi_type, jump_type, match_op, for_code, last_block, valid, new_btype, check_each, keys_of, initial_blocks}
 use Rattle.source.proofs.Iterating.{index, Sized, iterate-walks}

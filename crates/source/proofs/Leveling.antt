@@ -20,7 +20,7 @@ use Rattle.laws.proofs.Members.{In, here, there, and_both, in-only, in-cases, in
 use Rattle.theorems.proofs.Counts.{Lawful}
 use Rattle.source.specs.Collections.{unwrap_or, get, contains_key, insert, set_insert, last_unwrapped, minus}
 use Rattle.source.specs.State.{State}
-use Rattle.source.specs.Graph.{Dynamic}
+use Rattle.source.specs.Types.{Dynamic}
 use Rattle.source.specs.Resolver.{Parents, RevIdx, Got, got, with_parents, set_reachable0, with_istate, with_badpaths, insert_path_parent, path_in, insert_badpath, get_parents, add_inter_state, required, Resolved, resolved, pushed_if, Deeper, match_symbol, follow_path, try_parent, cycles, for_parents, resolve_dynamic_jump_path}
 use Rattle.source.proofs.Iterating.{Sized}
 use Rattle.source.proofs.Mirror.{stored, get-stored, resolve-stored}

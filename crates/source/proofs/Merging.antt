@@ -15,7 +15,7 @@ use Rattle.spec.specs.Ending.{Final, all_are, merged, ended, entries_of, finals}
 use Rattle.laws.proofs.Branch.{both, if-true, if-false, and_then}
 use Rattle.laws.proofs.Members.{In, here, there, same_test, in-gather, in-keep, in_map}
 use Rattle.laws.proofs.Lists.{Rising, one_more}
-use Rattle.source.specs.Graph.{Dynamic, BlockType, Terminate, Jump, Jumpi, DynamicJump, DynamicJumpi, RustBlock, rust_block, with_type, Blocks}
+use Rattle.source.specs.Types.{Dynamic, BlockType, Terminate, Jump, Jumpi, DynamicJump, DynamicJumpi, RustBlock, rust_block, with_type, Blocks}
 use Rattle.source.specs.Shown.{to_of, jump_of, type_of, view}
 use Rattle.source.specs.Resolver.{change, change_each, is_some, retained, all_to, one_target, merged_type}
 use Rattle.source.proofs.Small.{keep-none}

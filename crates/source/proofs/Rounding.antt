@@ -25,7 +25,7 @@ use Rattle.theorems.proofs.BatchedSearch.{round_same}
 use Rattle.theorems.proofs.AnyOrder.{held, targets_of, round-leaves}
 use Rattle.theorems.proofs.Extending.{pushes-of, extend-each}
 use Rattle.source.specs.Collections.{unwrap_or, get}
-use Rattle.source.specs.Graph.{Blocks}
+use Rattle.source.specs.Types.{Blocks}
 use Rattle.source.specs.Shown.{view}
 use Rattle.source.specs.Reachable.{Witnesses, extend_reachable_nodes}
 use Rattle.source.specs.Resolver.{RevIdx, set_reachable0, Round, ENERGY-LIMIT, one_turn, for_turns, for_rounds}

@@ -11,9 +11,9 @@ use Rattle.source.specs.State.{max_before}
 use Rattle.source.specs.Initial.{for_code, check_each}
 use Rattle.source.specs.Reachable.{while_queue, passes}
 use Rattle.source.specs.Resolver.{get_state, get_state_with_depth, insert_path_parent, insert_badpath, get_parents, add_inter_state, replays, materialize_path_state, widen, match_symbol, follow_path, try_parent, for_parents, resolve_dynamic_jump_path, first_stage, direct_parents, change, after_turn, one_turn, for_turns, for_rounds}
-use Rattle.source.specs.ControlFlowGraph.{rust}
+use Rattle.source.specs.Mod.{rust}
 use Rattle.source.specs.Op.{info}
-use Rattle.source.specs.Graph.{Dynamic, BlockType, Terminate, Jump, DynamicJump, RustBlock, rust_block, Blocks}
+use Rattle.source.specs.Types.{Dynamic, BlockType, Terminate, Jump, DynamicJump, RustBlock, rust_block, Blocks}
 
 abbrev from : List ℕ → ℕ → Dynamic
 from p t = record { path = p; to = some t }

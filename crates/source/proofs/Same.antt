@@ -30,12 +30,12 @@ use Rattle.theorems.proofs.Exec.{plainly}
 use Rattle.theorems.proofs.Reaching.{entries_of-all}
 use Rattle.theorems.proofs.RustSets.{pruning-set, bare, first-set}
 use Rattle.source.specs.Collections.{unwrap_or, get}
-use Rattle.source.specs.Graph.{RustBlock, Blocks}
+use Rattle.source.specs.Types.{RustBlock, Blocks}
 use Rattle.source.specs.Shown.{shown, view}
 use Rattle.source.specs.Initial.{initial_blocks}
 use Rattle.source.specs.Reachable.{all_pushes, get_reachable_nodes}
 use Rattle.source.specs.Resolver.{RevIdx, default, set_reachable0, ENERGY-LIMIT, Staged, first_stage, direct_parents, for_rounds, change_each, retained, merged_type, resolve_dynamic_jumps}
-use Rattle.source.specs.ControlFlowGraph.{control_flow_graph, rust}
+use Rattle.source.specs.Mod.{control_flow_graph, rust}
 use Rattle.source.proofs.Iterating.{Sized}
 use Rattle.source.proofs.Mirror.{stored}
 use Rattle.source.proofs.Caches.{own_of, Along, along_one, Cached}

@@ -21,7 +21,7 @@ use Rattle.theorems.proofs.Counts.{Lawful}
 use Rattle.theorems.proofs.Exec.{plainly}
 use Rattle.source.specs.Collections.{unwrap_or, get, contains_key, insert}
 use Rattle.source.specs.State.{State, new, Ended, exec_code}
-use Rattle.source.specs.Graph.{BlockType, RustBlock, Blocks, with_type}
+use Rattle.source.specs.Types.{BlockType, RustBlock, Blocks, with_type}
 use Rattle.source.specs.Shown.{type_of, shown}
 use Rattle.source.specs.Resolver.{Parents, RevIdx, Got, insert_state, get_state, insert_direct_parent, Staged, staged, stage_of, is_dynamic, first_stage, insert_sides, direct_parents}
 use Rattle.source.proofs.Maps.{number-test, path-test, holds-inserted, get-inserted, get_other}

@@ -21,7 +21,7 @@ use Rattle.laws.proofs.Lists.{Rising, one_more}
 use Rattle.theorems.proofs.Counts.{Lawful}
 use Rattle.theorems.proofs.AnyOrder.{held, targets_of}
 use Rattle.source.specs.Collections.{match_option, unwrap_or, get, insert, last_unwrapped, minus}
-use Rattle.source.specs.Graph.{Dynamic, BlockType, DynamicJump, DynamicJumpi, RustBlock, with_type, Blocks}
+use Rattle.source.specs.Types.{Dynamic, BlockType, DynamicJump, DynamicJumpi, RustBlock, with_type, Blocks}
 use Rattle.source.specs.Shown.{to_of, jump_of, type_of, view}
 use Rattle.source.specs.Reachable.{Witnesses}
 use Rattle.source.specs.Resolver.{RevIdx, Resolved, resolved, get_state, resolve_dynamic_jump_path, add_targets, extend_type, change, clear_inter_state, Round, ENERGY-LIMIT, after_turn, one_turn}

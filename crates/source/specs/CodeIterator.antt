@@ -1,4 +1,4 @@
--- src/evm/code_iterator.rs, lines 12 to 44. The rows of the bytes are a parameter. Assumes nothing.
+-- src/evm/code_iterator.rs. The rows of the bytes are a parameter. Assumes nothing.
 use Rattle.std.specs.Prelude.{ℕ, zero, suc, ◌+◌, min, List, [], ◌∷◌, leb, ltb, length}
 use Rattle.std.proofs.Math.Option.{Option, none, some}
 use Rattle.std.proofs.Math.ListN.{get_elem?}
@@ -8,7 +8,7 @@ use Rattle.spec.specs.Walk.{Ins, big}
 use Rattle.laws.specs.Options.{and_then}
 use Rattle.source.specs.Collections.{slice}
 
--- An item is `(pc, CodeOp { op, opi, arg })`: here pc, op, and arg as the number that its bytes spell; opi is the row of op.
+-- lines 5 to 10: an item is `(pc, CodeOp { op, opi, arg })`, here the definitions' Ins of pc, op, and arg as the number that its bytes spell; opi is the row of op
 module _ (row : ℕ → Row) (code : List ℕ) (pc-limit : ℕ) where
   -- lines 24 to 43: all that the closure yields from pc on, in at most n calls
   unfoldable pub yields : ℕ → ℕ → Option (List Ins)
@@ -29,5 +29,6 @@ abbrev pub limit_of : List ℕ → Option ℕ → ℕ
 limit_of code none = length code
 limit_of code (some v) = min (v + 1) (length code)
 
+-- lines 12 to 44
 abbrev pub iterate_code : (ℕ → Row) → List ℕ → ℕ → Option ℕ → Option (List Ins)
 iterate_code row code start-pc end-pc = yields row code (limit_of code end-pc) (suc (length code)) start-pc

@@ -9,9 +9,9 @@ use Rattle.laws.specs.Options.{and_then}
 use Rattle.source.specs.Collections.{insert_sorted}
 use Rattle.source.specs.CodeIterator.{iterate_code}
 use Rattle.source.specs.State.{four_bytes}
-use Rattle.source.specs.Graph.{BlockType, Terminate, Jump, Jumpi, DynamicJump, DynamicJumpi, RustBlock, rust_block, with_type, Blocks}
+use Rattle.source.specs.Types.{BlockType, Terminate, Jump, Jumpi, DynamicJump, DynamicJumpi, RustBlock, rust_block, with_type, Blocks}
 
--- lines 12 to 22; `four_bytes` is lines 15 to 18
+-- lines 12 to 22; `four_bytes` of state.rs's transcription is lines 15 to 18
 abbrev pub is_static_jump : List ℕ → ℕ → Option (Option ℕ)
 is_static_jump code prev_pc =
     and_then (get_elem? code prev_pc) (λ prev-op.
@@ -22,30 +22,32 @@ is_static_jump code prev_pc =
 abbrev pub new_block : ℕ → RustBlock
 new_block start = rust_block start start 0 (Terminate false)
 
--- the locals of the loop
+-- lines 34, 38, 39 and 41: the locals of the loop
 pub record Cutting : Type 0 where
   pub blocks : Blocks
   pub prev_pc : ℕ
   pub block : RustBlock
   pub wait_jumpdest : Bool
 
+-- lines 34, 38, 39 and 41: these of their values
 abbrev pub cutting : Blocks → ℕ → RustBlock → Bool → Cutting
 cutting bs p b w = record { blocks = bs; prev_pc = p; block = b; wait_jumpdest = w }
 
--- `block.end = e; block.btype = t; blocks.insert(block.id, block)`
+-- lines 58 to 60, 77 to 78, 88 to 89, 99 to 100, 111 to 113, 120 to 122 and 134 to 136: `block.end = e; block.btype = t; blocks.insert(block.id, block)`
 abbrev pub closed : ℕ → BlockType → RustBlock → Blocks → Blocks
 closed e t b bs = insert_sorted b.id (rust_block b.id b.start e t) bs
 
--- lines 63 to 73, and 80 to 84
+-- lines 66 to 76
 abbrev pub jumpi_type : ℕ → Option ℕ → BlockType
 jumpi_type pc none = DynamicJumpi [] (pc + 1)
 jumpi_type pc (some true-to) = Jumpi true-to (pc + 1)
 
+-- lines 83 to 87
 abbrev pub jump_type : Option ℕ → BlockType
 jump_type none = DynamicJump []
 jump_type (some to) = Jump to
 
--- lines 52 to 123: the match on the byte; `on` is the rest of the loop, `break` what follows it
+-- lines 54 to 129: the match on the byte; `on` is the rest of the loop, `break` what follows it
 abbrev pub match_op : (ℕ → Row) → List ℕ → Ins → (Cutting → Option Cutting) → Cutting → Option Cutting
 match_op row code i on c =
     let jumpdest-starts = on (cutting c.blocks i.pc c.block false) in
@@ -68,7 +70,7 @@ match_op row code i on c =
     (if (eqb i.op 0xFD || eqb i.op 0xF3 || eqb i.op 0x00 || eqb i.op 0xFF || eqb i.op 0xFE) ends
     (if (not (row i.op).known) (if (eqb c.block.start 0) breaks (if (not (eqb c.block.start i.pc)) unknown-closes unknown-starts)) known))))
 
--- lines 43 to 126
+-- lines 43 to 130
 unfoldable pub for_code : (ℕ → Row) → List ℕ → List Ins → Cutting → Option Cutting
 for_code row code [] c = some c
 for_code row code (i ∷ is) c =
@@ -77,17 +79,17 @@ for_code row code (i ∷ is) c =
     let matches = match_op row code i (for_code row code is) c in
     if c.wait_jumpdest (if (eqb i.op 0x5B) starts waits) matches
 
--- lines 128 to 133
+-- lines 132 to 137
 abbrev pub last_block : Cutting → Blocks
 last_block c =
     let closes = closed c.prev_pc (Terminate false) c.block c.blocks in
     if (not c.wait_jumpdest && leb c.block.start c.prev_pc) closes c.blocks
 
--- `keys.contains(to) && code[*to] == op::JUMPDEST`: the code is looked at only where the first is so
+-- lines 150 and 157: `keys.contains(to) && code[*to] == op::JUMPDEST`; the code is looked at only where the first is so
 abbrev pub valid : List ℕ → List ℕ → ℕ → Option Bool
 valid code keys to = let looks = and_then (get_elem? code to) (λ b. some (eqb b 0x5B)) in if (mem to keys) looks (some false)
 
--- lines 144 to 166
+-- lines 148 to 169
 abbrev pub new_btype : List ℕ → List ℕ → BlockType → Option BlockType
 new_btype code keys (Terminate success) = some (Terminate success)
 new_btype code keys (Jump to) = and_then (valid code keys to) (λ v. some (if v (Jump to) (Terminate false)))
@@ -96,7 +98,7 @@ new_btype code keys (Jumpi t f) =
 new_btype code keys (DynamicJump to) = some (DynamicJump to)
 new_btype code keys (DynamicJumpi t f) = some (DynamicJumpi t f)
 
--- lines 137 to 170
+-- lines 141 to 170
 unfoldable pub check_each : List ℕ → List ℕ → Blocks → Option Blocks
 check_each code keys [] = some []
 check_each code keys (e ∷ es) =
@@ -105,6 +107,7 @@ check_each code keys (e ∷ es) =
     and_then (check_each code keys es) (λ later. some ((e.0, with_type t e.1) ∷ later))) in
     if (leb e.1.start e.1.end) goes none
 
+-- line 139
 abbrev pub keys_of : Blocks → List ℕ
 keys_of bs = map (λ (e : ℕ × RustBlock). e.0) bs
 

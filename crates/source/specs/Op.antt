@@ -1,18 +1,20 @@
--- src/evm/op.rs: `declare_opcodes!` (lines 40 to 190), and `info` (lines 35 to 37). Assumes nothing.
+-- src/evm/op.rs. Assumes nothing.
 use Rattle.std.specs.Prelude.{ℕ, true, List, [], ◌∷◌, eqb}
 use Rattle.spec.specs.Lists.{if}
 use Rattle.spec.specs.Opcodes.{Row, unknown}
 
--- a line of the table: code, size, stack_in, stack_out; the name is in the comment
-pub record OpCode : Type 0 where
+-- lines 3, 6 to 12 and 14 to 16: a line of the table, `$code`, `$size`, `$stack_in`, `$stack_out`; its name is in the comment. `OpCodeInfo` is the definitions' Row
+pub record Declared : Type 0 where
   pub code : ℕ
   pub info : Row
 
-abbrev pub op : ℕ → ℕ → ℕ → ℕ → OpCode
+-- lines 22 to 29: what a line writes
+abbrev pub op : ℕ → ℕ → ℕ → ℕ → Declared
 op c s i o = record { code = c; info = record { size = s; taken = i; given = o; known = true } }
 
-abbrev pub declared : List OpCode
-declared =
+-- lines 40 to 191: `declare_opcodes!`, with `known` and the constants of line 17
+abbrev pub declare_opcodes : List Declared
+declare_opcodes =
     op 0x00 1 0 0  -- STOP
     ∷ op 0x01 1 2 1  -- ADD
     ∷ op 0x02 1 2 1  -- MUL
@@ -165,10 +167,11 @@ declared =
     ∷ op 0xFF 1 1 0  -- SELFDESTRUCT
     ∷ []
 
-abbrev pub lookup : ℕ → List OpCode → Row
-lookup b [] = unknown
-lookup b (o ∷ os) = let later = lookup b os in if (eqb b o.code) o.info later
+-- lines 20 to 34: `INFOS`, unknown where no line wrote; the last line that has the byte wrote last
+abbrev pub infos : List Declared → Row → ℕ → Row
+infos [] row b = row
+infos (o ∷ os) row b = infos os (if (eqb b o.code) o.info row) b
 
--- `&INFOS[op as usize]`; what is no byte has the row of an unknown one
+-- lines 36 to 38; what is no byte has the row of an unknown one
 unfoldable pub info : ℕ → Row
-info b = lookup b declared
+info b = infos declare_opcodes unknown b

@@ -5,18 +5,18 @@ use Rattle.std.proofs.Math.Option.{Option, none, some}
 use Rattle.spec.specs.Lists.{if, mem, total}
 use Rattle.laws.specs.Options.{and_then}
 use Rattle.source.specs.Collections.{match_option, unwrap_or, get, set_insert, last_unwrapped}
-use Rattle.source.specs.Graph.{Dynamic, BlockType, Terminate, Jump, Jumpi, DynamicJump, DynamicJumpi, RustBlock, Blocks}
+use Rattle.source.specs.Types.{Dynamic, BlockType, Terminate, Jump, Jumpi, DynamicJump, DynamicJumpi, RustBlock, Blocks}
 
--- `HashMap<usize, Vec<usize>>`
+-- line 66: `HashMap<usize, Vec<usize>>`
 abbrev pub Witnesses : Type 0
 Witnesses = List (ℕ × List ℕ)
 
--- `queue.push(t)` of each, in this order
+-- lines 32, 35 to 36, 39, 50, 69, 86, 89 to 90, 97 and 102: `queue.push(t)` of each, in this order
 abbrev pub push_each : List ℕ → List ℕ → List ℕ
 push_each ts queue = reverse_aux ts queue
 
 module _ (blocks : Blocks) (pushes : List ℕ → ℕ → RustBlock → Option (List ℕ)) where
-  -- `while let Some(current) = queue.pop()`, of both functions: lines 18 to 53, and 72 to 104
+  -- lines 18 to 53 and 72 to 104: `while let Some(current) = queue.pop()`, of both functions
   unfoldable pub while_queue : ℕ → List ℕ → List ℕ → Option (List ℕ)
   while_queue zero queue visited = none
   while_queue (suc n) [] visited = some visited
@@ -27,17 +27,18 @@ module _ (blocks : Blocks) (pushes : List ℕ → ℕ → RustBlock → Option (
       and_then (match_option (get eqb current blocks) (pushes (current ∷ visited) current) lacks) (λ ts. while_queue n (push_each ts queue) (current ∷ visited)) in
       if (mem current visited) skips enters
 
--- lines 40 to 45: what passes of the entries
+-- lines 39 to 44: what passes of an entry
 abbrev pub filter_entry : List ℕ → List ℕ → List ℕ → Option ℕ → Option (List ℕ)
 filter_entry global visited path none = some []
 filter_entry global visited path (some t) = and_then (last_unwrapped path) (λ p. some (if (mem p visited || mem p global) (t ∷ []) []))
 
+-- lines 39 to 44: of each
 abbrev pub filter_entries : List ℕ → List ℕ → List Dynamic → Option (List ℕ)
 filter_entries global visited [] = some []
 filter_entries global visited (d ∷ ds) =
     and_then (filter_entry global visited d.path d.to) (λ ts. and_then (filter_entries global visited ds) (λ us. some (ts ++ us)))
 
--- lines 30 to 52
+-- lines 29 to 52
 abbrev pub pushes_of_type : List ℕ → List ℕ → BlockType → Option (List ℕ)
 pushes_of_type global visited (Terminate success) = some []
 pushes_of_type global visited (Jump to) = some (to ∷ [])
@@ -45,7 +46,7 @@ pushes_of_type global visited (Jumpi t f) = some (t ∷ f ∷ [])
 pushes_of_type global visited (DynamicJump to) = filter_entries global visited to
 pushes_of_type global visited (DynamicJumpi t f) = some (f ∷ [])
 
--- at most so many can a block push
+-- lines 29 to 52: at most so many does a block push
 abbrev pub most_pushes : BlockType → ℕ
 most_pushes (Terminate success) = 0
 most_pushes (Jump to) = 1
@@ -53,10 +54,11 @@ most_pushes (Jumpi t f) = 2
 most_pushes (DynamicJump to) = length to
 most_pushes (DynamicJumpi t f) = suc (length t)
 
+-- lines 18 to 53: at most so many do all
 abbrev pub all_pushes : Blocks → ℕ
 all_pushes bs = total (λ (e : ℕ × RustBlock). most_pushes e.1.btype) bs
 
--- `set.extend(more)`
+-- lines 54 and 55: `set.extend(more)`
 abbrev pub set_extend : List ℕ → List ℕ → List ℕ
 set_extend [] set = set
 set_extend (a ∷ more) set = set_extend more (set_insert a set)
@@ -79,7 +81,7 @@ module _ (blocks : Blocks) (from : ℕ) where
   abbrev pub get_reachable_nodes : Option (List ℕ) → Option (List ℕ)
   get_reachable_nodes initial-visited = passes (suc (suc (all_pushes blocks))) (unwrap_or [] initial-visited) []
 
--- lines 82 to 99
+-- lines 83 to 99
 abbrev pub sides_of_type : BlockType → List ℕ
 sides_of_type (Terminate success) = []
 sides_of_type (Jump to) = to ∷ []

@@ -8,18 +8,19 @@ use Rattle.spec.specs.Opcodes.{Row}
 use Rattle.spec.specs.Stacks.{Sym, before, constant, jumpdest, other, eq_sym, eq_syms}
 use Rattle.laws.specs.Options.{and_then}
 use Rattle.source.specs.Collections.{match_option, unwrap_or, get, contains_key, insert, set_insert, last_unwrapped, minus}
-use Rattle.source.specs.State.{State, new, with_identity, max_before, get_stack, resolve_with_parent, exec_code}
-use Rattle.source.specs.Graph.{Dynamic, BlockType, Terminate, Jump, Jumpi, DynamicJump, DynamicJumpi, RustBlock, with_type, Blocks}
+use Rattle.source.specs.State.{State, new, with_identity, explicit_len, max_before, get_stack, resolve_with_parent, exec_code}
+use Rattle.source.specs.Types.{Dynamic, BlockType, Terminate, Jump, Jumpi, DynamicJump, DynamicJumpi, RustBlock, with_type, Blocks}
 use Rattle.source.specs.Reachable.{Witnesses, get_reachable_nodes, extend_reachable_nodes}
 
--- ---- lines 11 to 37
-
+-- line 22: `IndexMap<Vec<usize>, State>`
 abbrev pub Parents : Type 0
 Parents = List (List ℕ × State)
 
+-- line 30: `HashMap<State, HashSet<StackSym>>`
 abbrev pub Inter : Type 0
 Inter = List (State × List Sym)
 
+-- lines 12 to 37, 39 and 184: `RevIdx` and its `impl`
 pub record RevIdx : Type 0 where
   pub states : List (ℕ × State)
   pub deep_states : List ((ℕ × ℕ) × State)
@@ -29,37 +30,44 @@ pub record RevIdx : Type 0 where
   pub badpaths : List (List ℕ)
   pub reachable0 : List ℕ
 
--- the keys' own tests
+-- line 19: whether two keys of `deep_states` are one
 abbrev pub same_pair : ℕ × ℕ → ℕ × ℕ → Bool
 same_pair a b = eqb a.0 b.0 && eqb a.1 b.1
 
+-- line 27: whether two keys of `replayed_paths` are one
 abbrev pub same_replay : List ℕ × ℕ → List ℕ × ℕ → Bool
 same_replay a b = same a.0 b.0 && eqb a.1 b.1
 
--- `RevIdx::default()`
+-- line 343: `RevIdx::default()`
 abbrev pub default : RevIdx
 default = record { states = []; deep_states = []; parents = []; replayed_paths = []; istate = []; badpaths = []; reachable0 = [] }
 
+-- lines 14, 45 and 49: the field
 abbrev pub with_states : List (ℕ × State) → RevIdx → RevIdx
 with_states x r =
     record { states = x; deep_states = r.deep_states; parents = r.parents; replayed_paths = r.replayed_paths; istate = r.istate; badpaths = r.badpaths; reachable0 = r.reachable0 }
 
+-- lines 19 and 63: the field
 abbrev pub with_deep_states : List ((ℕ × ℕ) × State) → RevIdx → RevIdx
 with_deep_states x r =
     record { states = r.states; deep_states = x; parents = r.parents; replayed_paths = r.replayed_paths; istate = r.istate; badpaths = r.badpaths; reachable0 = r.reachable0 }
 
+-- lines 22, 74 and 94: the field
 abbrev pub with_parents : List (ℕ × Parents) → RevIdx → RevIdx
 with_parents x r =
     record { states = r.states; deep_states = r.deep_states; parents = x; replayed_paths = r.replayed_paths; istate = r.istate; badpaths = r.badpaths; reachable0 = r.reachable0 }
 
+-- lines 27 and 181: the field
 abbrev pub with_replayed_paths : List ((List ℕ × ℕ) × State) → RevIdx → RevIdx
 with_replayed_paths x r =
     record { states = r.states; deep_states = r.deep_states; parents = r.parents; replayed_paths = x; istate = r.istate; badpaths = r.badpaths; reachable0 = r.reachable0 }
 
+-- lines 30, 132 and 145: the field
 abbrev pub with_istate : List (ℕ × Inter) → RevIdx → RevIdx
 with_istate x r =
     record { states = r.states; deep_states = r.deep_states; parents = r.parents; replayed_paths = r.replayed_paths; istate = x; badpaths = r.badpaths; reachable0 = r.reachable0 }
 
+-- lines 33 and 106: the field
 abbrev pub with_badpaths : List (List ℕ) → RevIdx → RevIdx
 with_badpaths x r =
     record { states = r.states; deep_states = r.deep_states; parents = r.parents; replayed_paths = r.replayed_paths; istate = r.istate; badpaths = x; reachable0 = r.reachable0 }
@@ -73,11 +81,12 @@ set_reachable0 x r =
 abbrev pub insert_state : ℕ → State → RevIdx → RevIdx
 insert_state start state r = with_states (insert eqb start state r.states) r
 
--- an index, and what a method returned
+-- lines 48, 58, 81, 102, 131 and 154: an index, and what a method returned
 pub record Got (A : Type 0) : Type 0 where
   pub idx : RevIdx
   pub value : A
 
+-- lines 48, 58, 81, 102, 131 and 154: a return
 abbrev pub got : {A : Type 0} → RevIdx → A → Option (Got A)
 got r x = some (record { idx = r; value = x })
 
@@ -113,6 +122,7 @@ insert_path_parent to path state r =
     let asserted = if (contains_key same path entry) there put in
     if (mem ls r.reachable0) asserted none)
 
+-- line 103: `self.badpaths.contains(path)`
 abbrev pub path_in : List ℕ → List (List ℕ) → Bool
 path_in p ps = some? (same p) ps
 
@@ -133,7 +143,7 @@ filter_parents reachable0 (e ∷ es) =
 unfoldable pub get_parents : ℕ → RevIdx → Option Parents
 get_parents to r = match_option (get eqb to r.parents) (filter_parents r.reachable0) (some [])
 
--- the entry of `last` as it is left, and what is returned
+-- lines 132, 135, 137 and 139 to 141: the entry of `last` as it is left, and what is returned
 abbrev pub inter_set : ℕ → Inter → Bool → RevIdx → Got Bool
 inter_set last x b r = record { idx = with_istate (insert eqb last x r.istate) r; value = b }
 
@@ -174,13 +184,19 @@ module _ (row : ℕ → Row) (code : List ℕ) where
       let one = and_then (get_elem? path 0) (λ start. get_state_with_depth row code start required_depth r) in
       let new-one = replay required_depth path r in
       let several = match_option (get same_replay (path, required_depth) r.replayed_paths) (λ st. got r st) new-one in
-      if (ltb required_depth (length summary)) (got r summary) (if (eqb (length path) 1) one several)
+      if (ltb required_depth (explicit_len summary)) (got r summary) (if (eqb (length path) 1) one several)
 
--- `.max_before().map_or(stack_pos, |depth| depth.max(stack_pos))`
+-- line 222
+abbrev pub cycles : List ℕ → List ℕ → Bool
+cycles [] path = false
+cycles (b ∷ []) path = mem b path
+cycles (b ∷ c ∷ more) path = false
+
+-- lines 227 to 229 and 237 to 239: `.max_before().map_or(stack_pos, |depth| depth.max(stack_pos))`
 abbrev pub required : ℕ → State → ℕ
 required stack_pos state = match_option (max_before state) (λ depth. max depth stack_pos) stack_pos
 
--- the locals of the widening loop
+-- lines 226 to 227: the locals of the widening loop
 pub record Widened : Type 0 where
   pub idx : RevIdx
   pub current_state : State
@@ -196,22 +212,21 @@ module _ (row : ℕ → Row) (code : List ℕ) where
       let again = widen n path stack_pos g.value next-required g.idx in
       if (leb next-required required_depth) (some (record { idx = g.idx; current_state = g.value; required_depth = next-required })) again)
 
--- ---- lines 188 to 317
-
--- what resolve_dynamic_jump_path returns
+-- line 196: what is returned
 pub record Resolved : Type 0 where
   pub idx : RevIdx
   pub jumps : List Dynamic
   pub used : ℕ
 
+-- line 316: a return
 abbrev pub resolved : RevIdx → List Dynamic → ℕ → Option Resolved
 resolved r js u = some (record { idx = r; jumps = js; used = u })
 
--- `if new { dynamic_jumps.push(DynamicJump { path, to }) }`
+-- lines 265 to 270, 298 to 303 and 307 to 312: `if new { dynamic_jumps.push(DynamicJump { path, to }) }`
 abbrev pub pushed_if : Got Bool → List ℕ → Option ℕ → Option Resolved
 pushed_if g path to = resolved g.idx (if g.value (record { path = path; to = to } ∷ []) []) 0
 
--- the recursive call: index, path, weight, position, state, limit
+-- lines 283 to 291: the recursive call, of index, path, weight, position, state and limit
 abbrev pub Deeper : Type 0
 Deeper = RevIdx → List ℕ → ℕ → ℕ → State → ℕ → Option Resolved
 
@@ -244,12 +259,6 @@ module _ (row : ℕ → Row) (code : List ℕ) where
       and_then (resolve_with_parent w.current_state g.value) (λ new-state.
       follow_path deeper (path ++ parent.0) (path-weight + 1) new-state left g.idx jump-sym))))
 
--- line 222
-abbrev pub cycles : List ℕ → List ℕ → Bool
-cycles [] path = false
-cycles (b ∷ []) path = mem b path
-cycles (b ∷ c ∷ more) path = false
-
 module _ (row : ℕ → Row) (code : List ℕ) where
   -- lines 208 to 316
   unfoldable pub for_parents : Deeper → List ℕ → ℕ → ℕ → State → ℕ → Parents → RevIdx → List Dynamic → ℕ → Option Resolved
@@ -272,16 +281,23 @@ module _ (row : ℕ → Row) (code : List ℕ) where
       for_parents (resolve_dynamic_jump_path n) path path-weight stack_pos state energy-limit parents r [] 0)) in
       if (leb path-weight 256) goes none
 
--- ---- lines 336 to 488
-
--- what is there after the first stage
+-- lines 338, 341 and 343: what is there after the first stage
 pub record Staged : Type 0 where
   pub blocks : Blocks
   pub stack_pos : List (ℕ × ℕ)
   pub idx : RevIdx
 
+-- lines 338, 341 and 343: these of their values
 abbrev pub staged : Blocks → List (ℕ × ℕ) → RevIdx → Option Staged
 staged bs ps r = some (record { blocks = bs; stack_pos = ps; idx = r })
+
+-- lines 348 to 351
+abbrev pub is_dynamic : BlockType → Bool
+is_dynamic (Terminate success) = false
+is_dynamic (Jump to) = false
+is_dynamic (Jumpi t f) = false
+is_dynamic (DynamicJump js) = true
+is_dynamic (DynamicJumpi js f) = true
 
 -- lines 356 to 365
 abbrev pub static_type : ℕ → BlockType → Option BlockType
@@ -298,14 +314,6 @@ stage_of b (some (jumpdest to)) = and_then (static_type to b.btype) (λ t. some 
 stage_of b (some (before new-stack-pos)) = some (b.btype, (b.start, new-stack-pos) ∷ [])
 stage_of b (some (constant v)) = some (b.btype, [])
 stage_of b (some (other pc)) = some (b.btype, [])
-
--- lines 348 to 351
-abbrev pub is_dynamic : BlockType → Bool
-is_dynamic (Terminate success) = false
-is_dynamic (Jump to) = false
-is_dynamic (Jumpi t f) = false
-is_dynamic (DynamicJump js) = true
-is_dynamic (DynamicJumpi js f) = true
 
 module _ (row : ℕ → Row) (code : List ℕ) where
   -- lines 347 to 372
@@ -353,7 +361,7 @@ extend_type jumps (Jumpi t f) = none
 extend_type jumps (DynamicJump to) = some (DynamicJump (to ++ jumps))
 extend_type jumps (DynamicJumpi true-to f) = some (DynamicJumpi (true-to ++ jumps) f)
 
--- `blocks.get_mut(start).unwrap().btype = f(..)`
+-- lines 440, 464, 474 and 483: `blocks.get_mut(start).unwrap().btype = f(..)`
 unfoldable pub change : (BlockType → Option BlockType) → ℕ → Blocks → Option Blocks
 change f start [] = none
 change f start (e ∷ es) =
@@ -361,7 +369,7 @@ change f start (e ∷ es) =
     let later = and_then (change f start es) (λ more. some (e ∷ more)) in
     if (eqb start e.0) here later
 
--- the locals of a round
+-- lines 339, 343, 396, 399, 408 and 409: the locals of a round
 pub record Round : Type 0 where
   pub idx : RevIdx
   pub blocks : Blocks
@@ -370,10 +378,11 @@ pub record Round : Type 0 where
   pub found_new_paths : Bool
   pub new_targets : List ℕ
 
+-- line 397
 abbrev pub ENERGY-LIMIT : ℕ
 ENERGY-LIMIT = 500000
 
--- lines 431 to 452
+-- lines 429 to 452
 unfoldable pub after_turn : ℕ → Round → Resolved → Option Round
 after_turn start o t =
     let idle : Option Round = some (record {
@@ -426,11 +435,12 @@ module _ (row : ℕ → Row) (code : List ℕ) where
       if (not o.found_new_paths) (some o.blocks) more) in
       if (leb ENERGY-LIMIT total) (some blocks) goes
 
--- lines 463 to 467
+-- line 465: `b.to.is_some()`
 abbrev pub is_some : Option ℕ → Bool
 is_some none = false
 is_some (some t) = true
 
+-- lines 464 to 466
 abbrev pub retained : BlockType → Option BlockType
 retained (Terminate success) = some (Terminate success)
 retained (Jump to) = some (Jump to)
@@ -438,20 +448,22 @@ retained (Jumpi t f) = some (Jumpi t f)
 retained (DynamicJump dj) = some (DynamicJump (keep (λ (d : Dynamic). is_some d.to) dj))
 retained (DynamicJumpi t f) = some (DynamicJumpi t f)
 
+-- lines 463 to 467 and 471 to 485: of each that stands in stack_pos
 abbrev pub change_each : (BlockType → Option BlockType) → List (ℕ × ℕ) → Blocks → Option Blocks
 change_each f [] blocks = some blocks
 change_each f (k ∷ ks) blocks = and_then (change f k.0 blocks) (change_each f ks)
 
--- line 477, and `v.to.unwrap()` of each that `all` asks: it ends at the first that is not so
+-- lines 475 and 477: `targets.all(|t| t == first)`, with the `v.to.unwrap()` of each that it asks for; it ends at the first that is not so
 abbrev pub all_to : ℕ → List Dynamic → Option Bool
 all_to first [] = some true
 all_to first (d ∷ ds) = let later = all_to first ds in and_then d.to (λ t. if (eqb t first) later (some false))
 
--- lines 474 to 484
+-- lines 472 to 484
 abbrev pub one_target : List Dynamic → Option BlockType
 one_target [] = some (DynamicJump [])
 one_target (d ∷ ds) = and_then d.to (λ first. and_then (all_to first ds) (λ all. some (if all (Jump first) (DynamicJump (d ∷ ds)))))
 
+-- lines 474 to 484
 abbrev pub merged_type : BlockType → Option BlockType
 merged_type (Terminate success) = some (Terminate success)
 merged_type (Jump to) = some (Jump to)
