@@ -9,6 +9,7 @@ use Rattle.laws.specs.Options.{and_then}
 use Rattle.source.specs.Collections.{slice}
 
 -- lines 5 to 10: an item is `(pc, CodeOp { op, opi, arg })`, here the definitions' Ins of pc, op, and arg as the number that its bytes spell; opi is the row of op
+
 module _ (row : ℕ → Row) (code : List ℕ) (pc-limit : ℕ) where
   -- lines 24 to 43: all that the closure yields from pc on, in at most n calls
   unfoldable pub yields : ℕ → ℕ → Option (List Ins)

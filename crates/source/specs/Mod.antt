@@ -22,6 +22,6 @@ module _ (row : ℕ → Row) (code : List ℕ) where
       and_then (get_reachable_nodes bs 0 none) (λ reachable.
       some (keep (λ (e : ℕ × RustBlock). mem e.0 reachable) bs)))
 
--- lines 96 to 111, by the Rust's table of opcodes: what `blocks` of rust/oracle/src/lib.rs does
+-- lines 96 to 98 and 100 to 111, by the Rust's table of opcodes: what `blocks` of rust/oracle/src/lib.rs does
 unfoldable pub rust : List ℕ → Option Blocks
 rust code = and_then (basic_blocks info code) (control_flow_graph info code)

@@ -12,7 +12,7 @@ pub record Declared : Type 0 where
 abbrev pub op : ℕ → ℕ → ℕ → ℕ → Declared
 op c s i o = record { code = c; info = record { size = s; taken = i; given = o; known = true } }
 
--- lines 40 to 191: `declare_opcodes!`, with `known` and the constants of line 17
+-- lines 17 to 18 and 40 to 191: `declare_opcodes!`; a byte has its name in the comment, and here it is the number itself
 abbrev pub declare_opcodes : List Declared
 declare_opcodes =
     op 0x00 1 0 0  -- STOP
