@@ -8,7 +8,7 @@ use mathlib.Core.List.{List, [], ◌∷◌, ◌++◌, map, reverse, reverse-cons
 use lib.Dec.{eqb, leb, ltb}
 use lib.ListN.{length, get_or, take, drop, set, replicate, get_elem?, length-reverse, length-set, length-drop, take-append-drop}
 use lib.Seq.{set-append_left, set-append_seam, take_at, drop-nil}
-use borrow.Author.Tests.{eqb-true, eq-eqb, leb-true, leb-false, ltb-true, ltb-false}
+use borrow.Author.Tests.{eqb-true, eq-eqb, leb-true, le-leb, leb-false, ltb-true, ltb-false}
 use Rattle.spec.specs.Lists.{if, within}
 use Rattle.spec.specs.Opcodes.{Row}
 use Rattle.spec.specs.Walk.{Ins}
@@ -18,9 +18,15 @@ use Rattle.laws.proofs.Members.{same_test}
 use Rattle.theorems.proofs.Stored as Top
 use Rattle.theorems.proofs.Exec as Tops
 use Rattle.source.specs.Collections.{match_option, minus}
-use Rattle.source.specs.State.{known_value, equals_some, from_value, and_symbol, checked_add, add_symbol, State, counting, index_of, first_before, get_stack, replaced, replaced_each, resolve_with_parent, Ended, ended, push, Popped, pop, pops, ensure, four_bytes, pop_two, trade, swap, match_op, real_exec, goes_on, prefix_len, drain, exec}
+use Rattle.source.specs.State.{known_value, equals_some, from_value, and_symbol, checked_add, add_symbol, State, counting, index_of, first_before, get_stack, deeper, replaced, replaced_each, resolve_with_parent, Ended, ended, push, Popped, pop, pops, ensure, four_bytes, pop_two, trade, swap, match_op, real_exec, goes_on, prefix_len, drain, exec}
 use Rattle.source.proofs.Maps.{state-test}
 use Rattle.source.proofs.Small.{same-stored as top-same}
+
+-- two decisions by the same test
+along : {A B : Type 0} (F : A → B → Type 0) (b : Bool) {x y : A} {u v : B} → (b ≡ true → F x u) → (b ≡ false → F y v) → F (if b x y) (if b u v)
+unfolding if
+along F true f g = f refl
+along F false f g = g refl
 
 -- ---- the ends of a reversed list
 
@@ -194,12 +200,23 @@ front-is b xs = split (ltb b (length (reverse xs))) refl
         if-true _ _ _ e ∙ ap (λ (k : ℕ). take k (reverse xs)) q ∙ take-reverse (suc b) xs
     split false e = if-false _ _ _ e ∙ ap reverse (sym (drop_past (suc b) xs (let h = ltb-false b (length (reverse xs)) e in omega (arith, length-reverse xs))))
 
+-- the differences of lines 100 to 109 stand behind a test that they are not negative
+deeper-given : (b : ℕ) (p : State) → deeper b p ≡ some (if (ltb b (length p)) (take (length p - b - 1) p) [])
+deeper-given b p = along (λ (o : Option State) (l : State). o ≡ some l) (ltb b (length p)) front (λ _. refl)
+  where
+    front : ltb b (length p) ≡ true → and_then (minus (length p) b) (λ n. and_then (minus n 1) (λ extra. some (take extra p))) ≡ some (take (length p - b - 1) p)
+    front on =
+        let less = ltb-true b (length p) on in
+        ap (λ (o : Option ℕ). and_then o (λ n. and_then (minus n 1) (λ extra. some (take extra p)))) (if-true _ _ _ (le-leb b (length p) (omega (arith, less))))
+        ∙ ap (λ (o : Option ℕ). and_then o (λ extra. some (take extra p))) (if-true _ _ _ (le-leb 1 (length p - b) (omega (arith, less))))
+
 pub resolve-stored : (c p : Stack) → resolve_with_parent (stored c) (stored p) ≡ some (stored (compose c p))
 resolve-stored c p =
     let whole : some (map (through p) (Top.stored c) ++ drop (suc c.base) (Top.stored p)) ≡ some (Top.stored (compose c p))
     = sym (ap (λ (o : Option ℕ). Top.with-bottom o (Top.stored c) (Top.stored p)) (Top.stored-bottom c) ∙ top-all p (Top.stored c) (drop (suc c.base) (Top.stored p))) ∙ Top.resolve-stored c p in
-    ap (λ (o : Option ℕ). and_then o (λ base-before. and_then (replaced_each (stored p) (stored c)) (λ els.
-    some ((if (ltb base-before (length (stored p))) (take (length (stored p) - base-before - 1) (stored p)) []) ++ els)))) (first-bottom (Top.stored c) ∙ Top.stored-bottom c)
+    ap (λ (o : Option ℕ). and_then o (λ base-before. and_then (deeper base-before (stored p)) (λ front. and_then (replaced_each (stored p) (stored c)) (λ els. some (front ++ els)))))
+    (first-bottom (Top.stored c) ∙ Top.stored-bottom c)
+    ∙ ap (λ (o : Option State). and_then o (λ front. and_then (replaced_each (stored p) (stored c)) (λ els. some (front ++ els)))) (deeper-given c.base (stored p))
     ∙ ap (λ (o : Option (List Sym)). and_then o (λ els. some ((if (ltb c.base (length (stored p))) (take (length (stored p) - c.base - 1) (stored p)) []) ++ els))) (replaced-all p (stored c))
     ∙ ap₂ (λ (f g : List Sym). some (f ++ g)) (front-is c.base (Top.stored p)) (map-reverse (through p) (Top.stored c))
     ∙ ap some (sym (reverse-append (map (through p) (Top.stored c)) (drop (suc c.base) (Top.stored p))))
@@ -218,12 +235,6 @@ turned (some xs) = some (reverse xs)
 
 record Mirrors (x : Option Ended) (u : Option Tops.Out) : Type 0 where
   is : x ≡ flipped u
-
--- two decisions by the same test
-along : {A B : Type 0} (F : A → B → Type 0) (b : Bool) {x y : A} {u v : B} → (b ≡ true → F x u) → (b ≡ false → F y v) → F (if b x y) (if b u v)
-unfolding if
-along F true f g = f refl
-along F false f g = g refl
 
 same-counting : (b n : ℕ) → counting b n ≡ Tops.beneath b n
 same-counting b zero = refl

@@ -382,6 +382,10 @@ pub record Round : Type 0 where
 abbrev pub ENERGY-LIMIT : ℕ
 ENERGY-LIMIT = 500000
 
+-- line 401: `0..128`
+abbrev pub ROUNDS : ℕ
+ROUNDS = 128
+
 -- lines 429 to 452
 unfoldable pub after_turn : ℕ → Round → Resolved → Option Round
 after_turn start o t =
@@ -478,6 +482,6 @@ module _ (row : ℕ → Row) (code : List ℕ) where
       and_then (first_stage row code blocks [] (set_reachable0 (0 ∷ []) default)) (λ s.
       and_then (direct_parents row code s.blocks s.idx) (λ r.
       and_then (get_reachable_nodes s.blocks 0 none) (λ reachable.
-      and_then (for_rounds row code 128 s.stack_pos reachable r s.blocks 0 []) (λ bs.
+      and_then (for_rounds row code ROUNDS s.stack_pos reachable r s.blocks 0 []) (λ bs.
       and_then (change_each retained s.stack_pos bs) (λ cs.
       change_each merged_type s.stack_pos cs)))))

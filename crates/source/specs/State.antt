@@ -80,6 +80,13 @@ get_stack stack pos =
     let deeper = and_then (first_before stack) (λ b. some (before (b + 1 + (pos - slen)))) in
     if (ltb pos slen) here deeper
 
+-- lines 99 to 109: what of the parent lies deeper
+abbrev pub deeper : ℕ → State → Option State
+deeper base-before parent =
+    let front = and_then (minus (length parent) base-before) (λ n. and_then (minus n 1) (λ extra. some (take extra parent))) in
+    let nothing = some [] in
+    if (ltb base-before (length parent)) front nothing
+
 -- lines 112 to 115: of one symbol
 abbrev pub replaced : State → Sym → Option Sym
 replaced parent (before idx) = get_stack parent idx
@@ -96,9 +103,8 @@ replaced_each parent (el ∷ els) = and_then (replaced parent el) (λ x. and_the
 abbrev pub resolve_with_parent : State → State → Option State
 resolve_with_parent stack parent =
     and_then (first_before stack) (λ base-before.
-    let parent-len = length parent in
-    let front = take (parent-len - base-before - 1) parent in
-    and_then (replaced_each parent stack) (λ els. some ((if (ltb base-before parent-len) front []) ++ els)))
+    and_then (deeper base-before parent) (λ front.
+    and_then (replaced_each parent stack) (λ els. some (front ++ els))))
 
 -- lines 123 and 153: the stack that is left, and the symbol that is returned
 pub record Ended : Type 0 where
