@@ -26,7 +26,8 @@ use Rattle.source.proofs.Iterating.{Sized}
 use Rattle.source.proofs.Mirror.{stored, get-stored, resolve-stored}
 use Rattle.source.proofs.Caches.{Along, along-both, Cached, Beside, beside_trans, materialized, widened}
 use Rattle.source.proofs.Small.{map-append, last-append}
-use Rattle.source.proofs.Tables.{entry_of, to_of, jump_of, known, was-met, bad?, found?, all-parents, Sim, bad-added, contains-found, parent-there, parent-put, Enters, enters, met-put, met-there, last-there, live?, parents-given}
+use Rattle.source.proofs.Tables.{entry_of, known, was-met, bad?, found?, all-parents, Sim, bad-added, contains-found, parent-there, parent-put, Enters, enters, met-put, met-there, last-there, live?, parents-given}
+use Rattle.source.specs.Shown.{to_of, jump_of}
 
 -- the index tells of the state t, and the jumps are t's records behind those that were there
 pub record Done (row : ℕ → Row) (code : List ℕ) (c : Turn) (recs : List Rec) (energy : ℕ) (t : St) (o : Option Resolved) : Type 0 where

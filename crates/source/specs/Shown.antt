@@ -1,28 +1,18 @@
--- The definitions' records and blocks as the Rust tells them. Assumes nothing.
-use Rattle.std.specs.Prelude.{ℕ, List, map}
-use Rattle.std.proofs.Math.Option.{Option, none, some}
-use Rattle.spec.specs.Blocks.{Kind, terminate, jump, jumpi, dynamic_jump, dynamic_jumpi, Block}
-use Rattle.spec.specs.Search.{Found, nowhere, found, Rec}
+-- The definitions' records and blocks as the Rust tells them: Json's, under their starts. Assumes nothing.
+use Rattle.std.specs.Prelude.{ℕ, List}
+use Rattle.spec.specs.Blocks.{Kind, Block}
+use Rattle.spec.specs.Search.{Rec}
 use Rattle.spec.specs.Ending.{Final}
-use Rattle.source.specs.Types.{Dynamic, BlockType, Terminate, Jump, Jumpi, DynamicJump, DynamicJumpi, RustBlock, rust_block}
-
-abbrev pub to_of : Found → Option ℕ
-to_of nowhere = none
-to_of (found t s) = some t
-
-abbrev pub jump_of : Rec → Dynamic
-jump_of x = record { path = x.path; to = to_of x.to }
+pub use Rattle.spec.specs.Json.{dest_of as to_of, way_for as jump_of}
+use Rattle.spec.specs.Json.{type_of as btype_of}
+use Rattle.source.specs.Types.{BlockType, RustBlock, rust_block}
 
 abbrev pub type_of : Kind → List Rec → BlockType
-type_of (terminate success) es = Terminate success
-type_of (jump t) es = Jump t
-type_of (jumpi t f) es = Jumpi t f
-type_of dynamic_jump es = DynamicJump (map jump_of es)
-type_of (dynamic_jumpi f) es = DynamicJumpi (map jump_of es) f
+type_of kind entries = btype_of entries kind
 
--- a block with its entries, under its start
+-- a block with its entries
 abbrev pub shown : Block → List Rec → ℕ × RustBlock
-shown b es = (b.start, rust_block b.id b.start b.end (type_of b.kind es))
+shown b entries = (b.start, rust_block b.id b.start b.end (type_of b.kind entries))
 
 abbrev pub view : Final → ℕ × RustBlock
 view f = shown f.block f.entries

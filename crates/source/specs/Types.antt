@@ -1,27 +1,13 @@
 -- src/control_flow_graph/mod.rs, its types. They stand apart from its functions, which call initial.rs, reachable.rs and resolver.rs, since those name the
--- types: modules may not use one another in a circle. Assumes nothing.
-use Rattle.std.specs.Prelude.{ℕ, Bool, List}
-use Rattle.std.proofs.Math.Option.{Option}
+-- types: modules may not use one another in a circle. What serde makes a text of is these types too, so they are the definitions' of Json. Assumes nothing.
+use Rattle.std.specs.Prelude.{ℕ, List}
+pub use Rattle.spec.specs.Json.{Way as Dynamic, BlockType, Terminate, Jump, Jumpi, DynamicJump, DynamicJumpi, Shown as RustBlock}
 
--- lines 41 to 46: `struct DynamicJump`
-pub record Dynamic : Type 0 where
-  pub path : List ℕ
-  pub to : Option ℕ
+-- lines 25 to 36: `struct Block` is Json's Shown
 
--- lines 55 to 85: `enum BlockType`
-pub data BlockType : Type 0 where
-  Terminate : Bool → BlockType
-  Jump : ℕ → BlockType
-  Jumpi : ℕ → ℕ → BlockType
-  DynamicJump : List Dynamic → BlockType
-  DynamicJumpi : List Dynamic → ℕ → BlockType
+-- lines 41 to 46: `struct DynamicJump` is Json's Way
 
--- lines 25 to 36: `struct Block`
-pub record RustBlock : Type 0 where
-  pub id : ℕ
-  pub start : ℕ
-  pub end : ℕ
-  pub btype : BlockType
+-- lines 55 to 85: `enum BlockType` is Json's
 
 -- lines 25 to 36: a `Block` of its fields
 abbrev pub rust_block : ℕ → ℕ → ℕ → BlockType → RustBlock
