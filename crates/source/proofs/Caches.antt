@@ -16,10 +16,10 @@ use Rattle.spec.specs.Stacks.{Sym, before, Stack, entry, read, span, own, compos
 use Rattle.laws.proofs.Branch.{both, if-true, and_then}
 use Rattle.theorems.proofs.Counts.{Lawful}
 use Rattle.theorems.proofs.Walking.{walks_from}
-use Rattle.theorems.proofs.Stored as Top
+use Rattle.source.proofs.Stored as Top
 use Rattle.theorems.proofs.Trimming.{identity}
 use Rattle.theorems.proofs.Composing.{compose-assoc}
-use Rattle.theorems.proofs.Exec.{plainly, exec-stored, exec-deep}
+use Rattle.source.proofs.Exec.{plainly, exec-stored, exec-deep}
 use Rattle.source.specs.Collections.{match_option, get, insert}
 use Rattle.source.specs.State.{State, new, counting, with_identity, ended, exec, exec_code}
 use Rattle.source.specs.Resolver.{RevIdx, Got, got, same_pair, same_replay, get_state, get_state_with_depth, with_deep_states, with_replayed_paths, insert_state, replays, replay, materialize_path_state, required, Widened, widen}

@@ -15,8 +15,8 @@ use Rattle.spec.specs.Walk.{Ins}
 use Rattle.spec.specs.Stacks.{Sym, before, constant, jumpdest, other, Stack, read, through, compose, from_value as defined-value, known_value as defined-known, is as equals, mask, anded, summed, eq_syms, eq_stack}
 use Rattle.laws.proofs.Branch.{both, if-true, if-false, and_then}
 use Rattle.laws.proofs.Members.{same_test}
-use Rattle.theorems.proofs.Stored as Top
-use Rattle.theorems.proofs.Exec as Tops
+use Rattle.source.proofs.Stored as Top
+use Rattle.source.proofs.Exec as Tops
 use Rattle.source.specs.Collections.{match_option, minus}
 use Rattle.source.specs.State.{known_value, equals_some, from_value, and_symbol, checked_add, add_symbol, State, counting, index_of, first_before, get_stack, deeper, replaced, replaced_each, resolve_with_parent, Ended, ended, push, Popped, pop, pops, ensure, four_bytes, pop_two, trade, swap, match_op, real_exec, goes_on, prefix_len, drain, exec}
 use Rattle.source.proofs.Maps.{state-test}

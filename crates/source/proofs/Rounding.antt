@@ -22,8 +22,8 @@ use Rattle.theorems.proofs.Counts.{Lawful}
 use Rattle.theorems.proofs.Reached.{seed, closure-complete}
 use Rattle.theorems.proofs.Batches.{◌≈◌}
 use Rattle.theorems.proofs.BatchedSearch.{round_same}
-use Rattle.theorems.proofs.AnyOrder.{held, targets_of, round-leaves}
-use Rattle.theorems.proofs.Extending.{pushes-of, extend-each}
+use Rattle.source.proofs.AnyOrder.{held, targets_of, round-leaves}
+use Rattle.source.proofs.Extending.{pushes-of, extend-each}
 use Rattle.source.specs.Collections.{unwrap_or, get}
 use Rattle.source.specs.Types.{Blocks}
 use Rattle.source.specs.Shown.{view}

@@ -26,9 +26,9 @@ use Rattle.theorems.proofs.Batches.{◌≈◌}
 use Rattle.theorems.proofs.Counts.{Lawful, lawful}
 use Rattle.theorems.proofs.Cutting.{block-afresh, starts-rise}
 use Rattle.theorems.proofs.Demand3.{gave}
-use Rattle.theorems.proofs.Exec.{plainly}
-use Rattle.theorems.proofs.Reaching.{entries_of-all}
-use Rattle.theorems.proofs.RustSets.{pruning-set, bare, first-set}
+use Rattle.source.proofs.Exec.{plainly}
+use Rattle.source.proofs.Reaching.{entries_of-all}
+use Rattle.source.proofs.RustSets.{pruning-set, bare, first-set}
 use Rattle.source.specs.Collections.{unwrap_or, get}
 use Rattle.source.specs.Types.{RustBlock, Blocks}
 use Rattle.source.specs.Shown.{shown, view}

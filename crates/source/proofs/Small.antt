@@ -8,7 +8,7 @@ use Rattle.spec.specs.Lists.{if, last_of, keep, some?}
 use Rattle.spec.specs.Stacks.{Sym, before, Stack, eq_sym, eq_syms, eq_stack}
 use Rattle.laws.proofs.Branch.{both, if-true, if-false}
 use Rattle.laws.proofs.Members.{In, here, there}
-use Rattle.theorems.proofs.Stored.{stored}
+use Rattle.source.proofs.Stored.{stored}
 
 module _ {A : Type 0} (f : A → Bool) where
   pub some-append : (xs ys : List A) → some? f (xs ++ ys) ≡ some? f xs || some? f ys

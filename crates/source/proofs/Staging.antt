@@ -18,7 +18,7 @@ use Rattle.laws.proofs.Branch.{if-true, if-false, and_then}
 use Rattle.laws.proofs.Members.{In, here, there, in-cases, in-keep, in-only, in_map}
 use Rattle.laws.proofs.Lists.{Rising, one_more}
 use Rattle.theorems.proofs.Counts.{Lawful}
-use Rattle.theorems.proofs.Exec.{plainly}
+use Rattle.source.proofs.Exec.{plainly}
 use Rattle.source.specs.Collections.{unwrap_or, get, contains_key, insert}
 use Rattle.source.specs.State.{State, new, Ended, exec_code}
 use Rattle.source.specs.Types.{BlockType, RustBlock, Blocks, with_type}

@@ -19,7 +19,7 @@ use Rattle.laws.proofs.Branch.{both, if-true, if-false, and_then}
 use Rattle.laws.proofs.Members.{In, here, there, in_right, in-cases, gather_append, gather-in}
 use Rattle.laws.proofs.Lists.{Rising, one_more}
 use Rattle.theorems.proofs.Counts.{Lawful}
-use Rattle.theorems.proofs.AnyOrder.{held, targets_of}
+use Rattle.source.proofs.AnyOrder.{held, targets_of}
 use Rattle.source.specs.Collections.{match_option, unwrap_or, get, insert, last_unwrapped, minus}
 use Rattle.source.specs.Types.{Dynamic, BlockType, DynamicJump, DynamicJumpi, RustBlock, with_type, Blocks}
 use Rattle.source.specs.Shown.{to_of, jump_of, type_of, view}

@@ -15,14 +15,14 @@ use Rattle.spec.specs.Ending.{Final, followed, final_edges}
 use Rattle.laws.proofs.Branch.{both, if-true, if-false, and_then}
 use Rattle.laws.proofs.Members.{In, here, there}
 use Rattle.theorems.proofs.Batches.{added}
-use Rattle.theorems.proofs.Queue.{pushed, block_at, of-block, while-pops}
-use Rattle.theorems.proofs.Extending.{turns, Targets, Extended, visits, pushes-of, extend-each}
-use Rattle.theorems.proofs.Reaching.{last?, follows, follows-each, sees, entries_of-all}
+use Rattle.source.proofs.Queue.{pushed, block_at, of-block, while-pops}
+use Rattle.source.proofs.Extending.{turns, Targets, Extended, visits, pushes-of, extend-each}
+use Rattle.source.proofs.Reaching.{last?, follows, follows-each, sees, entries_of-all}
 use Rattle.source.specs.Collections.{match_option, unwrap_or, get, set_insert}
 use Rattle.source.specs.Types.{RustBlock}
 use Rattle.source.specs.Shown.{to_of, jump_of, type_of, view}
 use Rattle.source.specs.Reachable.{Witnesses, push_each, while_queue, filter_entry, filter_entries, pushes_of_type, most_pushes, all_pushes, set_extend, visit, passes, get_reachable_nodes, sides_of_type, extend_reachable_nodes}
-use Rattle.theorems.proofs.Reaching as Theirs
+use Rattle.source.proofs.Reaching as Theirs
 
 -- ---- the loop
 

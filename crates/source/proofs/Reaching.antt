@@ -21,8 +21,8 @@ use Rattle.laws.proofs.Lists.{Rising}
 use Rattle.theorems.proofs.Answered.{finals-at}
 use Rattle.theorems.proofs.Reached.{Reached, seed, along, closure-sound, closure-complete}
 use Rattle.theorems.proofs.Batches.{◌≈◌, added, added-reached, mem-added}
-use Rattle.theorems.proofs.Queue.{first-or, block_at, block-there, from_block, pushed_at, Entered, Ended, left-all, while-pops, while-ends}
-use Rattle.theorems.proofs.Extending.{turns, turn-side, side-turn}
+use Rattle.source.proofs.Queue.{first-or, block_at, block-there, from_block, pushed_at, Entered, Ended, left-all, while-pops, while-ends}
+use Rattle.source.proofs.Extending.{turns, turn-side, side-turn}
 
 -- ---- the function
 

@@ -23,7 +23,7 @@ use Rattle.laws.proofs.Members.{In, and_both, and-true}
 use Rattle.theorems.proofs.Walking.{Stands, Walked, stops, steps, walks_from}
 use Rattle.theorems.proofs.Cutting.{block-afresh}
 use Rattle.theorems.proofs.Counts.{takes, Lawful, takes-row}
-use Rattle.theorems.proofs.Stored.{bottom, stored, stored-cells, stored-bottom, from-depth}
+use Rattle.source.proofs.Stored.{bottom, stored, stored-cells, stored-bottom, from-depth}
 use Rattle.theorems.proofs.Trimming.{Same, trim_same, same-act, identity, run-any-depth}
 
 -- ---- real_exec

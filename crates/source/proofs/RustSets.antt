@@ -30,9 +30,9 @@ use Rattle.theorems.proofs.Carried.{carry-round}
 use Rattle.theorems.proofs.Answered.{finals-at, final-starts}
 use Rattle.theorems.proofs.Batches.{◌≈◌, batched, batched-join}
 use Rattle.theorems.proofs.BatchedSearch.{round_same}
-use Rattle.theorems.proofs.Extending.{pushes-of, extend-each, joined}
-use Rattle.theorems.proofs.AnyOrder.{held, targets_of, round-leaves}
-use Rattle.theorems.proofs.Reaching.{last?, Pathed, get-reachable-nodes, entries_of-all, Reaches, getting}
+use Rattle.source.proofs.Extending.{pushes-of, extend-each, joined}
+use Rattle.source.proofs.AnyOrder.{held, targets_of, round-leaves}
+use Rattle.source.proofs.Reaching.{last?, Pathed, get-reachable-nodes, entries_of-all, Reaches, getting}
 
 -- ---- pruning
 

@@ -20,8 +20,8 @@ use Rattle.laws.proofs.Lists.{Rising}
 use Rattle.theorems.proofs.Answered.{finals-at, rising-keep}
 use Rattle.theorems.proofs.Reached.{Closed, Reached, seed, along, closure-sound, closure-complete}
 use Rattle.theorems.proofs.Batches.{◌≈◌, extend, extend-is, extend-seeds, extend-reached, closure-closed, reached-from}
-use Rattle.theorems.proofs.Queue.{pushed, block_at, of-block, while-pops}
-use Rattle.theorems.proofs.Extending.{Targets, Extended, visits, extend-reachable-nodes, known-edges, Loose, pushes-of, Extends, extending, extend-each, joined, Leaves, extending-each}
+use Rattle.source.proofs.Queue.{pushed, block_at, of-block, while-pops}
+use Rattle.source.proofs.Extending.{Targets, Extended, visits, extend-reachable-nodes, known-edges, Loose, pushes-of, Extends, extending, extend-each, joined, Leaves, extending-each}
 
 -- both end, with the same members
 pub record Alike (o p : Option (List ℕ)) : Type 0 where

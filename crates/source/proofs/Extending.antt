@@ -21,7 +21,7 @@ use Rattle.laws.proofs.Lists.{Rising}
 use Rattle.theorems.proofs.Answered.{finals-at}
 use Rattle.theorems.proofs.Reached.{Closed, Reached, seed, along, closure-sound, closure-complete}
 use Rattle.theorems.proofs.Batches.{◌≈◌, extend, extend-is, reached-from}
-use Rattle.theorems.proofs.Queue.{pushed, pushed-new, pushed-cases, block-there, from_block, pushed_at, Entered, Ended, left-all, while-pops, while-ends}
+use Rattle.source.proofs.Queue.{pushed, pushed-new, pushed-cases, block-there, from_block, pushed_at, Entered, Ended, left-all, while-pops, while-ends}
 
 -- ---- the function
 
