@@ -140,7 +140,7 @@ module _ {row : ℕ → Row} (ok : Lawful row) (sized : Sized row) (code : List 
       ∙ exec-mirrored row code b (walk (drop b code) b 0) (Top.stored entry) ∙ ap flipped (exec-stored ok b (walks_from code b) entry)
 
   -- and from `State::with_identity(depth)`
-  exec-with-depth : (b depth : ℕ) → exec_code row code b none (with_identity depth) ≡ ended (stored (own_of row code b)) (own (plainly row) code b).goes
+  pub exec-with-depth : (b depth : ℕ) → exec_code row code b none (with_identity depth) ≡ ended (stored (own_of row code b)) (own (plainly row) code b).goes
   exec-with-depth b depth =
       ap (λ (x : State). exec_code row code b none x) (identity-is depth)
       ∙ ap (λ (o : Option (List Ins)). and_then o (λ is. exec row code b is (stored (identity depth)))) (iterate-walks sized code b)

@@ -1,6 +1,5 @@
--- Document 01, "What changes shape": "panic! and assert!: shown never to occur". Here `exec` and `real_exec` of state.rs, lines 123 to 259, over a list with
--- the top first; `opi` is the row, and the mode is the plain one. A panic, or an assert, expect or index that fails, is none; sums of places are exact. From the stored form of any stack none
--- occurs, and what they leave and return is what `runs` and `trim` give. Assumes nothing.
+-- A step of Mirror: what the transcription's `exec` and `real_exec` do, with the top of the stack first. From the stored form of any stack nothing panics, and
+-- what they leave and return is what `runs` and `trim` give. Assumes nothing.
 use Prim.Native.Nat.{ℕ, zero, suc, ◌+◌, ◌-◌, ◌<◌, ◌≤◌}
 use native.Mathlib.Omega.{arith}
 use native.Mathlib.Nat.{add-zero, suc-add, add-suc, le_refl}
@@ -15,13 +14,11 @@ use lib.Seq.{drop-append-le, drop-drop, set_split}
 use borrow.Author.Tests.{eqb-true, eqb-false, eq-eqb, ne_eqb, leb-true, le-leb, ltb-false}
 use Rattle.spec.specs.Lists.{if, within}
 use Rattle.spec.specs.Opcodes.{argument, Row, Rules}
-use Rattle.spec.specs.Walk.{Ins, big, walk, instructions}
-use Rattle.spec.specs.Stacks.{Sym, before, constant, jumpdest, other, Stack, entry, reads, read, pops, span, swap, trade, from_value, known_value, anded, summed, joins, settle, trims, trim, Does, pushes_value, pushes_pc, dups, swaps, ands, adds, jumps, jumpis, lands, halts, plain, does, act, Ran, after, runs, run}
-use Rattle.spec.specs.Blocks.{Block, blocks}
+use Rattle.spec.specs.Walk.{Ins, big}
+use Rattle.spec.specs.Stacks.{Sym, before, constant, jumpdest, other, Stack, entry, reads, read, pops, span, swap, trade, from_value, known_value, anded, summed, joins, settle, trims, trim, Does, pushes_value, pushes_pc, dups, swaps, ands, adds, jumps, jumpis, lands, halts, plain, does, act, Ran, after, runs}
 use Rattle.laws.proofs.Branch.{both, if-true, if-false, and_then}
-use Rattle.laws.proofs.Members.{In, and_both, and-true}
-use Rattle.theorems.proofs.Walking.{Stands, Walked, stops, steps, walks_from}
-use Rattle.theorems.proofs.Cutting.{block-afresh}
+use Rattle.laws.proofs.Members.{and_both, and-true}
+use Rattle.theorems.proofs.Walking.{Stands, Walked, stops, steps}
 use Rattle.theorems.proofs.Counts.{takes, Lawful, takes-row}
 use Rattle.source.proofs.Stored.{bottom, stored, stored-cells, stored-bottom, from-depth}
 use Rattle.theorems.proofs.Trimming.{Same, trim_same, same-act, identity, run-any-depth}
@@ -388,13 +385,6 @@ pub exec-stored : {row : ℕ → Row} → Lawful row → {code : List ℕ} (star
 exec-stored ok start w s =
     let r = real-exec-stored ok start w s s (record { at = λ _. refl }) in
     rw (stored-bottom s, r.form, stored-bottom r.stack, minimal-stored r.stack, trim_same _ _ r.same)
-
--- of a block of the cut, from `State::new()`
-pub exec-block : {row : ℕ → Row} → Lawful row → (code : List ℕ) {b : Block} → In b (blocks row code (instructions code))
-    → exec row code b.start (walk (drop b.start code) b.start 0) (stored entry)
-    ≡ out (stored (run (plainly row) code (instructions code) b.start).stack) (run (plainly row) code (instructions code) b.start).goes
-unfolding run
-exec-block ok code {b} n = rw (block-afresh ok code n) (exec-stored ok b.start (walks_from code b.start) entry)
 
 -- `State::with_identity(depth)` leaves and returns the same.
 pub exec-deep : {row : ℕ → Row} → Lawful row → {code : List ℕ} (start : ℕ) {at : ℕ} {is : List Ins} → Walked code at is → (depth : ℕ)

@@ -1,4 +1,4 @@
--- state.rs, with the bottom first as in the Rust, does on a reversed stack what theorems has of it with the top first (Stored, Exec). Assumes nothing.
+-- state.rs, with the bottom first as in the Rust, does on a reversed stack what Stored and Exec have of it with the top first. Assumes nothing.
 use Prim.Native.Nat.{ℕ, zero, suc, ◌+◌, ◌-◌, ◌^◌, ◌<◌, ◌≤◌}
 use native.Mathlib.Omega.{arith}
 use mathlib.Core.Path.{◌≡◌, refl, sym, ap, ap₂, ◌∙◌}

@@ -1,5 +1,5 @@
--- Document 02, No. 13, of the Rust: `get_reachable_nodes` of reachable.rs, lines 7 to 61. It ends, without a panic where no path is empty, and gives the set
--- that document 01 reaches: pruning's, and with no entries yet the search's first. Assumes nothing.
+-- A step of Visiting: the transcription's `get_reachable_nodes` on the definitions' blocks. It ends, without a panic where no path is empty, and gives the set that
+-- document 01 reaches: pruning's, and with no entries yet the search's first. Assumes nothing.
 use Prim.Native.Nat.{ℕ, zero, suc, ◌+◌, ◌≤◌}
 use native.Mathlib.Omega.{arith}
 use mathlib.Core.Path.{◌≡◌, refl, sym, ap, subst, ◌∙◌}

@@ -1,6 +1,7 @@
 -- resolver.rs, lines 401 to 458: the rounds. Assumes nothing.
-use Prim.Native.Nat.{ℕ, zero, suc, ◌+◌, ◌<◌, ◌≤◌}
+use Prim.Native.Nat.{ℕ, zero, suc, ◌<◌, ◌≤◌}
 use native.Mathlib.Omega.{arith}
+use native.Mathlib.Nat.{le_refl}
 use mathlib.Core.Path.{◌≡◌, refl, sym, ap, ap₂, subst, ◌∙◌}
 use mathlib.Core.Bool.{Bool, true, false, not, ◌&&◌, ◌||◌}
 use mathlib.Core.Option.{Option, none, some}
@@ -15,7 +16,7 @@ use Rattle.spec.specs.Stacks.{Sym, before, constant, jumpdest, other}
 use Rattle.spec.specs.Search.{Node, Taker, taker, takes, takers, Parent, direct, edges, Rec, dests, St, turn_for, turn, round, reached_by, rounds}
 use Rattle.spec.specs.Ending.{entries_of}
 use Rattle.laws.proofs.Branch.{if-true, if-false, and_then, and-false}
-use Rattle.laws.proofs.Members.{In, here, there, in_mem, mem-in, in-gather, in-only}
+use Rattle.laws.proofs.Members.{In, here, there, in_mem, mem-in, in-gather}
 use Rattle.laws.proofs.Lists.{Rising}
 use Rattle.theorems.proofs.Answered.{finals-at}
 use Rattle.theorems.proofs.Counts.{Lawful}
@@ -23,7 +24,7 @@ use Rattle.theorems.proofs.Reached.{seed, closure-complete}
 use Rattle.theorems.proofs.Batches.{◌≈◌}
 use Rattle.theorems.proofs.BatchedSearch.{round_same}
 use Rattle.source.proofs.AnyOrder.{held, targets_of, round-leaves}
-use Rattle.source.proofs.Extending.{pushes-of, extend-each}
+use Rattle.source.proofs.Extending.{pops, extend-each}
 use Rattle.source.specs.Collections.{unwrap_or, get}
 use Rattle.source.specs.Types.{Blocks}
 use Rattle.source.specs.Shown.{view}
@@ -236,15 +237,15 @@ module _ {row : ℕ → Row} (ok : Lawful row) (sized : Sized row) (code : List 
   -- line 457
   grown-set : (got : List ℕ) (recs new now : List Rec) → recs ++ new ≡ now → (entries : Node → List Rec) → got ≈ reached_by ns recs
       → (set : List ℕ)
-      × (extend-each (suc (length (dests new) + pushes-of (held ns entries) (targets_of now))) (held ns entries) (targets_of now) got (dests new ∷ []) ≡ some set)
+      × (extend-each (pops (held ns entries) (targets_of now)) (held ns entries) (targets_of now) got (dests new ∷ []) ≡ some set)
       × (set ≈ reached_by ns now)
   grown-set got recs new now e entries g =
       subst
       (λ (now : List Rec). (set : List ℕ)
-      × (extend-each (suc (length (dests new) + pushes-of (held ns entries) (targets_of now))) (held ns entries) (targets_of now) got (dests new ∷ []) ≡ some set)
+      × (extend-each (pops (held ns entries) (targets_of now)) (held ns entries) (targets_of now) got (dests new ∷ []) ≡ some set)
       × (set ≈ reached_by ns now)) e
       (round-leaves entries ns recs new got g (subst (Rising 0) (sym (held_at ns entries)) rises) _ (dests new ∷ [])
-      (λ b i. let q = ap length (in-only i) in omega arith) (append-nil (dests new)))
+      (λ b i. le_refl (pops (held ns entries) (targets_of (recs ++ new)) b)) (append-nil (dests new)))
 
   -- after a round
   module _ (n : ℕ) (later : Between n) (got : List ℕ) (s t : St) (o : Round) (g : got ≈ reached_by ns s.recs) (clear : t.met ≡ []) (st : Stands row code ns s.recs got t o) where

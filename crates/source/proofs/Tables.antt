@@ -17,7 +17,6 @@ use Rattle.laws.proofs.Branch.{both, if-true, if-false}
 use Rattle.laws.proofs.Members.{In, here, there, and_both, or_right, in_some, in-cases, in-only, gather_append, mem-append, in_mem, gather-in}
 use Rattle.source.specs.Collections.{match_option, unwrap_or, get, contains_key, insert, set_insert, last_unwrapped}
 use Rattle.source.specs.State.{State}
-use Rattle.source.specs.Shown.{to_of, jump_of}
 use Rattle.source.specs.Resolver.{Parents, Inter, RevIdx, Got, with_parents, with_istate, with_badpaths, set_reachable0, path_in, filter_parents, get_parents, inter_set, add_inter_state}
 use Rattle.source.proofs.Maps.{number-test, path-test, symbol-test, state-test, get-inserted, get_other}
 use Rattle.source.proofs.Caches.{Along, Cached}

@@ -1,4 +1,4 @@
--- reachable.rs, on the Rust's blocks, is what theorems has of it on the definitions' (Queue, Extending, Reaching). Assumes nothing.
+-- reachable.rs, on the Rust's blocks, is what Queue, Extending and Reaching have of it on the definitions'. Assumes nothing.
 use Prim.Native.Nat.{ℕ, zero, suc, ◌+◌, ◌≤◌}
 use native.Mathlib.Omega.{arith}
 use mathlib.Core.Path.{◌≡◌, refl, ap, ap₂, ◌∙◌}
@@ -16,7 +16,7 @@ use Rattle.laws.proofs.Branch.{both, if-true, if-false, and_then}
 use Rattle.laws.proofs.Members.{In, here, there}
 use Rattle.theorems.proofs.Batches.{added}
 use Rattle.source.proofs.Queue.{pushed, block_at, of-block, while-pops}
-use Rattle.source.proofs.Extending.{turns, Targets, Extended, visits, pushes-of, extend-each}
+use Rattle.source.proofs.Extending.{turns, Targets, Extended, visits, pushes-of, pops, extend-reachable-nodes, extend-each}
 use Rattle.source.proofs.Reaching.{last?, follows, follows-each, sees, entries_of-all}
 use Rattle.source.specs.Collections.{match_option, unwrap_or, get, set_insert}
 use Rattle.source.specs.Types.{RustBlock}
@@ -83,13 +83,14 @@ module _ (wt : Witnesses) (targets : Targets) (told : (w : ℕ) → unwrap_or []
   pushes_same (f ∷ fs) =
       λ i. length (sides-same f.block.kind f.entries i) + length (told f.block.start i) + pushes_same fs i
 
-  -- one call is one list of seeds
-  pub extend_same : (fs : List Final) (got seeds set : List ℕ) → extend-each (suc (length seeds + pushes-of fs targets)) fs targets got (seeds ∷ []) ≡ some set
-      → extend_reachable_nodes (map view fs) got wt seeds ≡ some (set, not (eqb (length set) (length got)))
-  extend_same fs got seeds set e =
+  -- The same call, with the same pops.
+  pub call-same : (fs : List Final) (got seeds : List ℕ)
+      → extend_reachable_nodes (map view fs) got wt seeds ≡ and_then {B = List ℕ × Bool} (extend-reachable-nodes (pops fs targets seeds) fs targets got seeds) (λ x. some (x.reachable, x.grew))
+  call-same fs got seeds =
       ap (λ (o : Option (List ℕ)). and_then o (λ set. some (set, not (eqb (length set) (length got)))))
       (ap (λ (n : ℕ). while_queue (map view fs) rust (suc (length seeds + n)) (push_each seeds []) got) (pushes_same fs)
-      ∙ while-same rust theirs same fs (suc (length seeds + pushes-of fs targets)) (pushed seeds []) got ∙ ended _ e)
+      ∙ while-same rust theirs same fs (pops fs targets seeds) (pushed seeds []) got)
+      ∙ told-again (while-pops fs theirs (pops fs targets seeds) (pushed seeds []) got)
     where
       rust : List ℕ → ℕ → RustBlock → Option (List ℕ)
       rust = λ set current bl. some (sides_of_type bl.btype ++ unwrap_or [] (get eqb current wt))
@@ -100,9 +101,20 @@ module _ (wt : Witnesses) (targets : Targets) (told : (w : ℕ) → unwrap_or []
       same : (set : List ℕ) (a : ℕ) (f : Final) → rust set a (view f).1 ≡ theirs set a f
       same set a f = λ i. some (sides-same f.block.kind f.entries i ++ told a i)
 
-      ended : (o : Option (List ℕ)) → and_then (and_then o (λ set. some (record { reachable = set; grew = not (eqb (length set) (length got)) }))) (λ (r : Extended). some r.reachable) ≡ some set → o ≡ some set
+      told-again : (o : Option (List ℕ)) → and_then {B = List ℕ × Bool} o (λ set. some (set, not (eqb (length set) (length got))))
+          ≡ and_then {B = List ℕ × Bool} (and_then o (λ set. some (record { reachable = set; grew = not (eqb (length set) (length got)) }))) (λ (x : Extended). some (x.reachable, x.grew))
+      told-again none = refl
+      told-again (some set) = refl
+
+  -- one call is one list of seeds
+  pub extend_same : (fs : List Final) (got seeds set : List ℕ) → extend-each (pops fs targets) fs targets got (seeds ∷ []) ≡ some set
+      → extend_reachable_nodes (map view fs) got wt seeds ≡ some (set, not (eqb (length set) (length got)))
+  extend_same fs got seeds set e = call-same fs got seeds ∙ ended (while-pops fs (λ set current f. some (visits targets set current f)) (pops fs targets seeds) (pushed seeds []) got) e
+    where
+      ended : (o : Option (List ℕ)) → and_then (and_then o (λ set. some (record { reachable = set; grew = not (eqb (length set) (length got)) }))) (λ (r : Extended). some r.reachable) ≡ some set
+          → and_then {B = List ℕ × Bool} (and_then o (λ set. some (record { reachable = set; grew = not (eqb (length set) (length got)) }))) (λ (x : Extended). some (x.reachable, x.grew)) ≡ some (set, not (eqb (length set) (length got)))
       ended none q = cc
-      ended (some x) q = q
+      ended (some x) q = ap (λ (o : Option (List ℕ)). and_then o (λ set. some (set, not (eqb (length set) (length got))))) q
 
 -- ---- `get_reachable_nodes`
 
