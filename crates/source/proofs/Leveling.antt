@@ -66,9 +66,9 @@ module _ (row : ℕ → Row) (code : List ℕ) (c : Turn) where
   }
 
   -- one record, x
-  one : (s t : St) (x : Rec) (r : RevIdx) {to : Option ℕ} → to ≡ to_of x.to → t.energy ≡ s.energy → t.recs ≡ s.recs ++ x ∷ [] → x.start ≡ c.start → Sim row code c t.recs t.met r
+  done-record : (s t : St) (x : Rec) (r : RevIdx) {to : Option ℕ} → to ≡ to_of x.to → t.energy ≡ s.energy → t.recs ≡ s.recs ++ x ∷ [] → x.start ≡ c.start → Sim row code c t.recs t.met r
       → Done row code c s.recs s.energy t (resolved r (record { path = x.path; to = to } ∷ []) 0)
-  one s t x r e f g k h = record {
+  done-record s t x r e f g k h = record {
     idx = r;
     used = 0;
     new = x ∷ [];
@@ -93,7 +93,7 @@ module _ (row : ℕ → Row) (code : List ℕ) (c : Turn) where
       go : (b : Bool) → Done row code c s.recs s.energy (if b s (add x (writes path s)))
           (pushed_if (if b (record { idx = r; value = false }) (record { idx = with_badpaths (path ∷ r.badpaths) r; value = true })) path none)
       go true = nothing s r h
-      go false = one s _ x _ refl refl refl refl (bad-added row code c s.recs s.met r h x refl)
+      go false = done-record s _ x _ refl refl refl refl (bad-added row code c s.recs s.met r h x refl)
 
   -- lines 296 to 304
   done-found : (to : ℕ) (new : Stack) (path : List ℕ) (s : St) (r : RevIdx) → Sim row code c s.recs s.met r → Along row code path new → ¬ (length path ≡ 1)
@@ -120,7 +120,7 @@ module _ (row : ℕ → Row) (code : List ℕ) (c : Turn) where
           (and_then (if (contains_key same path entry) (got (with_parents (insert eqb to entry r.parents) reached-too) false)
           (got (with_parents (insert eqb to (insert same path (stored new) entry) r.parents) reached-too) true)) (λ g. pushed_if g path (some to)))
       go true e = rw (tests, e) (nothing s _ (parent-there row code c s.recs s.met r h to path e))
-      go false e = rw (tests, e) (one s _ x _ refl refl refl refl (parent-put row code c s.recs s.met r h to path new a (tests ∙ e) x refl refl))
+      go false e = rw (tests, e) (done-record s _ x _ refl refl refl refl (parent-put row code c s.recs s.met r h to path new a (tests ∙ e) x refl refl))
 
 -- the recursive call, of levels whose weight is new-weight
 module _ (row : ℕ → Row) (code : List ℕ) (c : Turn) (limit : ℕ) where
@@ -247,7 +247,7 @@ module _ {row : ℕ → Row} (ok : Lawful row) (sized : Sized row) (code : List 
     same-cycles (b ∷ d ∷ more) path = refl
 
     -- behind the jumps and the energy of the parents before
-    record More (recs : List Rec) (js : List Dynamic) (from : ℕ) (t : St) (o : Option Resolved) : Type 0 where
+    record Behind (recs : List Rec) (js : List Dynamic) (from : ℕ) (t : St) (o : Option Resolved) : Type 0 where
       idx : RevIdx
       used : ℕ
       new : List Rec
@@ -258,9 +258,9 @@ module _ {row : ℕ → Row} (ok : Lawful row) (sized : Sized row) (code : List 
       sim : Sim row code c t.recs t.met idx
 
     -- the records of one parent, and then of the others
-    more-then : {recs : List Rec} {js : List Dynamic} {from : ℕ} {t : St} (s : St) (new : List Rec) {o : Option Resolved} → s.recs ≡ recs ++ new → ((x : Rec) → In x new → x.start ≡ c.start)
-        → More s.recs (js ++ map jump_of new) from t o → More recs js from t o
-    more-then {recs} {js} {from} {t} s new e f m = record {
+    behind-then : {recs : List Rec} {js : List Dynamic} {from : ℕ} {t : St} (s : St) (new : List Rec) {o : Option Resolved} → s.recs ≡ recs ++ new → ((x : Rec) → In x new → x.start ≡ c.start)
+        → Behind s.recs (js ++ map jump_of new) from t o → Behind recs js from t o
+    behind-then {recs} {js} {from} {t} s new e f m = record {
       idx = m.idx;
       used = m.used;
       new = new ++ m.new;
@@ -298,8 +298,8 @@ module _ {row : ℕ → Row} (ok : Lawful row) (sized : Sized row) (code : List 
     tries-step go path p ps s = refl
 
     -- nothing more
-    more-none : (s : St) (js : List Dynamic) (from u : ℕ) (t : St) (r : RevIdx) → t.recs ≡ s.recs → t.energy ≡ from + u → Sim row code c t.recs t.met r → More s.recs js from t (resolved r js u)
-    more-none s js from u t r e f h = record {
+    behind-none : (s : St) (js : List Dynamic) (from u : ℕ) (t : St) (r : RevIdx) → t.recs ≡ s.recs → t.energy ≡ from + u → Sim row code c t.recs t.met r → Behind s.recs js from t (resolved r js u)
+    behind-none s js from u t r e f h = record {
       idx = r;
       used = u;
       new = [];
@@ -322,7 +322,7 @@ module _ {row : ℕ → Row} (ok : Lawful row) (sized : Sized row) (code : List 
 
       abbrev Rest : List Parent → Type 0
       Rest ps = (s : St) (r : RevIdx) (js : List Dynamic) (u : ℕ) → Sim row code c s.recs s.met r → Good s.recs ps → s.energy ≡ from + u
-          → More s.recs js from (tries limit go l.path ps s) (called ps r js u)
+          → Behind s.recs js from (tries limit go l.path ps s) (called ps r js u)
 
       module _ (p : Parent) (ps : List Parent) (rest : Rest ps) (s : St) (r : RevIdx) (js : List Dynamic) (u : ℕ) (h : Sim row code c s.recs s.met r) (good : Good s.recs (p ∷ ps)) (f : s.energy ≡ from + u) where
         asked : St
@@ -332,26 +332,26 @@ module _ {row : ℕ → Row} (ok : Lawful row) (sized : Sized row) (code : List 
         tried = and_then (try_parent row code calls l.path weight l.position (stored l.state) (minus room (u + 1)) (entry_of p) r) (λ t. called ps t.idx (js ++ t.jumps) (u + 1 + t.used))
 
         -- line 226 on, and then the other parents
-        on-tried : ltb room (u + 1) ≡ false → More s.recs js from (tries limit go l.path ps (go p (l.path ++ p.path) asked)) tried
+        on-tried : ltb room (u + 1) ≡ false → Behind s.recs js from (tries limit go l.path ps (go p (l.path ++ p.path) asked)) tried
         unfolding asked
         on-tried off =
             let k = ltb-false room (u + 1) off in
             let left : minus room (u + 1) ≡ some (room - (u + 1)) = if-true _ _ _ (le-leb (u + 1) room k) in
             let d = each p asked r (room - (u + 1)) h (good p here).0 (good p here).1 (omega arith) in
             let next = go p (l.path ++ p.path) asked in
-            more-then next d.new d.recorded d.own_start
+            behind-then next d.new d.recorded d.own_start
             (rw (left, d.is)
             (rest next d.idx (js ++ map jump_of d.new) (u + 1 + d.used) d.sim
             (rw d.recorded (good_more s.recs d.new (λ q i. good q (there i)))) (omega (arith, d.counted))))
 
         on-parent : (b : Bool) → ltb room (u + 1) ≡ b → (k : Bool) → loops p.path l.path ≡ k
-            → More s.recs js from
+            → Behind s.recs js from
             (if (ltb limit (suc s.energy)) (spend s) (tries limit go l.path ps (if (loops p.path l.path) (spend s) (go p (l.path ++ p.path) asked))))
             (if (ltb room (u + 1)) (resolved r js (u + 1)) (if (cycles p.path l.path) (called ps r js (u + 1)) tried))
         on-parent true over k j =
             let q : ltb limit (suc s.energy) ≡ true = lt-ltb limit (suc s.energy) (omega (arith, ltb-true room (u + 1) over)) in
             rw (if-true (ltb limit (suc s.energy)) _ _ q, if-true (ltb room (u + 1)) _ _ over)
-            (more-none s js from (u + 1) (spend s) r refl (omega arith) h)
+            (behind-none s js from (u + 1) (spend s) r refl (omega arith) h)
         on-parent false within true j =
             let q : ltb limit (suc s.energy) ≡ false = le-ltb limit (suc s.energy) (omega (arith, ltb-false room (u + 1) within)) in
             rw (if-false (ltb limit (suc s.energy)) _ _ q, if-false (ltb room (u + 1)) _ _ within, if-true (loops p.path l.path) _ _ j, if-true (cycles p.path l.path) _ _ (same-cycles p.path l.path ∙ j))
@@ -363,7 +363,7 @@ module _ {row : ℕ → Row} (ok : Lawful row) (sized : Sized row) (code : List 
 
       no-parents : Rest []
       no-parents s r js u h good f =
-          rw (tries-nil go l.path s, for-nil calls l.path weight l.position (stored l.state) room r js u) (more-none s js from u s r refl f h)
+          rw (tries-nil go l.path s, for-nil calls l.path weight l.position (stored l.state) room r js u) (behind-none s js from u s r refl f h)
 
       one_parent : (p : Parent) (ps : List Parent) → Rest ps → Rest (p ∷ ps)
       unfolding asked

@@ -34,7 +34,7 @@ use Rattle.source.proofs.Iterating.{Sized}
 use Rattle.source.proofs.Caches.{own_of}
 use Rattle.source.proofs.Tables.{Sim}
 use Rattle.source.proofs.Visiting.{extend_same}
-use Rattle.source.proofs.Turning.{shows, node-starts, Turns, turns_jump, turns_jumpi, base, Stands, Took, one-taken}
+use Rattle.source.proofs.Turning.{shows, node-starts, Turns, turns_jump, turns_jumpi, base, Stands, Took, turn-taken}
 
 -- ---- the blocks that take turns
 
@@ -137,7 +137,7 @@ module _ {row : ℕ → Row} (ok : Lawful row) (sized : Sized row) (code : List 
       split true e false f =
           let h : s.energy < ENERGY-LIMIT = omega (arith, leb-false ENERGY-LIMIT o.total_energy_used f, st.energy-is) in
           let n = taker-node i in
-          let w = one-taken ok sized code ns rises k i n.0 n.1 n.2.turns n.2.start (n.2.first ∙ owns n.0 n.1 ∙ ap (own_of row code) (sym n.2.start)) older reached s o st h in
+          let w = turn-taken ok sized code ns rises k i n.0 n.1 n.2.turns n.2.start (n.2.first ∙ owns n.0 n.1 ∙ ap (own_of row code) (sym n.2.start)) older reached s o st h in
           rw (
             if-false (not (mem k.start reached)) _ _ (ap not e),
             if-false (leb ENERGY-LIMIT o.total_energy_used) _ _ f,

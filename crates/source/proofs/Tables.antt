@@ -257,8 +257,8 @@ module _ (istate : List (ℕ × Inter)) (last : ℕ) (state : State) (jmp : Sym)
   holds? m x sym = match_option (get eq_syms x m) (some? (eq_sym sym)) false
 
   -- this combination
-  abbrev this : ℕ → State → Sym → Bool
-  this l x sym = eqb l last && eq_sym sym jmp && eq_syms x state
+  abbrev combination : ℕ → State → Sym → Bool
+  combination l x sym = eqb l last && eq_sym sym jmp && eq_syms x state
 
   known-here : (m : Inter) (l : ℕ) (x : State) (sym : Sym) → eqb l last ≡ true → known (insert eqb last m istate) l x sym ≡ holds? m x sym
   known-here m l x y e =
@@ -269,43 +269,43 @@ module _ (istate : List (ℕ × Inter)) (last : ℕ) (state : State) (jmp : Sym)
   known-elsewhere m l x y e = ap (λ (o : Option Inter). holds? (unwrap_or [] o) x y) (get_other number-test l last m istate e)
 
   -- of the symbols for the state, with jmp
-  module _ (news : List Sym) (more : (sym : Sym) → some? (eq_sym sym) news ≡ eq_sym sym jmp || holds? inters state sym) where
+  module _ (news : List Sym) (with-jmp : (sym : Sym) → some? (eq_sym sym) news ≡ eq_sym sym jmp || holds? inters state sym) where
     put-here : (x : State) (y : Sym) (b : Bool) → eq_syms x state ≡ b → holds? (insert eq_syms state news inters) x y ≡ (eq_sym y jmp && b) || holds? inters x y
     put-here x y true e =
         let q = state-test.equal x state e in
         ap (λ (z : State). holds? (insert eq_syms state news inters) z y) q
         ∙ ap (λ (o : Option (List Sym)). match_option o (some? (eq_sym y)) false) (get-inserted state-test state news inters)
-        ∙ more y ∙ ap₂ ◌||◌ (sym (true-right (eq_sym y jmp))) (ap (λ (z : State). holds? inters z y) (sym q))
+        ∙ with-jmp y ∙ ap₂ ◌||◌ (sym (true-right (eq_sym y jmp))) (ap (λ (z : State). holds? inters z y) (sym q))
     put-here x y false e =
         ap (λ (o : Option (List Sym)). match_option o (some? (eq_sym y)) false) (get_other state-test x state news inters e)
         ∙ ap (λ (b : Bool). b || holds? inters x y) (sym (and-false (eq_sym y jmp)))
 
-    pub put-known : (l : ℕ) (x : State) (y : Sym) → known (insert eqb last (insert eq_syms state news inters) istate) l x y ≡ this l x y || known istate l x y
+    pub put-known : (l : ℕ) (x : State) (y : Sym) → known (insert eqb last (insert eq_syms state news inters) istate) l x y ≡ combination l x y || known istate l x y
     put-known l x y = split (eqb l last) refl
       where
-        split : (b : Bool) → eqb l last ≡ b → known (insert eqb last (insert eq_syms state news inters) istate) l x y ≡ this l x y || known istate l x y
+        split : (b : Bool) → eqb l last ≡ b → known (insert eqb last (insert eq_syms state news inters) istate) l x y ≡ combination l x y || known istate l x y
         split true e =
             known-here (insert eq_syms state news inters) l x y e ∙ put-here x y (eq_syms x state) refl
             ∙ ap₂ (λ (t : Bool) (k : ℕ). (t && eq_sym y jmp && eq_syms x state) || known istate k x y) (sym e) (sym (eqb-true l last e))
         split false e = known-elsewhere _ l x y e ∙ ap (λ (t : Bool). (t && eq_sym y jmp && eq_syms x state) || known istate l x y) (sym e)
 
   -- nothing is put where it is there
-  there-known : holds? inters state jmp ≡ true → (l : ℕ) (x : State) (y : Sym) → known (insert eqb last inters istate) l x y ≡ this l x y || known istate l x y
+  there-known : holds? inters state jmp ≡ true → (l : ℕ) (x : State) (y : Sym) → known (insert eqb last inters istate) l x y ≡ combination l x y || known istate l x y
   there-known on l x y = split (eqb l last) refl
     where
-      covered : (b : Bool) → this l x y ≡ b → known istate l x y ≡ this l x y || known istate l x y
+      covered : (b : Bool) → combination l x y ≡ b → known istate l x y ≡ combination l x y || known istate l x y
       covered true e =
-          let one = and_both (eqb l last && eq_sym y jmp) (eq_syms x state) e in
-          let two = and_both (eqb l last) (eq_sym y jmp) one.0 in
-          let p = eqb-true l last two.0 in
-          let q = symbol-test.equal y jmp two.1 in
-          let z = state-test.equal x state one.1 in
+          let outer = and_both (eqb l last && eq_sym y jmp) (eq_syms x state) e in
+          let inner = and_both (eqb l last) (eq_sym y jmp) outer.0 in
+          let p = eqb-true l last inner.0 in
+          let q = symbol-test.equal y jmp inner.1 in
+          let z = state-test.equal x state outer.1 in
           (λ i. known istate (p i) (z i) (q i)) ∙ on ∙ sym (ap (λ (t : Bool). t || known istate l x y) e)
       covered false e = sym (ap (λ (t : Bool). t || known istate l x y) e)
 
-      split : (b : Bool) → eqb l last ≡ b → known (insert eqb last inters istate) l x y ≡ this l x y || known istate l x y
-      split true e = known-here inters l x y e ∙ ap (λ (k : ℕ). known istate k x y) (sym (eqb-true l last e)) ∙ covered (this l x y) refl
-      split false e = known-elsewhere inters l x y e ∙ covered (this l x y) refl
+      split : (b : Bool) → eqb l last ≡ b → known (insert eqb last inters istate) l x y ≡ combination l x y || known istate l x y
+      split true e = known-here inters l x y e ∙ ap (λ (k : ℕ). known istate k x y) (sym (eqb-true l last e)) ∙ covered (combination l x y) refl
+      split false e = known-elsewhere inters l x y e ∙ covered (combination l x y) refl
 
 -- lines 131 to 142: the symbols held are those before and this one; true is returned if it is new
 pub record Enters (r : RevIdx) (last : ℕ) (state : State) (jmp : Sym) (g : Got Bool) : Type 0 where
@@ -368,18 +368,18 @@ module _ (row : ℕ → Row) (code : List ℕ) (c : Turn) (recs : List Rec) (met
       ∙ ap₂ (λ (a b : Bool). (eqb l m.last && eq_sym y m.symbol && a) || b) (same-stored x m.stack) (h.inter l x y))
 
   pub met-there : (now : List (ℕ × Inter)) → seen now → was-met met m.last m.stack m.symbol ≡ true → Sim row code c recs met (with_istate now r)
-  met-there now t on = with-now now met (λ l x y. t l (stored x) y ∙ ap (λ (b : Bool). this l x y || b) (h.inter l x y) ∙ covered l x y (this l x y) refl)
+  met-there now t on = with-now now met (λ l x y. t l (stored x) y ∙ ap (λ (b : Bool). met-again l x y || b) (h.inter l x y) ∙ covered l x y (met-again l x y) refl)
     where
-      this : ℕ → Stack → Sym → Bool
-      this l x y = eqb l m.last && eq_sym y m.symbol && eq_syms (stored x) (stored m.stack)
+      met-again : ℕ → Stack → Sym → Bool
+      met-again l x y = eqb l m.last && eq_sym y m.symbol && eq_syms (stored x) (stored m.stack)
 
-      covered : (l : ℕ) (x : Stack) (y : Sym) (b : Bool) → this l x y ≡ b → this l x y || was-met met l x y ≡ was-met met l x y
+      covered : (l : ℕ) (x : Stack) (y : Sym) (b : Bool) → met-again l x y ≡ b → met-again l x y || was-met met l x y ≡ was-met met l x y
       covered l x y true e =
-          let one = and_both (eqb l m.last && eq_sym y m.symbol) (eq_syms (stored x) (stored m.stack)) e in
-          let two = and_both (eqb l m.last) (eq_sym y m.symbol) one.0 in
-          let p = eqb-true l m.last two.0 in
-          let q = symbol-test.equal y m.symbol two.1 in
-          let z = state-test.equal (stored x) (stored m.stack) one.1 in
+          let outer = and_both (eqb l m.last && eq_sym y m.symbol) (eq_syms (stored x) (stored m.stack)) e in
+          let inner = and_both (eqb l m.last) (eq_sym y m.symbol) outer.0 in
+          let p = eqb-true l m.last inner.0 in
+          let q = symbol-test.equal y m.symbol inner.1 in
+          let z = state-test.equal (stored x) (stored m.stack) outer.1 in
           ap (λ (t : Bool). t || was-met met l x y) e
           ∙ sym (sym (h.inter l x y) ∙ (λ i. known r.istate (p i) (z i) (q i)) ∙ h.inter m.last m.stack m.symbol ∙ on)
       covered l x y false e = ap (λ (t : Bool). t || was-met met l x y) e

@@ -233,8 +233,8 @@ module _ (row : ℕ → Row) (code : List ℕ) (ns : List Node) (rises : Rising 
         split (inl a) = st.taken x a
         split (inr a) = (k, i, d.own_start x a)
 
-    grown-more : t.recs ≡ older ++ (st.new ++ d.new)
-    grown-more = d.recorded ∙ ap (λ (l : List Rec). l ++ d.new) st.grown ∙ append_assoc older st.new d.new
+    grown-records : t.recs ≡ older ++ (st.new ++ d.new)
+    grown-records = d.recorded ∙ ap (λ (l : List Rec). l ++ d.new) st.grown ∙ append_assoc older st.new d.new
 
     cleared : Sim row code (base ns reached) t.recs [] (clear_inter_state d.idx)
     cleared = sim-turn {c = turn_for (direct ns) reached k} {d = base ns reached} refl refl (met-cleared row code (turn_for (direct ns) reached k) t.recs t.met d.idx d.sim)
@@ -245,8 +245,8 @@ module _ (row : ℕ → Row) (code : List ℕ) (ns : List Node) (rises : Rising 
     g : Targeted s.recs d.new o.new_targets (add_targets (map jump_of d.new) o.witness_targets o.new_targets)
     g = targeted d.new s.recs o.witness_targets o.new_targets new-lasting st.told
 
-    more-blocks : change (extend_type (map jump_of d.new)) k.start o.blocks ≡ some (shows ns t.recs)
-    more-blocks =
+    extended-blocks : change (extend_type (map jump_of d.new)) k.start o.blocks ≡ some (shows ns t.recs)
+    extended-blocks =
         ap₂ (change (extend_type (map jump_of d.new))) e st.blocks_are
         ∙ changed n turns s.recs d.new (λ x a. d.own_start x a ∙ e) ns rises j
         ∙ ap (λ (l : List Rec). some (shows ns l)) (sym d.recorded)
@@ -256,10 +256,10 @@ module _ (row : ℕ → Row) (code : List ℕ) (ns : List Node) (rises : Rising 
     unfolding after_turn
     after-found x xs f = record {
       next = record { idx = clear_inter_state d.idx; blocks = shows ns t.recs; total_energy_used = o.total_energy_used + d.used; witness_targets = g.now; found_new_paths = true; new_targets = o.new_targets ++ dests d.new };
-      is = if-false _ _ _ (ne_eqb (length (map jump_of d.new)) 0 (λ z. absurd (omega (arith, ap (λ (l : List Rec). length (map jump_of l)) f)))) ∙ rw (g.is, more-blocks) refl;
+      is = if-false _ _ _ (ne_eqb (length (map jump_of d.new)) 0 (λ z. absurd (omega (arith, ap (λ (l : List Rec). length (map jump_of l)) f)))) ∙ rw (g.is, extended-blocks) refl;
       stands = record {
         new = st.new ++ d.new;
-        grown = grown-more;
+        grown = grown-records;
         clear = refl;
         sim = cleared;
         blocks_are = refl;
@@ -300,10 +300,10 @@ module _ (row : ℕ → Row) (code : List ℕ) (ns : List Node) (rises : Rising 
         split (x ∷ xs) f = after-found x xs f
 
 module _ {row : ℕ → Row} (ok : Lawful row) (sized : Sized row) (code : List ℕ) (ns : List Node) (rises : Rising 0 (node-starts ns)) where
-  pub one-taken : (k : Taker) → In k (takers ns) → (n : Node) → In n ns → Turns n.block.kind → k.start ≡ n.block.start → k.first ≡ own_of row code k.start
+  pub turn-taken : (k : Taker) → In k (takers ns) → (n : Node) → In n ns → Turns n.block.kind → k.start ≡ n.block.start → k.first ≡ own_of row code k.start
       → (older : List Rec) (reached : List ℕ) (s : St) (o : Round) → Stands row code ns older reached s o → s.energy < ENERGY-LIMIT
       → Took row code ns older reached (turn ENERGY-LIMIT (turn_for (direct ns) reached k) k.position s) (one_turn row code k.start k.position o)
-  one-taken k i n j turns e f older reached s o st l =
+  turn-taken k i n j turns e f older reached s o st l =
       let c = turn_for (direct ns) reached k in
       let g = state-given ok sized code k.start o.idx st.sim.cached in
       let t = need S (in_use c s) (need P 1 s) in
