@@ -50,7 +50,7 @@ op-there : {code : List ℕ} {i : Ins} → Stands code i → get_elem? code i.pc
 op-there {code} {i} s = let h = s.whole in index code i.pc (omega arith) ∙ ap some (sym s.byte)
 
 -- what the instruction at prev_pc pushed
-static_pushed : {code : List ℕ} {i : Ins} → Stands code i → is_static_jump code i.pc ≡ some (pushed i)
+pub static_pushed : {code : List ℕ} {i : Ins} → Stands code i → is_static_jump code i.pc ≡ some (pushed i)
 static_pushed {code} {i} s =
     rw (op-there s) (split (within 0x60 0x63 i.op) refl)
   where

@@ -273,7 +273,7 @@ trade-mirrored row i xs =
 
 -- ---- symbols
 
-same_known : (x : Sym) → known_value x ≡ defined-known x
+pub same_known : (x : Sym) → known_value x ≡ defined-known x
 same_known (before n) = refl
 same_known (constant v) = refl
 same_known (jumpdest v) = refl
@@ -284,7 +284,7 @@ byte_at [] v = refl
 byte_at (x ∷ xs) zero = refl
 byte_at (x ∷ xs) (suc v) = byte_at xs v
 
-same-value : (code : List ℕ) (v : ℕ) → from_value code v ≡ defined-value code v
+pub same-value : (code : List ℕ) (v : ℕ) → from_value code v ≡ defined-value code v
 same-value code v = ap (λ (b : Bool). if b (jumpdest v) (constant v)) (byte_at code v)
 
 eqb-turned : (a b : ℕ) → eqb a b ≡ eqb b a
@@ -420,7 +420,7 @@ module _ (row : ℕ → Row) (code : List ℕ) (start : ℕ) (i : Ins) (on : Lis
   op-mirrored : (xs : List Sym) → match_op row code start i goes (reverse xs) ≡ flipped (Tops.operated row code start i on xs)
   op-mirrored xs = (op-mirrors xs).is
 
-real-mirrored : (row : ℕ → Row) (code : List ℕ) (start : ℕ) (is : List Ins) (xs : List Sym) → real_exec row code start is (reverse xs) ≡ flipped (Tops.real-exec row code start is xs)
+pub real-mirrored : (row : ℕ → Row) (code : List ℕ) (start : ℕ) (is : List Ins) (xs : List Sym) → real_exec row code start is (reverse xs) ≡ flipped (Tops.real-exec row code start is xs)
 real-mirrored row code start [] xs = refl
 real-mirrored row code start (i ∷ is) xs =
     ap (λ (o : Option State). and_then o (match_op row code start i (real_exec row code start is))) (ensure-mirrored (row i.op).taken xs)

@@ -43,7 +43,12 @@ fn run(check: bool) -> Result<(), String> {
     let source = source::lines();
     let texts: Vec<String> = source.iter().map(|code| source::text(code)).collect();
     settle(check, "tests/source.list", &texts)?;
-    println!("source: {} codes", source.len());
+    let most = source.iter().map(|code| answers::energy(code)).max();
+    println!(
+        "source: {} codes, energy at most {}",
+        source.len(),
+        most.unwrap_or(0)
+    );
     let sessions = sessions::lines();
     let texts: Vec<String> = sessions.iter().map(sessions::text).collect();
     settle(check, "tests/sessions.list", &texts)?;
