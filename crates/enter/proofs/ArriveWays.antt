@@ -2,6 +2,8 @@
 use mathlib.Core.Path.{◌≡◌, refl, ap, subst, ◌∙◌}
 use Prim.Native.Nat.{ℕ, ◌*◌}
 use native.Mathlib.Omega.{arith}
+use Rattle.std.specs.Prelude.{Some}
+use mathlib.Core.Bool.{true}
 use mathlib.Core.List.{List}
 use Rattle.spec.specs.Stacks.{Sym, before, constant, jumpdest, other}
 use Rattle.spec.specs.Search.{Found}
@@ -13,14 +15,13 @@ use Rattle.tables.specs.Tables as tables
 use Rattle.tables.specs.Tables.{new_found, no_entry, enters}
 use Rattle.tables.specs.declared.Entry.{Entry}
 use Rattle.tables.proofs.Noted.{new-nowhere, new-at}
-use Rattle.tables.specs.declared.Reply.{Reply}
+use Rattle.tables.specs.Replies.{Reply}
 use Rattle.tables.specs.declared.row.Seen.{Seen}
 use Rattle.steps.specs.Lands.{Lands, Noted}
-use Rattle.enter.specs.Enters.{Opening, opening_of, ended_with, open_at, Ended, Ends, at_jumpdest, at_constant, at_other, entry_of, Arriving, Arrived}
-use Rattle.steps.specs.Plans.{Plan}
+use Rattle.enter.specs.Enters.{Opening, ended_with, open_at, Ended, Ends, at_jumpdest, at_constant, at_other, entry_of, Arriving, Arrived}
+use Rattle.steps.specs.declared.plan.Plan.{Plan}
 use Rattle.steps.specs.declared.Level.{Level}
-use Rattle.steps.specs.declared.Run.{Run}
-use Rattle.enter.specs.declared.enter.Deeper.{Deeper}
+use Rattle.steps.specs.Goings.{Gone}
 use Rattle.enter.proofs.PathEnds.{ended-with}
 
 no-before : (c : StackSym) → ((n : ℕ) → c ≡ Before n → ⊥) → (n : ℕ) → sym_of c ≡ before n → ⊥
@@ -43,11 +44,11 @@ entry-energy start x energy (constant v) = refl
 entry-energy start x energy (jumpdest t) = refl
 entry-energy start x energy (other pc) = refl
 
-module _ {p : List ℕ} {np start : ℕ} {k : Plan} {m : tables.Mem} {l : Level} {x : Seen} {o : Run} where
+module _ {p : List ℕ} {np start : ℕ} {k : Plan} {m : tables.Mem} {l : Level} {x : Seen} {o : Gone} where
   -- a Before has no end
-  pub arrived-before : {n : ℕ} {d : Deeper} → x.symbol ≡ Before n → d ≡ open_at np n x l → Arrived p np k m start l x o m (opening_of o d)
+  pub arrived-before : {n : ℕ} {d : Level} → x.symbol ≡ Before n → d ≡ open_at np n x l → Arrived p np k m start l x o m (record { opens = true; run = o; level = d })
   arrived-before {n} g f = record {
-    opens = λ i h. (ap (opening_of o) (f ∙ ap (λ (j : ℕ). open_at np j x l) (ap value (rw g at h))), refl);
+    opens = λ i h. (ap (λ (v : Level). record { opens = true; run = o; level = v }) (f ∙ ap (λ (j : ℕ). open_at np j x l) (ap value (rw g at h))), refl);
     ends = λ y h. absurd (none-there (rw g at h));
   }
     where
@@ -58,7 +59,7 @@ module _ {p : List ℕ} {np start : ℕ} {k : Plan} {m : tables.Mem} {l : Level}
   entry_found : Arriving p np k m start l x o → (c : Sym) {z : Found} → sym_of x.symbol ≡ c → Ends (stack_at m.s (9 * x.from) x.cells) c z → new_found m.s (entry_of start x o.energy c) ≡ z
   unfolding entry_of
   entry_found b (jumpdest t) g at_jumpdest =
-      new-at m.s (record { start = start; to = t; from = x.from; cells = x.cells; energy = o.energy }) b.ready.tables.few (b.lands t g)
+      new-at m.s (record { start = start; to = Some t; from = x.from; cells = x.cells; energy = o.energy }) refl
   entry_found b (constant v) g at_constant = new-nowhere m.s (no_entry start o.energy) refl
   entry_found b (other pc) g at_other = new-nowhere m.s (no_entry start o.energy) refl
   entry_found b (before _) {z = z} g x4 = elim x4 [ ]
@@ -89,7 +90,7 @@ module _ {p : List ℕ} {np start : ℕ} {k : Plan} {m : tables.Mem} {l : Level}
       most = a.ready.most;
       start = a.ready.start;
       energy = a.ready.energy;
-      entry = enters (a.lands t e) a.state;
+      entry = enters refl (a.lands t e) a.state;
       inside = a.inside;
     };
   }

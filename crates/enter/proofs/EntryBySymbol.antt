@@ -1,6 +1,7 @@
 -- What is recorded of a path, by the symbol read at its end. Assumes nothing.
 use mathlib.Core.Path.{◌≡◌, refl}
 use Prim.Native.Nat.{ℕ}
+use Rattle.std.specs.Prelude.{Some}
 use Rattle.state.specs.Symbols.{sym_of}
 use Rattle.state.specs.declared.sym.StackSym.TheVariants.{Before, Constant, Jumpdest, Other}
 use Rattle.state.specs.declared.sym.StackSym.{StackSym}
@@ -9,7 +10,7 @@ use Rattle.tables.specs.declared.row.Seen.{Seen}
 use Rattle.enter.specs.Enters.{entry_of}
 
 pub entry-jumpdest : (start : ℕ) (x : Seen) (energy t : ℕ) → x.symbol ≡ Jumpdest t
-    → record { start = start; to = t; from = x.from; cells = x.cells; energy = energy } ≡ entry_of start x energy (sym_of x.symbol)
+    → record { start = start; to = Some t; from = x.from; cells = x.cells; energy = energy } ≡ entry_of start x energy (sym_of x.symbol)
 unfolding entry_of
 entry-jumpdest start x energy t g = rw g
 

@@ -16,9 +16,9 @@ use Rattle.tables.proofs.Shorts.{short-after}
 use Rattle.tables.specs.declared.Rooms.{Rooms}
 use Rattle.steps.specs.Runs.{st_of}
 use Rattle.enter.specs.Enters.{shut_with, Outcome}
-use Rattle.steps.specs.Plans.{Plan}
+use Rattle.steps.specs.declared.plan.Plan.{Plan}
 use Rattle.steps.specs.declared.Level.{Level}
-use Rattle.steps.specs.declared.Run.{Run}
+use Rattle.steps.specs.Goings.{Gone}
 
 -- what follows a state that is short has the same first shortage
 pub short-later : (x : Lent) (s t : St) → Later s t → (shortage x s.needs ≡ 0 → ⊥) → shortage x t.needs ≡ shortage x s.needs
@@ -41,7 +41,7 @@ abbrev pub Laters : (search.Level → St → St) → Type 0
 Laters deeper = (x : search.Level) (s : St) → Later s (deeper x s)
 
 -- a room is short
-pub outcome-refused : {code : List ℕ} {k : Plan} {t : Turn} {since start : ℕ} {f : (search.Level → St → St) → St → St} {l : Level} {m m' : Mem} {o d : Run}
+pub outcome-refused : {code : List ℕ} {k : Plan} {t : Turn} {since start : ℕ} {f : (search.Level → St → St) → St → St} {l : Level} {m m' : Mem} {o d : Gone}
     → (d.code ≡ 0 → ⊥) → d.energy ≡ o.energy
     → ((deeper : search.Level → St → St) → Laters deeper → (x : Lent) → Lends x k.rooms → (mid : St) → clear mid ≡ st_of k m o → shortage x mid.needs ≡ 0
     → shortage x (f deeper mid).needs ≡ d.code)

@@ -21,7 +21,7 @@ use Rattle.steps.proofs.Paths.{only-flagged}
 use Rattle.steps.specs.Paths.{OnPath, CountsOnly}
 use Rattle.steps.specs.Runs.{recs_in}
 use Rattle.enter.specs.Fits.{level_of, Stands, OnIts, Stays}
-use Rattle.steps.specs.Plans.{Plan}
+use Rattle.steps.specs.declared.plan.Plan.{Plan}
 use Rattle.steps.specs.declared.Level.{Level}
 
 -- ---- it composes
@@ -44,13 +44,13 @@ module _ {k : Plan} {np : ℕ} where
   }
 
   -- where W changes in the counts alone
-  pub stays-counts : {w w' p s t r q : List ℕ} {c : Counts} → list_place k.n ≤ k.end → CountsOnly k.n w w' → Stays k np (buffers w p s t r q) c (buffers w' p s t r q) c
+  pub stays-counts : {w w' p s t r q : List ℕ} {c : Counts} → list_place k.size ≤ k.end → CountsOnly k.size w w' → Stays k np (buffers w p s t r q) c (buffers w' p s t r q) c
   stays-counts {w} {w'} {p} {s} {t} {r} {q} {c} h o = record {
     path = refl;
     bottom = refl;
     rows = o.front;
     flags = only-flagged o;
-    beyond = drop_more w' w (list_place k.n) o.back k.end h;
+    beyond = drop_more w' w (list_place k.size) o.back k.end h;
     uses = omega arith;
     more = omega arith;
     older = recs-all k (buffers w' p s t r q) c;
@@ -116,5 +116,5 @@ module _ {k : Plan} (l : Level) {m m' : Mem} {c c' : Counts} (x : Stays k l.np m
 
   -- ---- the counts
 
-  pub its-counts : OnPath k.n m'.w (addrs m.p 0 l.np) → OnIts k m' l
+  pub its-counts : OnPath k.size m'.w (addrs m.p 0 l.np) → OnIts k m' l
   its-counts o = rw path-stays o

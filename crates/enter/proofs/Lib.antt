@@ -9,3 +9,4 @@ pub mod EntryBySymbol
 pub mod StepsFourToSix
 pub mod FollowWays
 pub mod Skipping
+pub mod Lendings

@@ -38,9 +38,9 @@ use Rattle.reachable.specs.Marks.{flagged, marked_by}
 use Rattle.reachable.proofs.Raising.{highest-once}
 use Rattle.steps.specs.Paths.{OnPath}
 use Rattle.steps.specs.Runs.{tabled, recs_in, st_of, Did}
-use Rattle.steps.specs.Plans.{Plan}
+use Rattle.steps.specs.declared.plan.Plan.{Plan}
 use Rattle.steps.specs.declared.Level.{Level}
-use Rattle.steps.specs.declared.Run.{Run}
+use Rattle.steps.specs.Goings.{Gone}
 use Rattle.enter.specs.Fits.{Fits, level_of, held, Stays}
 use Rattle.enter.specs.Enters.{Opening, onward, Opens, Outcome, Entered}
 use Rattle.enter.proofs.TurnKept.{mets-length}
@@ -83,15 +83,15 @@ module _ {k : Rooms} {l : Lent} (lends : Lends l k) {f : St → St} {a : St} {x 
 pub record OneKept (k : Plan) (np used since : ℕ) (m' m'' : Mem) (c : Counts) : Type 0 where
   pub recs : recs_in k m' c ≡ recs_in k m'' c
   pub met : met_of m'.t m'.s c.rows ≡ met_of m''.t m''.s c.rows
-  pub tables : OneTables k.n k.buckets k.rooms c (tabled m') (tabled m'')
+  pub tables : OneTables k.size k.buckets k.rooms c (tabled m') (tabled m'')
   pub path : take (2 * np) m'.p ≡ take (2 * np) m''.p
   pub bottom : take (9 * used) m'.s ≡ take (9 * used) m''.s
-  pub rows : SameRows k.n m''.w m'.w
-  pub counts : (a : ℕ) → a ≤ k.n → Same m'.w m''.w (fields_place k.n a + COUNT) 4
-  pub highest : (a : ℕ) → a ≤ k.n → Same m'.w m''.w (fields_place k.n a + HIGHEST) 2
-  pub flags : flagged m'.w k.n ≡ flagged m''.w k.n
+  pub rows : SameRows k.size m''.w m'.w
+  pub counts : (a : ℕ) → a ≤ k.size → Same m'.w m''.w (fields_place k.size a + COUNT) 4
+  pub highest : (a : ℕ) → a ≤ k.size → Same m'.w m''.w (fields_place k.size a + HIGHEST) 2
+  pub flags : flagged m'.w k.size ≡ flagged m''.w k.size
   pub beyond : drop k.end m'.w ≡ drop k.end m''.w
-  pub marks : (j : ℕ) → since ≤ j → j ≤ c.records → (a : ℕ) → a ≤ k.n → marked_by m'.w k.n a (j + 1) ≡ marked_by m''.w k.n a (j + 1)
+  pub marks : (j : ℕ) → since ≤ j → j ≤ c.records → (a : ℕ) → a ≤ k.size → marked_by m'.w k.size a (j + 1) ≡ marked_by m''.w k.size a (j + 1)
 
 -- an address has a mark that is no later, or none
 pub marked-too : (w v : List ℕ) (n a records : ℕ) → mark_at w n a ≤ records + 1 → marked_by w n a (records + 1) ≡ marked_by v n a (records + 1) → (mark_at w n a ≡ 0 → ⊥) → mark_at v n a ≡ 0 → ⊥
@@ -99,7 +99,7 @@ marked-too w v n a records l e ne z =
     let on : marked_by w n a (records + 1) ≡ true = and-true (ltb 0 (mark_at w n a)) _ (lt-ltb 0 (mark_at w n a) (omega arith)) (le-leb (mark_at w n a) (records + 1) l) in
     omega (arith, ltb-true 0 (mark_at v n a) (and_both (ltb 0 (mark_at v n a)) _ (sym e ∙ on)).0)
 
-module _ {code : List ℕ} {k : Plan} {t : Turn} {since start : ℕ} {m' m'' : Mem} (d e : Run) (f : Fits code k t since start m' d.counts)
+module _ {code : List ℕ} {k : Plan} {t : Turn} {since start : ℕ} {m' m'' : Mem} (d e : Gone) (f : Fits code k t since start m' d.counts)
     (g : Fits code k t since start m'' e.counts) (one : st_of k m' d ≡ st_of k m'' e) where
   found-recs : recs_in k m' d.counts ≡ recs_in k m'' e.counts
   found-recs = ap (λ (s : St). s.recs) one
@@ -130,28 +130,28 @@ module _ {code : List ℕ} {k : Plan} {t : Turn} {since start : ℕ} {m' m'' : M
   same-recs : recs_in k m' d.counts ≡ recs_in k m'' d.counts
   same-recs = found-recs ∙ ap (recs_in k m'') (sym counts-once)
 
-  same-marks : (j : ℕ) → since ≤ j → j ≤ d.counts.records → (a : ℕ) → a ≤ k.n → marked_by m'.w k.n a (j + 1) ≡ marked_by m''.w k.n a (j + 1)
+  same-marks : (j : ℕ) → since ≤ j → j ≤ d.counts.records → (a : ℕ) → a ≤ k.size → marked_by m'.w k.size a (j + 1) ≡ marked_by m''.w k.size a (j + 1)
   same-marks j l h a i =
       let at = k.rooms.s in
       f.marks.by j l (omega (arith, recs-length m'.r m'.q m'.s at d.counts.records)) a i
       ∙ ap (λ (rs : List Rec). mem a t.reached || mem a (dests (take j rs))) found-recs
       ∙ sym (g.marks.by j l (omega (arith, ap (λ (c : Counts). c.records) counts-once, recs-length m''.r m''.q m''.s at e.counts.records)) a i)
 
-  same-high : SameRows k.n m''.w m'.w → (a : ℕ) → a ≤ k.n → high_at m'.w k.n a ≡ high_at m''.w k.n a
+  same-high : SameRows k.size m''.w m'.w → (a : ℕ) → a ≤ k.size → high_at m'.w k.size a ≡ high_at m''.w k.size a
   same-high rows =
       let at = k.rooms.s in
       let all = same-marks d.counts.records f.began (omega arith) in
       highest-once rows
-      (λ x h. marked-too m'.w m''.w k.n x d.counts.records (omega (arith, f.marks.most x h, recs-length m'.r m'.q m'.s at d.counts.records)) (all x h))
-      (λ x h. marked-too m''.w m'.w k.n x d.counts.records
+      (λ x h. marked-too m'.w m''.w k.size x d.counts.records (omega (arith, f.marks.most x h, recs-length m'.r m'.q m'.s at d.counts.records)) (all x h))
+      (λ x h. marked-too m''.w m'.w k.size x d.counts.records
       (omega (arith, ap (λ (c : Counts). c.records) counts-once, g.marks.most x h, recs-length m''.r m''.q m''.s at e.counts.records)) (sym (all x h)))
       f.marks.high g.marks.high
 
   -- a slice keeps its length, and holds bytes
-  pub kept-once : {np : ℕ} {path : List ℕ} {m : Mem} {c : Counts} → Stays k np m c m' d.counts → Stays k np m c m'' e.counts → OnPath k.n m'.w path
-      → OnPath k.n m''.w path → AllBytes (tabled m') → AllBytes (tabled m'') → AllLong (tabled m') (tabled m'') → OneKept k np c.used since m' m'' d.counts
+  pub kept-once : {np : ℕ} {path : List ℕ} {m : Mem} {c : Counts} → Stays k np m c m' d.counts → Stays k np m c m'' e.counts → OnPath k.size m'.w path
+      → OnPath k.size m''.w path → AllBytes (tabled m') → AllBytes (tabled m'') → AllLong (tabled m') (tabled m'') → OneKept k np c.used since m' m'' d.counts
   kept-once x y on on' b b' long =
-      let rows : SameRows k.n m''.w m'.w = x.rows ∙ sym y.rows in
+      let rows : SameRows k.size m''.w m'.w = x.rows ∙ sym y.rows in
       record {
         recs = same-recs;
         met = found-met ∙ ap (λ (c : Counts). met_of m''.t m''.s c.rows) (sym counts-once);
@@ -159,8 +159,8 @@ module _ {code : List ℕ} {k : Plan} {t : Turn} {since start : ℕ} {m' m'' : M
         path = x.path ∙ sym y.path;
         bottom = x.bottom ∙ sym y.bottom;
         rows = rows;
-        counts = λ a h. same-num b.w b'.w long.w 4 (fields_place k.n a + COUNT) (on.counts a h ∙ sym (on'.counts a h));
-        highest = λ a h. same-num b.w b'.w long.w 2 (fields_place k.n a + HIGHEST) (same-high rows a h);
+        counts = λ a h. same-num b.w b'.w long.w 4 (fields_place k.size a + COUNT) (on.counts a h ∙ sym (on'.counts a h));
+        highest = λ a h. same-num b.w b'.w long.w 2 (fields_place k.size a + HIGHEST) (same-high rows a h);
         flags = x.flags ∙ sym y.flags;
         beyond = x.beyond ∙ sym y.beyond;
         marks = same-marks;
@@ -169,7 +169,7 @@ module _ {code : List ℕ} {k : Plan} {t : Turn} {since start : ℕ} {m' m'' : M
 -- ---- a parent that is entered
 
 -- what two results share where the number is 0: all that they say, and the state and the path of a level that opens
-pub record OneEntered (k : Plan) (l : Level) (since : ℕ) (o : Run) (m' m'' : Mem) (d e : Opening) : Type 0 where
+pub record OneEntered (k : Plan) (l : Level) (since : ℕ) (o : Gone) (m' m'' : Mem) (d e : Opening) : Type 0 where
   pub opening : d ≡ e
   pub kept : OneKept k l.np o.counts.used since m' m'' d.run.counts
   pub path : d.opens ≡ true → Same m'.p m''.p 0 (2 * d.level.np)
@@ -195,7 +195,7 @@ tells x s = record {
   state = (head (record { last = 0; stack = x.state; symbol = before 0 }) s.met).stack;
 }
 
-module _ {code : List ℕ} {k : Plan} {start : ℕ} (at : ℕ) {l : Level} {m m' m'' : Mem} {o : Run} {d e : Opening} (f : Entered code k start l at m o m' d) (g : Entered code k start l at m o m'' e)
+module _ {code : List ℕ} {k : Plan} {start : ℕ} (at : ℕ) {l : Level} {m m' m'' : Mem} {o : Gone} {d e : Opening} (f : Entered code k start l at m o m' d) (g : Entered code k start l at m o m'' e)
     {t : Turn} {since : ℕ} (fits : Fits code k t since start m o.counts) where
   abbrev F : (search.Level → St → St) → St → St
   F deeper = onward t deeper l.left (level_of m l) (held code k m 0 at)

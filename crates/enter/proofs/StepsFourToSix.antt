@@ -40,11 +40,17 @@ use Rattle.steps.specs.Lands.{Noted}
 use Rattle.steps.specs.Runs.{recs_in, st_of, Did}
 use Rattle.enter.specs.Fits.{Fits, level_of, Stands, held, Stays}
 use Rattle.enter.specs.Enters.{refused_with, shut_with, open_with, Ends, at_jumpdest, at_constant, at_other, Outcome, Following}
-use Rattle.steps.specs.Plans.{Plan}
+use Rattle.steps.specs.Plans.{mode_in}
+use Rattle.steps.specs.declared.plan.Plan.{Plan}
 use Rattle.steps.specs.declared.Level.{Level}
-use Rattle.steps.specs.declared.Run.{Run}
+use Rattle.steps.specs.Goings.{Gone}
 use Rattle.steps.specs.declared.state_of.Taken.{Taken}
-use Rattle.steps.specs.declared.meet.Meeting.{Meeting}
+use Rattle.steps.specs.Meets.{Meeting}
+use Rattle.std.specs.Prelude.{Result, Ok, Err}
+use Rattle.refusal.specs.declared.Shortage.{Shortage}
+use Rattle.refusal.specs.Numbers.{short_number}
+use Rattle.tables.specs.Replies.{code_of}
+use Rattle.tables.proofs.Shorts.{short-some}
 use Rattle.steps.proofs.Splits.{inside-append}
 use Rattle.steps.proofs.Paths.{counts-prefix, counts-kept}
 use Rattle.steps.proofs.Nexts.{last-addrs}
@@ -72,12 +78,12 @@ arrive-ends turn deeper path st at_jumpdest = refl
 arrive-ends turn deeper path st at_constant = refl
 arrive-ends turn deeper path st at_other = refl
 
-module _ {code : List ℕ} {k : Plan} {start : ℕ} {l : Level} {at np : ℕ} {w p s t r q : List ℕ} {o : Run} (h : Following code k start l at np (buffers w p s t r q) o) where
+module _ {code : List ℕ} {k : Plan} {start : ℕ} {l : Level} {at np : ℕ} {w p s t r q : List ℕ} {o : Gone} (h : Following code k start l at np (buffers w p s t r q) o) where
   abbrev M : Mem
   M = buffers w p s t r q
 
   abbrev par : Stack
-  par = stack_cursor k.mode code r s k.rooms.s at
+  par = stack_cursor (mode_in k) code r s k.rooms.s at
 
   abbrev child : Stack
   child = stack_at s (9 * l.from) l.cells
@@ -99,10 +105,7 @@ module _ {code : List ℕ} {k : Plan} {start : ℕ} {l : Level} {at np : ℕ} {w
       record {
         some = y.some;
         is = f.planned.is;
-        runs = record {
-          runs = record { short = omega (arith, f.planned.is, f.planned.lent_w.short); inside = f.planned.ends; room = omega (arith, f.planned.scratch) };
-          moded = f.planned.moded;
-        };
+        runs = record { short = omega (arith, f.planned.is, f.planned.lent_w.short); inside = f.planned.ends; room = omega (arith, f.planned.scratch) };
         helds = f.planned.helds;
         child = z.state;
         low = z.low;
@@ -119,13 +122,13 @@ module _ {code : List ℕ} {k : Plan} {start : ℕ} {l : Level} {at np : ℕ} {w
         near = omega (arith, z.near, z.room, f.planned.most_p);
       }
 
-  module _ {w' s' : List ℕ} {x : Taken} (a : Took code w s k o.counts l (stack_cursor k.mode code r s k.rooms.s at) w' s' x) where
+  module _ {w' s' : List ℕ} {z : Result Taken Shortage} (a : Took code w s k o.counts l (stack_cursor (mode_in k) code r s k.rooms.s at) w' s' z) where
     abbrev new : Stack
     new = compose child par
 
     -- the counts on the path stand before W's buckets
-    follow-counts : OnPath k.n w' (addrs p 0 l.np)
-    follow-counts = counts-prefix h.entering.on_its (bucket_place k.n k.buckets) (omega arith) a.front
+    follow-counts : OnPath k.size w' (addrs p 0 l.np)
+    follow-counts = counts-prefix h.entering.on_its (bucket_place k.size k.buckets) (omega arith) a.front
 
     module _ (turn : Turn) (since b : ℕ) (f : Fits code k turn since start (buffers w p s t r q) o.counts) where
       abbrev F : (search.Level → St → St) → St → St
@@ -141,14 +144,14 @@ module _ {code : List ℕ} {k : Plan} {start : ℕ} {l : Level} {at np : ℕ} {w
       noted-down mid = remember seen (need T (suc (length mid.met)) (formed mid))
 
       -- the cells in use, as the counts have them
-      in-use-is : (mid : St) → clear mid ≡ st_of k (buffers w p s t r q) o → in_use turn mid + cells new ≡ o.counts.kept + o.counts.used + x.cells
+      in-use-is : (mid : St) → clear mid ≡ st_of k (buffers w p s t r q) o → in_use turn mid + cells new ≡ o.counts.kept + o.counts.used + cells new
       in-use-is mid e =
-          omega (arith, cells-in-use turn mid f.tables f.remembers f.packs (ap (λ (y : St). y.recs) e) (ap (λ (y : St). y.met) e) refl, a.cells_are)
+          omega (arith, cells-in-use turn mid f.tables f.remembers f.packs (ap (λ (y : St). y.recs) e) (ap (λ (y : St). y.met) e) refl)
 
       form-short : (y : Lent) → Lends y k.rooms → (mid : St) → clear mid ≡ st_of k (buffers w p s t r q) o → shortage y mid.needs ≡ 0
-          → shortage y (formed mid).needs ≡ x.code
-      form-short y d mid e z =
-          short-need d S (in_use turn mid + cells new) mid z
+          → shortage y (formed mid).needs ≡ code_of z
+      form-short y d mid e i =
+          short-need d S (in_use turn mid + cells new) mid i
           ∙ ap (λ (u : ℕ). short_of k.rooms (record { room = S; units = u } ∷ [])) (in-use-is mid e)
           ∙ sym a.code_is
 
@@ -160,19 +163,26 @@ module _ {code : List ℕ} {k : Plan} {start : ℕ} {l : Level} {at np : ℕ} {w
 
       -- ---- S is short
 
-      pub follow-short : (x.code ≡ 0 → ⊥) → Outcome code k turn since start F l (buffers w p s t r q) o (buffers w' p s' t r q) (shut_with (refused_with o x.code) l)
-      follow-short n = outcome-refused n refl (λ deeper g y d mid e z.
-          let u = form-short y d mid e z in
-          short-later y (formed mid) (F deeper mid) (follow-later deeper g mid) (λ v. n (sym u ∙ v)) ∙ u)
+      pub follow-short : {e : Shortage} → z ≡ Err e
+          → Outcome code k turn since start F l (buffers w p s t r q) o (buffers w' p s' t r q) (shut_with (refused_with o (short_number e)) l)
+      follow-short {e} is = outcome-refused (short-some e) refl (λ deeper g y d mid i j.
+          let u = form-short y d mid i j ∙ ap code_of is in
+          short-later y (formed mid) (F deeper mid) (follow-later deeper g mid) (λ v. short-some e (sym u ∙ v)) ∙ u)
 
-      module _ (x0 : x.code ≡ 0) where
+      module _ {x : Taken} (formed-is : z ≡ Ok x) where
+        ok : Took code w s k o.counts l (stack_cursor (mode_in k) code r s k.rooms.s at) w' s' (Ok x)
+        ok = rw formed-is at a
+
+        x0 : code_of z ≡ 0
+        x0 = ap code_of formed-is
+
         -- what is seen, as the buffers have it
         module _ {last : ℕ} (el : last ≡ last_of (addrs p 0 np)) where
           abbrev m : Seen
           m = record { last = last; symbol = x.symbol; from = o.counts.used; cells = x.cells }
 
           seen-is : seen_met s' m ≡ seen
-          seen-is = rw (el, a.symbol_is, (a.lies x0).is)
+          seen-is = rw (el, ok.symbol_is, ok.lies.is)
 
           met-same : (mid : St) → clear mid ≡ st_of k (buffers w p s t r q) o → met? seen mid ≡ some? (equal_met (seen_met s' m)) (met_of t s' o.counts.rows)
           met-same mid e = rw (seen-is, taken-mets f a, ← ap (λ (y : St). y.met) e)
@@ -224,11 +234,11 @@ module _ {code : List ℕ} {k : Plan} {start : ℕ} {l : Level} {at np : ℕ} {w
                 ∙ short-later y (noted-down mid) _ (carry-arrive Later later turn deeper i _ _ _ _) (λ v. n (sym u ∙ v)) ∙ u)
 
             module _ (g0 : g.code ≡ 0) where
-              abbrev here : Run
+              abbrev here : Gone
               here = record { code = g.code; energy = o.energy; counts = g.counts }
 
               room_for : o.counts.kept + o.counts.used + m.cells ≤ k.rooms.s
-              room_for = omega (arith, a.fits x0)
+              room_for = omega (arith, ok.fits)
 
               fits-here : Fits code k turn since start (buffers w' p s' t' r q) g.counts
               fits-here = fits-met (fits-taken f a) (met.new unmet) g0 room_for
@@ -248,12 +258,12 @@ module _ {code : List ℕ} {k : Plan} {start : ℕ} {l : Level} {at np : ℕ} {w
                   rw (was, held-recs, ap (λ (y : St). y.energy) e)
 
               follow-state : Lies s' (9 * o.counts.used) x.cells new
-              follow-state = a.lies x0
+              follow-state = ok.lies
 
-              inside-here : Inside k.n (addrs p 0 np)
+              inside-here : Inside k.size (addrs p 0 np)
               inside-here = rw (h.path b) (inside-append h.entering.stands.inside h.entering.parental.inside)
 
-              sound-here : SoundStack k.n np new
+              sound-here : SoundStack k.size np new
               sound-here =
                   let e : np ≡ l.np + length (path_cursor r q at) = omega (arith, h.is, more-is) in
                   rw e (sound-compose h.entering.stands.sound h.entering.parental.sound)
@@ -275,7 +285,7 @@ module _ {code : List ℕ} {k : Plan} {start : ℕ} {l : Level} {at np : ℕ} {w
               pub follow-opens : (n : ℕ) → sym_of x.symbol ≡ before n → Outcome code k turn since start F l (buffers w p s t r q) o (buffers w' p s' t' r q) (open_with here np n m l)
               unfolding arrive
               follow-opens n e =
-                  let symbol : read par l.position ≡ before n = sym a.symbol_is ∙ e in
+                  let symbol : read par l.position ≡ before n = sym ok.symbol_is ∙ e in
                   record {
                     shut = λ c. not-true (sym c);
                     unopened = λ c. not-true (sym c);
@@ -298,7 +308,7 @@ module _ {code : List ℕ} {k : Plan} {start : ℕ} {l : Level} {at np : ℕ} {w
 
               -- ---- the path ends
 
-              new-sound : (y : Found) → Ends new (read par l.position) y → (u : ℕ) (v : Stack) → y ≡ found u v → SoundStack k.n (length (addrs p 0 np)) v
+              new-sound : (y : Found) → Ends new (read par l.position) y → (u : ℕ) (v : Stack) → y ≡ found u v → SoundStack k.size (length (addrs p 0 np)) v
               new-sound y i u v e = rw (addrs-length p 0 np) (ends-sound i e)
                 where
                   same-state : {u u' : ℕ} {v v' : Stack} → found u v ≡ found u' v' → v ≡ v'
@@ -308,12 +318,12 @@ module _ {code : List ℕ} {k : Plan} {start : ℕ} {l : Level} {at np : ℕ} {w
                       state-of nowhere = new
                       state-of (found u v) = v
 
-                  ends-sound : {c : Sym} {y : Found} {u : ℕ} {v : Stack} → Ends new c y → y ≡ found u v → SoundStack k.n np v
+                  ends-sound : {c : Sym} {y : Found} {u : ℕ} {v : Stack} → Ends new c y → y ≡ found u v → SoundStack k.size np v
                   ends-sound at_jumpdest d = rw (← same-state d) sound-here
                   ends-sound at_constant d = absurd (let z : ◌≡◌ {A = ℕ} 0 1 = cc in omega arith)
                   ends-sound at_other d = absurd (let z : ◌≡◌ {A = ℕ} 0 1 = cc in omega arith)
 
-              module _ {y : Found} (i : Ends new (read par l.position) y) {w₂ r₂ q₂ s₂ : List ℕ} {d : Run} (n : Noted p np k (mem w' r q s') g.counts start o.energy y (mem w₂ r₂ q₂ s₂) (record { code = d.code; counts = d.counts }))
+              module _ {y : Found} (i : Ends new (read par l.position) y) {w₂ r₂ q₂ s₂ : List ℕ} {d : Gone} (n : Noted p np k (mem w' r q s') g.counts start o.energy y (mem w₂ r₂ q₂ s₂) (record { code = d.code; counts = d.counts }))
                   (same : d.energy ≡ o.energy) where
                 follow-note : (deeper : search.Level → St → St) (mid : St) → clear mid ≡ st_of k (buffers w p s t r q) o → F deeper mid ≡ noted turn y (addrs p 0 np) (noted-down mid)
                 follow-note deeper mid e = follow-on deeper mid e ∙ arrive-ends turn deeper (addrs p 0 np) (noted-down mid) i
@@ -339,7 +349,7 @@ module _ {code : List ℕ} {k : Plan} {start : ℕ} {l : Level} {at np : ℕ} {w
                       ap clear (follow-note deeper mid e) ∙ n.made turn (noted-down mid) (holds-here mid e) z ∙ rw (mets-are, same, ap (λ (u : St). u.energy) e);
                 }
 
-                new-rec : SoundRec k.n (record { start = start; to = y; path = addrs p 0 np; energy = o.energy })
+                new-rec : SoundRec k.size (record { start = start; to = y; path = addrs p 0 np; energy = o.energy })
                 new-rec = record {
                   long = omega (arith, addrs-length p 0 np, h.is, h.some, h.entering.stands.some);
                   inside = inside-here;

@@ -1,6 +1,8 @@
 -- Steps 2 and 3 of a parent, and what comes after them. Assumes nothing.
 use mathlib.Core.Path.{◌≡◌, refl, sym, ap, ◌∙◌}
-use mathlib.Core.Logic.{◌⊎◌, inl, inr}
+use Rattle.std.specs.Prelude.{Ok, Err}
+use Rattle.refusal.specs.declared.Shortage.{Shortage}
+use Rattle.refusal.specs.Numbers.{short_number}
 use Prim.Native.Nat.{ℕ, zero, suc, ◌+◌, ◌-◌, ◌*◌, ◌≤◌, ◌<◌}
 use native.Mathlib.Omega.{arith}
 use native.Mathlib.Decide.{dec_lt}
@@ -28,7 +30,7 @@ use Rattle.tables.specs.declared.Entry.{Entry}
 use Rattle.tables.specs.Recording.{Lends, short_of, Holding}
 use Rattle.tables.specs.declared.Rooms.{Rooms}
 use Rattle.tables.specs.declared.Counts.{Counts}
-use Rattle.tables.specs.declared.Reply.{Reply}
+use Rattle.tables.specs.Replies.{Reply}
 use Rattle.tables.proofs.Addrs.{addrs-length}
 use Rattle.tables.proofs.Uses.{cells-in-use}
 use Rattle.steps.specs.Cursors.{path_cursor}
@@ -38,9 +40,9 @@ use Rattle.steps.specs.Lands.{Lands, Noted}
 use Rattle.steps.specs.Runs.{st_of, Did}
 use Rattle.enter.specs.Fits.{Fits, level_of, held, Stays}
 use Rattle.enter.specs.Enters.{Opening, refused_with, shut_with, ended_with, SkipAsks, skips, going, onward, Ended, Outcome, Entering, Entered, Following, Followed}
-use Rattle.steps.specs.Plans.{Plan}
+use Rattle.steps.specs.declared.plan.Plan.{Plan}
 use Rattle.steps.specs.declared.Level.{Level}
-use Rattle.steps.specs.declared.Run.{Run}
+use Rattle.steps.specs.Goings.{Gone}
 use Rattle.steps.proofs.Founds.{recs-take}
 use Rattle.steps.proofs.Found.{loops-one, loops-found}
 use Rattle.steps.proofs.Splits.{inside-append}
@@ -66,7 +68,7 @@ pub stays-path : (k : Plan) (np : ℕ) (w p s t r q p' : List ℕ) (c : Counts) 
 stays-path k np w p s t r q p' c e =
     record { path = e; bottom = refl; rows = refl; flags = refl; beyond = refl; uses = omega arith; more = omega arith; older = recs-take r q s k.rooms.s c.records c.records (omega arith) }
 
-module _ {code : List ℕ} {k : Plan} {start : ℕ} {l : Level} {at : ℕ} {w p s t r q : List ℕ} {o : Run} (h : Entering code k start l at (buffers w p s t r q) o) where
+module _ {code : List ℕ} {k : Plan} {start : ℕ} {l : Level} {at : ℕ} {w p s t r q : List ℕ} {o : Gone} (h : Entering code k start l at (buffers w p s t r q) o) where
   abbrev path : List ℕ
   path = addrs p 0 l.np
 
@@ -75,14 +77,14 @@ module _ {code : List ℕ} {k : Plan} {start : ℕ} {l : Level} {at : ℕ} {w p 
 
   -- ---- "A one-block parent already on the path is skipped."
 
-  pub enter-skips : SkipAsks k.n w at
+  pub enter-skips : SkipAsks k.size w at
   enter-skips = record { some = h.parental.some; direct = λ i. record { lent = h.fits.planned.lent_w; inside = h.parental.near i } }
 
-  skips-loops : skips w k.n at ≡ loops more path
+  skips-loops : skips w k.size at ≡ loops more path
   unfolding skips
   skips-loops = by (dec_lt at 0x10000)
     where
-      by : Dec (at < 0x10000) → ltb at 0x10000 && not (eqb (count_at w k.n (start_of at)) 0) ≡ loops more path
+      by : Dec (at < 0x10000) → ltb at 0x10000 && not (eqb (count_at w k.size (start_of at)) 0) ≡ loops more path
       by (yes i) =
           rw (lt-ltb at 0x10000 i)
           (on-path h.on_its (start_of at) (h.parental.near i) ∙ sym (loops-one (start_of at) path) ∙ ap (λ (xs : List ℕ). loops xs path) (sym (path-direct r q at i)))
@@ -105,7 +107,7 @@ module _ {code : List ℕ} {k : Plan} {start : ℕ} {l : Level} {at : ℕ} {w p 
     abbrev grown : St → St
     grown mid = need P (length (path ++ more)) mid
 
-    enter-skip : skips w k.n at ≡ true → Outcome code k turn since start F l (buffers w p s t r q) o (buffers w p s t r q) (shut_with o l)
+    enter-skip : skips w k.size at ≡ true → Outcome code k turn since start F l (buffers w p s t r q) o (buffers w p s t r q) (shut_with o l)
     enter-skip y =
         let is : (deeper : search.Level → St → St) (mid : St) → F deeper mid ≡ mid = λ deeper mid. if-true (loops more path) _ _ (sym skips-loops ∙ y) in
         record {
@@ -121,7 +123,7 @@ module _ {code : List ℕ} {k : Plan} {start : ℕ} {l : Level} {at : ℕ} {w p 
           energy = refl;
         }
 
-    module _ (unskipped : skips w k.n at ≡ false) where
+    module _ (unskipped : skips w k.size at ≡ false) where
       enter-on : (deeper : search.Level → St → St) (mid : St)
           → F deeper mid ≡ going turn deeper l.left (level_of (buffers w p s t r q) l) (held code k (buffers w p s t r q) b at) (path ++ more) (grown mid)
       enter-on deeper mid = if-false (loops more path) _ _ (sym skips-loops ∙ unskipped)
@@ -142,18 +144,18 @@ module _ {code : List ℕ} {k : Plan} {start : ℕ} {l : Level} {at : ℕ} {w p 
           ap (λ (v : St). shortage y v.needs) (enter-on deeper mid)
           ∙ short-later y (grown mid) _ (going-later deeper g l.left _ _ _ (grown mid)) (λ v. omega (arith, u, v)) ∙ u)
 
-      module _ {p' : List ℕ} {np : ℕ} (g : Grown p l.np k.rooms.p more p' np) (some-room : np ≡ 0 → ⊥) (long : length p' ≡ length p) where
+      module _ {p' : List ℕ} {np : ℕ} (g : Grown p l.np k.rooms.p more p' (Ok np)) (long : length p' ≡ length p) where
         front-is : addrs p' 0 l.np ≡ path
         front-is = grown-front g
 
         path-is : addrs p' 0 np ≡ path ++ more
-        path-is = g.path some-room
+        path-is = g.path
 
         np-is : np ≡ l.np + length more
-        np-is = g.is some-room
+        np-is = g.is
 
         grown-short : (y : Lent) → Lends y k.rooms → (mid : St) → shortage y mid.needs ≡ 0 → shortage y (grown mid).needs ≡ 0
-        grown-short y d mid z = short-need d P (length (path ++ more)) mid z ∙ fits-p k.rooms (length (path ++ more)) (omega (arith, long-is, g.fits some-room))
+        grown-short y d mid z = short-need d P (length (path ++ more)) mid z ∙ fits-p k.rooms (length (path ++ more)) (omega (arith, long-is, g.fits))
 
         same-level : level_of (buffers w p' s t r q) l ≡ level_of (buffers w p s t r q) l
         same-level = rw front-is
@@ -187,12 +189,12 @@ module _ {code : List ℕ} {k : Plan} {start : ℕ} {l : Level} {at : ℕ} {w p 
         fits-grown : Fits code k turn since start (buffers w p' s t r q) o.counts
         fits-grown = fits-path f p' long
 
-        counts-grown : OnPath k.n w (addrs p' 0 l.np)
+        counts-grown : OnPath k.size w (addrs p' 0 l.np)
         counts-grown = rw front-is h.on_its
 
         -- ---- no weight is left: the path is recorded with no destination
 
-        module _ {w₂ r₂ q₂ s₂ : List ℕ} {d : Run} (n : Noted p' np k (tables.mem w r q s) o.counts start o.energy nowhere (tables.mem w₂ r₂ q₂ s₂) (record { code = d.code; counts = d.counts }))
+        module _ {w₂ r₂ q₂ s₂ : List ℕ} {d : Gone} (n : Noted p' np k (tables.mem w r q s) o.counts start o.energy nowhere (tables.mem w₂ r₂ q₂ s₂) (record { code = d.code; counts = d.counts }))
             (same : d.energy ≡ o.energy) where
           abbrev stop : (search.Level → St → St) → St → St
           stop deeper = record_nowhere turn (addrs p' 0 np)
@@ -214,7 +216,7 @@ module _ {code : List ℕ} {k : Plan} {start : ℕ} {l : Level} {at : ℕ} {w p 
                 n.made turn mid (holds-grown mid e) z ∙ rw (mets-are, same, ap (λ (u : St). u.energy) e);
           }
 
-          stop-rec : SoundRec k.n (record { start = start; to = nowhere; path = addrs p' 0 np; energy = o.energy })
+          stop-rec : SoundRec k.size (record { start = start; to = nowhere; path = addrs p' 0 np; energy = o.energy })
           stop-rec = record {
             long = omega (arith, addrs-length p' 0 np, np-is, h.stands.some, some_more);
             inside = rw path-is (inside-append h.stands.inside h.parental.inside);
@@ -243,7 +245,7 @@ module _ {code : List ℕ} {k : Plan} {start : ℕ} {l : Level} {at : ℕ} {w p 
 
   -- ---- what `enter` asks on its way, and the ways in which it ends
 
-  pub entered-skip : {v : Bool} {e : Opening} → v ≡ skips w k.n at → v ≡ true → e ≡ shut_with o l → Entered code k start l at (buffers w p s t r q) o (buffers w p s t r q) e
+  pub entered-skip : {v : Bool} {e : Opening} → v ≡ skips w k.size at → v ≡ true → e ≡ shut_with o l → Entered code k start l at (buffers w p s t r q) o (buffers w p s t r q) e
   entered-skip y z g turn since b f = rw g (enter-skip turn since b f (sym y ∙ z))
 
   pub enter-grows : Growing p r q k.rooms.p l.np at
@@ -256,15 +258,12 @@ module _ {code : List ℕ} {k : Plan} {start : ℕ} {l : Level} {at : ℕ} {w p 
     fits = h.stands.room;
   }
 
-  module _ {v : Bool} (is : v ≡ skips w k.n at) (unskipped : v ≡ false) {p' : List ℕ} {np : ℕ} (g : Grown p l.np k.rooms.p (path_cursor r q at) p' np) where
-    pub entered-short : {d : Run} {e : Opening} → np ≡ 0 → d ≡ refused_with o 4 → e ≡ shut_with d l → Entered code k start l at (buffers w p s t r q) o (buffers w p' s t r q) e
-    entered-short z c i turn since b f = rw (i, c) (enter-short turn since b f (sym is ∙ unskipped) (past (g.short z).1) p')
-      where
-        past : (l.np + length more ≡ 0) ⊎ (k.rooms.p < l.np + length more) → k.rooms.p < l.np + length more
-        past (inl j) = absurd (omega (arith, h.stands.some, j))
-        past (inr j) = j
+  module _ {v : Bool} (is : v ≡ skips w k.size at) (unskipped : v ≡ false) {p' : List ℕ} where
+    pub entered-short : {e : Shortage} → Grown p l.np k.rooms.p (path_cursor r q at) p' (Err e)
+        → Entered code k start l at (buffers w p s t r q) o (buffers w p' s t r q) (shut_with (refused_with o (short_number e)) l)
+    entered-short g turn since b f = rw g.short.0 (enter-short turn since b f (sym is ∙ unskipped) g.short.2 p')
 
-    module _ (some-room : np ≡ 0 → ⊥) where
+    module _ {np : ℕ} (g : Grown p l.np k.rooms.p (path_cursor r q at) p' (Ok np)) where
       grown-entering : Entering code k start l at (buffers w p' s t r q) o
       grown-entering =
           let same : addrs p' 0 l.np ≡ path = grown-front g in
@@ -303,8 +302,8 @@ module _ {code : List ℕ} {k : Plan} {start : ℕ} {l : Level} {at : ℕ} {w p 
         within = fits-within h.fits;
         ready = record {
           tables = h.fits.tables;
-          path = record { fits = omega (arith, g.is some-room, g.fits some-room, h.fits.planned.lent_p, g.long) };
-          most = omega (arith, g.is some-room, g.fits some-room, h.fits.planned.most_p);
+          path = record { fits = omega (arith, g.is, g.fits, h.fits.planned.lent_p, g.long) };
+          most = omega (arith, g.is, g.fits, h.fits.planned.most_p);
           start = omega (arith, h.fits.starts, h.fits.planned.lent_w.short);
           energy = omega (arith, h.energy, h.fits.planned.limit);
           entry = enters_nowhere refl refl;
@@ -318,19 +317,19 @@ module _ {code : List ℕ} {k : Plan} {start : ℕ} {l : Level} {at : ℕ} {w p 
       entered-stops z {y} {w₂} {r₂} {q₂} {s₂} {a} {e} i m d turn since b f =
           let end : Ended p' np k (tables.mem w r q s) y.start l o (new_found s y) (tables.mem w₂ r₂ q₂ s₂) e = ended-with m (ap (λ (x : Entry). x.energy) i) d in
           let n = ended-nowhere i end in
-          rw n.is (enter-stops turn since b f (sym is ∙ unskipped) g some-room g.long n.noted n.energy z)
+          rw n.is (enter-stops turn since b f (sym is ∙ unskipped) g g.long n.noted n.energy z)
 
       module _ (left : l.left ≡ 0 → ⊥) where
         pub enter-following : Following code k start l at np (buffers w p' s t r q) o
         enter-following = record {
           entering = grown-entering;
           more = length more;
-          room = omega (arith, g.is some-room, g.fits some-room);
-          is = g.is some-room;
+          room = omega (arith, g.is, g.fits);
+          is = g.is;
           some = some_more;
-          path = λ b. g.path some-room ∙ ap (λ (xs : List ℕ). xs ++ more) (sym (grown-front g));
+          path = λ b. g.path ∙ ap (λ (xs : List ℕ). xs ++ more) (sym (grown-front g));
           left = left;
         }
 
         pub entered-follows : {m' : Mem} {e : Opening} → Followed code k start l at np (buffers w p' s t r q) o m' e → Entered code k start l at (buffers w p s t r q) o m' e
-        entered-follows n turn since b f = enter-follows turn since b f (sym is ∙ unskipped) g some-room g.long left (n turn since b (fits-path f p' g.long))
+        entered-follows n turn since b f = enter-follows turn since b f (sym is ∙ unskipped) g g.long left (n turn since b (fits-path f p' g.long))

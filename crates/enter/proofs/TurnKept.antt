@@ -23,7 +23,7 @@ use Rattle.tables.specs.Tables.{mem, recs, SameLinks}
 use Rattle.tables.specs.Mets.{Remembers, Packs, Memorized}
 use Rattle.tables.specs.declared.Rooms.{Rooms}
 use Rattle.tables.specs.declared.Counts.{Counts}
-use Rattle.tables.specs.declared.Reply.{Reply}
+use Rattle.tables.specs.Replies.{Reply}
 use Rattle.tables.specs.declared.row.Seen.{Seen}
 use Rattle.tables.proofs.Uses.{tables-kept, recs-stay}
 use Rattle.tables.proofs.Turns.{mets-kept, remembers-kept}
@@ -39,10 +39,12 @@ use Rattle.steps.specs.States.{Took}
 use Rattle.steps.specs.Lands.{Noted}
 use Rattle.steps.specs.Runs.{st_of}
 use Rattle.enter.specs.Fits.{Planned, Fits, Stays}
-use Rattle.steps.specs.Plans.{Plan}
+use Rattle.steps.specs.declared.plan.Plan.{Plan}
 use Rattle.steps.specs.declared.Level.{Level}
-use Rattle.steps.specs.declared.Run.{Run}
+use Rattle.steps.specs.Goings.{Gone}
 use Rattle.steps.specs.declared.state_of.Taken.{Taken}
+use Rattle.refusal.specs.declared.Shortage.{Shortage}
+use Rattle.std.specs.Prelude.{Result}
 use Rattle.steps.specs.Helds.{Helds}
 use Rattle.steps.proofs.Helds.{helds-past}
 use Rattle.steps.proofs.Founds.{recs-take}
@@ -73,7 +75,7 @@ known-within {mode} {code} {w} k = blocks-within w (length code) side
         (gather-in (λ (x : Node). map (λ (u : ℕ). parent u (x.block.start ∷ []) x.own.stack) (sides x.block.kind)) g.1
         (map-in (λ (u : ℕ). parent u (g.0.block.start ∷ []) g.0.own.stack) there))
 
-pub fits-within : {code : List ℕ} {k : Plan} {t : Turn} {since start : ℕ} {m : Mem} {c : Counts} → Fits code k t since start m c → SidesWithin m.w k.n
+pub fits-within : {code : List ℕ} {k : Plan} {t : Turn} {since start : ℕ} {m : Mem} {c : Counts} → Fits code k t since start m c → SidesWithin m.w k.size
 fits-within f = rw f.planned.is (known-within f.known)
 
 -- ---- the plan, by the lengths
@@ -90,7 +92,6 @@ planned-long w p s t r q f h e g = record {
   lent_p = omega (arith, f.lent_p);
   most_p = f.most_p;
   shelves = f.shelves;
-  moded = f.moded;
 }
 
 -- ---- remembered rows, by the counts that they speak of
@@ -135,12 +136,12 @@ module _ {code : List ℕ} {k : Plan} {t : Turn} {since start : ℕ} {w p s T r 
 
   -- ---- a state that was composed right after the cells in use
 
-  module _ {l : Level} {par : Stack} {w' s' : List ℕ} {x : Taken} (o : Took code w s k c l par w' s' x) where
-    taken-links : SameLinks k.n k.buckets w w'
-    taken-links = links-prefix k.n k.buckets (bucket_place k.n k.buckets) (omega arith) o.front o.long_w
+  module _ {l : Level} {par : Stack} {w' s' : List ℕ} {x : Result Taken Shortage} (o : Took code w s k c l par w' s' x) where
+    taken-links : SameLinks k.size k.buckets w w'
+    taken-links = links-prefix k.size k.buckets (bucket_place k.size k.buckets) (omega arith) o.front o.long_w
 
-    taken-rows : SameRows k.n w w'
-    taken-rows = take_less w' w (bucket_place k.n k.buckets) o.front (rows_end k.n) (omega (arith, f.planned.scratch))
+    taken-rows : SameRows k.size w w'
+    taken-rows = take_less w' w (bucket_place k.size k.buckets) o.front (rows_end k.size) (omega (arith, f.planned.scratch))
 
     pub taken-recs : recs_of r q s' k.rooms.s c.records ≡ recs_of r q s k.rooms.s c.records
     taken-recs = recs-stay f.tables w' s' taken-links o.top o.long_s
@@ -161,8 +162,8 @@ module _ {code : List ℕ} {k : Plan} {t : Turn} {since start : ℕ} {w p s T r 
       began = f.began;
       marks =
           rw taken-recs
-          (marks-kept f.marks taken-rows (λ a h. num-prefix w' w (bucket_place k.n k.buckets) o.front 4 (fields_place k.n a) (omega (arith, f.planned.scratch)))
-          (λ a h. num-prefix w' w (bucket_place k.n k.buckets) o.front 2 (fields_place k.n a + HIGHEST) (omega (arith, f.planned.scratch))));
+          (marks-kept f.marks taken-rows (λ a h. num-prefix w' w (bucket_place k.size k.buckets) o.front 4 (fields_place k.size a) (omega (arith, f.planned.scratch)))
+          (λ a h. num-prefix w' w (bucket_place k.size k.buckets) o.front 2 (fields_place k.size a + HIGHEST) (omega (arith, f.planned.scratch))));
       sound = rw taken-recs f.sound;
     }
 
@@ -171,14 +172,14 @@ module _ {code : List ℕ} {k : Plan} {t : Turn} {since start : ℕ} {w p s T r 
       path = refl;
       bottom = o.bottom;
       rows = taken-rows;
-      flags = flagged-same w w' k.n (λ a h. num-prefix w' w (bucket_place k.n k.buckets) o.front 1 (fields_place k.n a + FLAG) (omega (arith, f.planned.scratch)));
+      flags = flagged-same w w' k.size (λ a h. num-prefix w' w (bucket_place k.size k.buckets) o.front 1 (fields_place k.size a + FLAG) (omega (arith, f.planned.scratch)));
       beyond = o.back;
       uses = omega arith;
       more = omega arith;
       older = recs-take r q s' k.rooms.s c.records c.records (omega arith) ∙ taken-recs;
     }
 
-    pub state-taken : (run : Run) → run.counts ≡ c → st_of k (buffers w' p s' T r q) run ≡ st_of k (buffers w p s T r q) run
+    pub state-taken : (run : Gone) → run.counts ≡ c → st_of k (buffers w' p s' T r q) run ≡ st_of k (buffers w p s T r q) run
     state-taken run e = rw (e, taken-recs, taken-mets)
 
   -- ---- a row more
@@ -224,9 +225,9 @@ module _ {code : List ℕ} {k : Plan} {t : Turn} {since start : ℕ} {w p s T r 
     pub noted-mets : met_of T s' c.rows ≡ met_of T s c.rows
     noted-mets = mets-kept f.remembers s' o.around.bottom (omega (arith, o.around.long_s))
 
-    pub fits-noted : SoundRec k.n (record { start = start; to = x; path = addrs p 0 np; energy = energy }) → Fits code k t since start (buffers w' p s' T r' q') a.counts
+    pub fits-noted : SoundRec k.size (record { start = start; to = x; path = addrs p 0 np; energy = energy }) → Fits code k t since start (buffers w' p s' T r' q') a.counts
     fits-noted new = record {
-      planned = planned-long w' p s' T r' q' f.planned (helds-past (bucket_place k.n k.buckets) (omega arith) o.around.back o.around.long_w f.planned.helds) o.around.long_w refl;
+      planned = planned-long w' p s' T r' q' f.planned (helds-past (bucket_place k.size k.buckets) (omega arith) o.around.back o.around.long_w f.planned.helds) o.around.long_w refl;
       stored = f.stored;
       started = f.started;
       starts = f.starts;
@@ -242,11 +243,11 @@ module _ {code : List ℕ} {k : Plan} {t : Turn} {since start : ℕ} {w p s T r 
         all : {A B : Type 0} (y : Rec) → In y (recs k.rooms (mem w' r' q' s') a.counts)
             → ((recs k.rooms (mem w' r' q' s') a.counts ≡ recs k.rooms (mem w r q s) c) × A)
             ⊎ ((recs k.rooms (mem w' r' q' s') a.counts ≡ recs k.rooms (mem w r q s) c ++ record { start = start; to = x; path = addrs p 0 np; energy = energy } ∷ []) × B)
-            → SoundRec k.n y
+            → SoundRec k.size y
         all y i (inl e) = f.sound.each y (rw e.0 at i)
         all y i (inr e) = either (in-cases (recs k.rooms (mem w r q s) c) (rw e.0 at i))
           where
-            either : In y (recs k.rooms (mem w r q s) c) ⊎ In y (record { start = start; to = x; path = addrs p 0 np; energy = energy } ∷ []) → SoundRec k.n y
+            either : In y (recs k.rooms (mem w r q s) c) ⊎ In y (record { start = start; to = x; path = addrs p 0 np; energy = energy } ∷ []) → SoundRec k.size y
             either (inl h) = f.sound.each y h
             either (inr h) = rw (in-only h) new
 
@@ -255,8 +256,8 @@ module _ {code : List ℕ} {k : Plan} {t : Turn} {since start : ℕ} {w p s T r 
       path = refl;
       bottom = o.around.bottom;
       rows = o.around.front;
-      flags = flagged-same w w' k.n (λ a h. num-in w' w 2 (fields_place k.n a + FLAG) (o.around.flags a h) 1 (fields_place k.n a + FLAG) (omega arith) (omega arith));
-      beyond = drop_more w' w (bucket_place k.n k.buckets) o.around.back k.end (omega (arith, f.planned.scratch));
+      flags = flagged-same w w' k.size (λ a h. num-in w' w 2 (fields_place k.size a + FLAG) (o.around.flags a h) 1 (fields_place k.size a + FLAG) (omega arith) (omega arith));
+      beyond = drop_more w' w (bucket_place k.size k.buckets) o.around.back k.end (omega (arith, f.planned.scratch));
       uses = omega (arith, o.used);
       more = noted_more;
       older = noted-older o;

@@ -1,5 +1,5 @@
 -- What is done with a parent of a level, up to the level that it may open. Assumes nothing.
-use Rattle.std.specs.Prelude.{◌≡◌, Bool, true, false, not, ◌&&◌, ℕ, zero, suc, ◌+◌, ◌-◌, ◌*◌, ◌≤◌, ◌<◌, List, ◌++◌, eqb, ltb, length}
+use Rattle.std.specs.Prelude.{Option, Some, None, Result, Ok, Err, ◌≡◌, Bool, true, false, not, ◌&&◌, ℕ, zero, suc, ◌+◌, ◌-◌, ◌*◌, ◌≤◌, ◌<◌, List, ◌++◌, eqb, ltb, length}
 use Rattle.spec.specs.Lists.{if}
 use Rattle.spec.specs.Search as search
 use Rattle.spec.specs.Stacks.{Sym, before, constant, jumpdest, other, Stack}
@@ -17,50 +17,51 @@ use Rattle.tables.specs.Tables as tables
 use Rattle.tables.specs.Tables.{Ready, no_entry, new_found}
 use Rattle.tables.specs.Recording.{Lends}
 use Rattle.tables.specs.declared.Counts.{Counts}
-use Rattle.tables.specs.declared.Reply.{Reply}
+use Rattle.tables.specs.Replies.{Reply}
 use Rattle.tables.specs.declared.Entry.{Entry}
 use Rattle.tables.specs.declared.row.Seen.{Seen}
 use Rattle.reachable.specs.Promises.{Room, Address, SidesWithin}
 use Rattle.steps.specs.Paths.{OnPath}
 use Rattle.steps.specs.Lands.{Noted}
 use Rattle.steps.specs.Runs.{st_of, Did}
-use Rattle.steps.specs.Plans.{Plan}
+use Rattle.steps.specs.declared.plan.Plan.{Plan}
 use Rattle.steps.specs.declared.Level.{Level}
+use Rattle.steps.specs.Goings.{Gone, gone}
 use Rattle.steps.specs.declared.Run.{Run}
+use Rattle.refusal.specs.declared.Shortage.{Shortage}
 use Rattle.steps.specs.declared.state_of.Taken.{Taken}
 use Rattle.enter.specs.Fits.{Fits, level_of, Stands, OnIts, held, Parental, Stays}
-use Rattle.enter.specs.declared.enter.Deeper.{Deeper}
 
 -- ---- how the search goes on
 
-abbrev pub after_with : Run → ℕ → Counts → Run
+abbrev pub after_with : Gone → ℕ → Counts → Gone
 after_with o code counts = record { code = code; energy = o.energy; counts = counts }
 
 -- whether a level opens, how the search goes then, and the level
 pub record Opening : Type 0 where
   pub opens : Bool
-  pub run : Run
+  pub run : Gone
   pub level : Level
 
-abbrev pub opening_of : Run → Deeper → Opening
-opening_of o d = record { opens = d.opens; run = o; level = d.level }
+abbrev pub shut_with : Gone → Level → Opening
+shut_with o l = record { opens = false; run = o; level = l }
 
-abbrev pub shut_at : Level → Deeper
-shut_at l = record { opens = false; level = l }
+-- what a call on a parent of the level l answers, where the search then stands by `run`
+abbrev pub opening_of : Run → Level → Result (Option Level) Shortage → Opening
+opening_of run l (Ok None) = shut_with (gone run (Ok l)) l
+opening_of run l (Ok (Some x)) = record { opens = true; run = gone run (Ok l); level = x }
+opening_of run l (Err e) = shut_with (gone {A = Level} run (Err e)) l
 
-abbrev pub shut_with : Run → Level → Opening
-shut_with o l = opening_of o (shut_at l)
-
-abbrev pub ended_with : Run → Reply → Level → Opening
+abbrev pub ended_with : Gone → Reply → Level → Opening
 ended_with o a l = shut_with (after_with o a.code a.counts) l
 
-abbrev pub open_at : ℕ → ℕ → Seen → Level → Deeper
-open_at np position x l = record { opens = true; level = record { np = np; position = position; from = x.from; cells = x.cells; left = l.left - 1 } }
+abbrev pub open_at : ℕ → ℕ → Seen → Level → Level
+open_at np position x l = record { np = np; position = position; from = x.from; cells = x.cells; left = l.left - 1 }
 
-abbrev pub open_with : Run → ℕ → ℕ → Seen → Level → Opening
-open_with o np position x l = opening_of o (open_at np position x l)
+abbrev pub open_with : Gone → ℕ → ℕ → Seen → Level → Opening
+open_with o np position x l = record { opens = true; run = o; level = open_at np position x l }
 
-abbrev pub refused_with : Run → ℕ → Run
+abbrev pub refused_with : Gone → ℕ → Gone
 refused_with o code = after_with o code o.counts
 
 -- ---- "A one-block parent already on the path is skipped."
@@ -85,7 +86,7 @@ onward t deeper left l p s = if (loops p.path l.path) s (going t deeper left l p
 -- ---- what comes of it
 
 -- a level opens, with its state right behind the cells that were in use: from a state whose needs are not short, f goes on by it
-pub record Opens (k : Plan) (f : (search.Level → St → St) → St → St) (l : Level) (m : Mem) (o : Run) (m' : Mem) (e : Opening) : Type 0 where
+pub record Opens (k : Plan) (f : (search.Level → St → St) → St → St) (l : Level) (m : Mem) (o : Gone) (m' : Mem) (e : Opening) : Type 0 where
   pub code : e.run.code ≡ 0
   pub stands : Stands k m' e.run.counts e.level
   pub lighter : l.left ≡ suc e.level.left
@@ -96,24 +97,24 @@ pub record Opens (k : Plan) (f : (search.Level → St → St) → St → St) (l 
   pub clears : (mid : St) → clear mid ≡ st_of k m o → clear (next mid) ≡ st_of k m' e.run
   pub short : (x : Lent) → Lends x k.rooms → (mid : St) → clear mid ≡ st_of k m o → shortage x mid.needs ≡ 0 → shortage x (next mid).needs ≡ 0
 
-pub record Outcome (code : List ℕ) (k : Plan) (t : Turn) (since start : ℕ) (f : (search.Level → St → St) → St → St) (l : Level) (m : Mem) (o : Run) (m' : Mem) (e : Opening) : Type 0 where
+pub record Outcome (code : List ℕ) (k : Plan) (t : Turn) (since start : ℕ) (f : (search.Level → St → St) → St → St) (l : Level) (m : Mem) (o : Gone) (m' : Mem) (e : Opening) : Type 0 where
   pub shut : e.opens ≡ false → (deeper : search.Level → St → St) → ((x : search.Level) (s : St) → Later s (deeper x s)) → Did k.rooms (f deeper) (st_of k m o) e.run.code (st_of k m' e.run)
   pub unopened : e.opens ≡ false → e.level ≡ l
   pub opened : e.opens ≡ true → Opens k f l m o m' e
   pub fits : e.run.code ≡ 0 → Fits code k t since start m' e.run.counts
   pub stays : e.run.code ≡ 0 → Stays k l.np m o.counts m' e.run.counts
-  pub counts : e.run.code ≡ 0 → OnPath k.n m'.w (addrs m.p 0 l.np)
+  pub counts : e.run.code ≡ 0 → OnPath k.size m'.w (addrs m.p 0 l.np)
   pub energy : e.run.energy ≡ o.energy
 
 -- ---- the functions
 
 -- what the entry says is recorded, and how the search goes on
-pub record Landed (p : List ℕ) (np : ℕ) (k : Plan) (m : tables.Mem) (y : Entry) (o : Run) (m' : tables.Mem) (d : Run) : Type 0 where
+pub record Landed (p : List ℕ) (np : ℕ) (k : Plan) (m : tables.Mem) (y : Entry) (o : Gone) (m' : tables.Mem) (d : Gone) : Type 0 where
   pub noted : Noted p np k m o.counts y.start y.energy (new_found m.s y) m' (record { code = d.code; counts = d.counts })
   pub is : d ≡ after_with o d.code d.counts
 
 -- the path ends in y, which is recorded, and no level opens
-pub record Ended (p : List ℕ) (np : ℕ) (k : Plan) (m : tables.Mem) (start : ℕ) (l : Level) (o : Run) (y : Found) (m' : tables.Mem) (e : Opening) : Type 0 where
+pub record Ended (p : List ℕ) (np : ℕ) (k : Plan) (m : tables.Mem) (start : ℕ) (l : Level) (o : Gone) (y : Found) (m' : tables.Mem) (e : Opening) : Type 0 where
   pub is : e ≡ shut_with e.run l
   pub energy : e.run.energy ≡ o.energy
   pub noted : Noted p np k m o.counts start o.energy y m' (record { code = e.run.code; counts = e.run.counts })
@@ -128,24 +129,24 @@ pub data Ends (s : Stack) : Sym → Found → Type 0 where
 unfoldable pub entry_of : ℕ → Seen → ℕ → Sym → Entry
 entry_of start x energy (before n) = no_entry start energy
 entry_of start x energy (constant v) = no_entry start energy
-entry_of start x energy (jumpdest t) = record { start = start; to = t; from = x.from; cells = x.cells; energy = energy }
+entry_of start x energy (jumpdest t) = record { start = start; to = Some t; from = x.from; cells = x.cells; energy = energy }
 entry_of start x energy (other pc) = no_entry start energy
 
-pub record Arriving (p : List ℕ) (np : ℕ) (k : Plan) (m : tables.Mem) (start : ℕ) (l : Level) (x : Seen) (o : Run) : Type 0 where
-  pub lent : Room k.n m.w
-  pub within : SidesWithin m.w k.n
-  pub ready : Ready p np k.n k.buckets k.rooms m o.counts (no_entry start o.energy)
+pub record Arriving (p : List ℕ) (np : ℕ) (k : Plan) (m : tables.Mem) (start : ℕ) (l : Level) (x : Seen) (o : Gone) : Type 0 where
+  pub lent : Room k.size m.w
+  pub within : SidesWithin m.w k.size
+  pub ready : Ready p np k.size k.buckets k.rooms m o.counts (no_entry start o.energy)
   pub state : State m.s (9 * x.from) x.cells
   pub inside : x.from + x.cells ≤ o.counts.used
-  pub lands : (t : ℕ) → sym_of x.symbol ≡ jumpdest t → t ≤ k.n
+  pub lands : (t : ℕ) → sym_of x.symbol ≡ jumpdest t → t ≤ k.size
   pub left : l.left ≡ 0 → ⊥
 
-pub record Arrived (p : List ℕ) (np : ℕ) (k : Plan) (m : tables.Mem) (start : ℕ) (l : Level) (x : Seen) (o : Run) (m' : tables.Mem) (e : Opening) : Type 0 where
+pub record Arrived (p : List ℕ) (np : ℕ) (k : Plan) (m : tables.Mem) (start : ℕ) (l : Level) (x : Seen) (o : Gone) (m' : tables.Mem) (e : Opening) : Type 0 where
   pub opens : (n : ℕ) → sym_of x.symbol ≡ before n → (e ≡ open_with o np n x l) × (m' ≡ m)
   pub ends : (y : Found) → Ends (stack_at m.s (9 * x.from) x.cells) (sym_of x.symbol) y → Ended p np k m start l o y m' e
 
 -- a level and a parent of it in hand, in some turn, whose unit is not past the limit
-pub record Entering (code : List ℕ) (k : Plan) (start : ℕ) (l : Level) (at : ℕ) (m : Mem) (o : Run) : Type 0 where
+pub record Entering (code : List ℕ) (k : Plan) (start : ℕ) (l : Level) (at : ℕ) (m : Mem) (o : Gone) : Type 0 where
   pub turn : Turn
   pub since : ℕ
   pub fits : Fits code k turn since start m o.counts
@@ -155,7 +156,7 @@ pub record Entering (code : List ℕ) (k : Plan) (start : ℕ) (l : Level) (at :
   pub energy : o.energy ≤ k.limit
   pub unrefused : o.code ≡ 0
 
-abbrev pub Entered : List ℕ → Plan → ℕ → Level → ℕ → Mem → Run → Mem → Opening → Type 0
+abbrev pub Entered : List ℕ → Plan → ℕ → Level → ℕ → Mem → Gone → Mem → Opening → Type 0
 Entered code k start l at m o m' e =
     (t : Turn) (since b : ℕ) → Fits code k t since start m o.counts
     → Outcome code k t since start (λ deeper. onward t deeper l.left (level_of m l) (held code k m b at)) l m o m' e
@@ -166,7 +167,7 @@ pub record Saw (p : List ℕ) (np : ℕ) (taken : Taken) (used : ℕ) (x : Seen)
   pub is : x ≡ record { last = x.last; symbol = taken.symbol; from = used; cells = taken.cells }
 
 -- the same once the path has grown to np addresses, with weight left
-pub record Following (code : List ℕ) (k : Plan) (start : ℕ) (l : Level) (at np : ℕ) (m : Mem) (o : Run) : Type 0 where
+pub record Following (code : List ℕ) (k : Plan) (start : ℕ) (l : Level) (at np : ℕ) (m : Mem) (o : Gone) : Type 0 where
   pub entering : Entering code k start l at m o
   pub more : ℕ
   pub room : np ≤ k.rooms.p
@@ -175,7 +176,7 @@ pub record Following (code : List ℕ) (k : Plan) (start : ℕ) (l : Level) (at 
   pub path : (b : ℕ) → addrs m.p 0 np ≡ addrs m.p 0 l.np ++ (held code k m b at).path
   pub left : l.left ≡ 0 → ⊥
 
-abbrev pub Followed : List ℕ → Plan → ℕ → Level → ℕ → ℕ → Mem → Run → Mem → Opening → Type 0
+abbrev pub Followed : List ℕ → Plan → ℕ → Level → ℕ → ℕ → Mem → Gone → Mem → Opening → Type 0
 Followed code k start l at np m o m' e =
     (t : Turn) (since b : ℕ) → Fits code k t since start m o.counts
     → Outcome code k t since start (λ deeper. follow t deeper (level_of m l) (held code k m b at) (addrs m.p 0 np)) l m o m' e

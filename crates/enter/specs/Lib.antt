@@ -1,2 +1,3 @@
+pub mod Lent
 pub mod Fits
 pub mod Enters

@@ -1,105 +1,41 @@
 // What is done with a parent of a level, up to the level that it may open.
 // "Per parent, in this order: ... A one-block parent already on the path is skipped. ... The path grows (room P). ... It is remembered (room T)."
 ghost use Rattle.std.specs.Prelude.{◌≡◌, ◌*◌, ◌≤◌, length};
-ghost use Rattle.layout.specs.Buffers.{buffers};
+ghost use Rattle.layout.specs.Buffers.{held};
 ghost use Rattle.state.specs.Symbols.{sym_of};
-ghost use Rattle.tables.specs.Tables.{mem, no_entry};
-ghost use Rattle.enter.specs.Enters.{refused_with, after_with, shut_at, open_at, opening_of, SkipAsks, skips, entry_of, Landed, Arriving, Arrived, Entering, Entered, Saw, Following, Followed};
-ghost use Rattle.steps.specs.Plans.{plan_in};
-ghost use Rattle.steps.specs.Goings.{run_in};
+ghost use Rattle.tables.specs.Tables.{no_entry};
+ghost use Rattle.steps.specs.Goings.{under_way, gone};
 ghost use Rattle.steps.specs.Lands.{Lands};
+ghost use Rattle.steps.specs.Runs.{tabled};
+ghost use Rattle.enter.specs.Lent.{StillLent, SamePath};
+ghost use Rattle.enter.specs.Enters.{open_at, opening_of, SkipAsks, skips, entry_of, Landed, Arriving, Arrived, Entering, Entered, Saw, Following, Followed};
 
-use layout::NOWHERE;
+use layout::buffers::Buffers;
 use lent::get16;
 use parents::link::parent_start;
+use refusal::Shortage;
 use state::sym::StackSym;
 use steps::cursor::FOUND;
-use steps::going::{ADDRESSES, ENERGY, KEPT, RECORDS, ROWS, RUN, USED};
 use steps::land::land;
 use steps::meet::meet;
 use steps::path::{grow, on_path};
-use steps::plan::{PLAN, ROOM_P, SIZE};
+use steps::plan::Plan;
 use steps::state_of::{Taken, take_state};
 use steps::{Level, Run};
+use tables::Entry;
 use tables::row::Seen;
-use tables::{Counts, Entry};
 
-// The number of a refusal where P is short.
-pub const SHORT_P: usize = 4;
-
-// Whether a level opens, and the level.
-#[derive(Clone, Copy)]
-pub struct Deeper {
-    pub opens: bool,
-    pub level: Level,
-}
-
-// What a step answered: the number of a room that was short, or 0, and what is in use. The numbers are written whole, so that no proof asks how many stand there.
-fn after(run: &mut [usize; RUN], code: usize, counts: Counts)
-    ensures { run_in run.new ≡ after_with (run_in run.old) code counts }
-{
-    *run = [
-        code,
-        run[ENERGY],
-        counts.records,
-        counts.addresses,
-        counts.kept,
-        counts.used,
-        counts.rows,
-    ];
-}
-
-// A room is short.
-fn refuse(run: &mut [usize; RUN], code: usize)
-    ensures { run_in run.new ≡ refused_with (run_in run.old) code }
-{
-    *run = [
-        code,
-        run[ENERGY],
-        run[RECORDS],
-        run[ADDRESSES],
-        run[KEPT],
-        run[USED],
-        run[ROWS],
-    ];
-}
-
-// A room is short, and no level was tried.
-pub fn refused(going: Run, code: usize) -> Run
-    ensures { result ≡ refused_with going code }
-{
-    let counts = going.counts;
-    Run {
-        code,
-        energy: going.energy,
-        counts,
-    }
-}
-
-// No level opens.
-fn shut(level: Level) -> Deeper
-    ensures { result ≡ shut_at level }
-{
-    Deeper {
-        opens: false,
-        level,
-    }
-}
-
-// A level opens behind the grown path of np addresses, with the state that was seen.
-fn opened(np: usize, position: usize, seen: Seen, level: Level) -> Deeper
+// The level that opens behind the grown path of np addresses, with the state that was seen.
+fn opened(np: usize, position: usize, seen: Seen, level: Level) -> Level
     requires { level.left ≡ 0 → ⊥ }
     ensures { result ≡ open_at np position seen level }
 {
-    Deeper {
-        opens: true,
-        level: Level {
-            np,
-            position,
-            from: seen.from,
-            cells: seen.cells,
-            left: level.left - 1,
-        },
+    Level {
+        np,
+        position,
+        from: seen.from,
+        cells: seen.cells,
+        left: level.left - 1,
     }
 }
 
@@ -120,7 +56,7 @@ fn no_entry(start: usize, energy: usize) -> Entry
 {
     Entry {
         start,
-        to: NOWHERE,
+        to: None,
         from: 0,
         cells: 0,
         energy,
@@ -137,66 +73,57 @@ fn entry_of(start: usize, seen: Seen, spent: usize) -> Entry
     };
     Entry {
         start,
-        to,
+        to: Some(to),
         from: seen.from,
         cells: seen.cells,
         energy: spent,
     }
 }
 
-// The path has ended: it is recorded. It answers no struct: one that a call fills lies in memory, and with it that of every parent.
+// The path has ended: it is recorded.
 fn landed(
-    w: &mut [u8],
-    p: &[u8],
-    s: &mut [u8],
-    r: &mut [u8],
-    q: &mut [u8],
+    buffers: &mut Buffers<'_>,
     np: usize,
-    plan: &[usize; PLAN],
+    plan: &Plan,
     entry: Entry,
-    run: &mut [usize; RUN],
-)
-    requires { Lands p.now np (plan_in plan.now) (mem w.old r.old q.old s.old) (run_in run.old).counts entry }
-    ensures { Landed p.now np (plan_in plan.now) (mem w.old r.old q.old s.old) entry
-        (run_in run.old) (mem w.new r.new q.new s.new) (run_in run.new) }
+    run: &mut Run,
+) -> Result<(), Shortage>
+    requires { Lands buffers.old.p.now np plan.now (tabled (held buffers.old)) run.old.counts entry }
+    ensures lent { StillLent buffers.old buffers.new }
+    ensures same { SamePath buffers.old buffers.new }
+    ensures landed { Landed buffers.old.p.now np plan.now (tabled (held buffers.old)) entry
+        (under_way run.old) (tabled (held buffers.new)) (gone run.new result) }
 {
-    let counts = Counts {
-        records: run[RECORDS],
-        addresses: run[ADDRESSES],
-        kept: run[KEPT],
-        used: run[USED],
-        rows: run[ROWS],
-    };
-    let answer = land(w, p, s, r, q, np, plan, counts, entry);
-    let more = answer.counts;
-    after(run, answer.code, more);
+    let path = &mut *buffers.p;
+    run.counts = land(
+        buffers.w, path, buffers.s, buffers.r, buffers.q, np, plan, run.counts, entry,
+    )?;
+    Ok(())
 }
 
 // Step 6: a Before opens a level, a Jumpdest is where the path leads, and anything else leads nowhere.
 fn arrive(
-    w: &mut [u8],
-    p: &[u8],
-    s: &mut [u8],
-    r: &mut [u8],
-    q: &mut [u8],
+    buffers: &mut Buffers<'_>,
     np: usize,
-    plan: &[usize; PLAN],
+    plan: &Plan,
     start: usize,
     level: Level,
     seen: Seen,
-    run: &mut [usize; RUN],
-) -> Deeper
-    requires { Arriving p.now np (plan_in plan.now) (mem w.old r.old q.old s.old) start level seen (run_in run.old) }
-    ensures { Arrived p.now np (plan_in plan.now) (mem w.old r.old q.old s.old) start level seen
-        (run_in run.old) (mem w.new r.new q.new s.new) (opening_of (run_in run.new) result) }
+    run: &mut Run,
+) -> Result<Option<Level>, Shortage>
+    requires { Arriving buffers.old.p.now np plan.now (tabled (held buffers.old)) start level seen (under_way run.old) }
+    ensures lent { StillLent buffers.old buffers.new }
+    ensures same { SamePath buffers.old buffers.new }
+    ensures arrived { Arrived buffers.old.p.now np plan.now (tabled (held buffers.old)) start level seen
+        (under_way run.old) (tabled (held buffers.new)) (opening_of run.new level result) }
 {
     let symbol = seen.symbol;
     if let StackSym::Before(position) = symbol {
-        return opened(np, position, seen, level);
+        return Ok(Some(opened(np, position, seen, level)));
     }
-    let entry = entry_of(start, seen, run[ENERGY]);
-    landed(w, p, s, r, q, np, plan, entry, run);
-    shut(level)
+    let entry = entry_of(start, seen, run.energy);
+    landed(buffers, np, plan, entry, run)?;
+    Ok(None)
 }
 
 // What is seen at the end of the path of np addresses: its last address, the symbol and the state taken, which stands after `used` cells.
@@ -216,81 +143,58 @@ fn seen(p: &[u8], np: usize, taken: Taken, used: usize) -> Seen
 // Steps 4 to 6, with the parent's path behind the level's: the symbol and the new state, which was met or is remembered, and where the symbol leads.
 fn follow(
     code: &[u8],
-    w: &mut [u8],
-    p: &[u8],
-    s: &mut [u8],
-    t: &mut [u8],
-    r: &mut [u8],
-    q: &mut [u8],
-    plan: &[usize; PLAN],
+    buffers: &mut Buffers<'_>,
+    plan: &Plan,
     start: usize,
     level: Level,
     at: usize,
     np: usize,
-    run: &mut [usize; RUN],
-) -> Deeper
-    requires { Following code.now (plan_in plan.now) start level at np (buffers w.old p.now s.old t.old r.old q.old) (run_in run.old) }
-    ensures { Followed code.now (plan_in plan.now) start level at np
-        (buffers w.old p.now s.old t.old r.old q.old) (run_in run.old)
-        (buffers w.new p.now s.new t.new r.new q.new) (opening_of (run_in run.new) result) }
+    run: &mut Run,
+) -> Result<Option<Level>, Shortage>
+    requires { Following code.now plan.now start level at np (held buffers.old) (under_way run.old) }
+    ensures lent { StillLent buffers.old buffers.new }
+    ensures followed { Followed code.now plan.now start level at np
+        (held buffers.old) (under_way run.old) (held buffers.new) (opening_of run.new level result) }
 {
-    let counts = Counts {
-        records: run[RECORDS],
-        addresses: run[ADDRESSES],
-        kept: run[KEPT],
-        used: run[USED],
-        rows: run[ROWS],
+    let counts = run.counts;
+    let records = &mut *buffers.r;
+    let taken = take_state(code, buffers.w, buffers.s, records, plan, counts, level, at)?;
+    let path = &mut *buffers.p;
+    let seen = seen(path, np, taken, counts.used);
+    let states = &mut *buffers.s;
+    let Some(more) = meet(states, buffers.t, plan, counts, seen)? else {
+        return Ok(None);
     };
-    let taken = take_state(code, w, s, r, plan, counts, level, at);
-    if taken.code != 0 {
-        refuse(run, taken.code);
-        return shut(level);
-    }
-    let seen = seen(p, np, taken, counts.used);
-    let meeting = meet(s, t, plan, counts, seen);
-    if meeting.met {
-        return shut(level);
-    }
-    let more = meeting.counts;
-    after(run, meeting.code, more);
-    if meeting.code != 0 {
-        return shut(level);
-    }
-    arrive(w, p, s, r, q, np, plan, start, level, seen, run)
+    run.counts = more;
+    arrive(buffers, np, plan, start, level, seen, run)
 }
 
 // Steps 2 to 6 of the parent at `at`, but for the level that it may open.
 pub fn enter(
     code: &[u8],
-    w: &mut [u8],
-    p: &mut [u8],
-    s: &mut [u8],
-    t: &mut [u8],
-    r: &mut [u8],
-    q: &mut [u8],
-    plan: &[usize; PLAN],
+    buffers: &mut Buffers<'_>,
+    plan: &Plan,
     start: usize,
     level: Level,
     at: usize,
-    run: &mut [usize; RUN],
-) -> Deeper
-    requires { Entering code.now (plan_in plan.now) start level at (buffers w.old p.old s.old t.old r.old q.old) (run_in run.old) }
-    ensures { Entered code.now (plan_in plan.now) start level at
-        (buffers w.old p.old s.old t.old r.old q.old) (run_in run.old)
-        (buffers w.new p.new s.new t.new r.new q.new) (opening_of (run_in run.new) result) }
+    run: &mut Run,
+) -> Result<Option<Level>, Shortage>
+    requires { Entering code.now plan.now start level at (held buffers.old) (under_way run.old) }
+    ensures lent { StillLent buffers.old buffers.new }
+    ensures entered { Entered code.now plan.now start level at
+        (held buffers.old) (under_way run.old) (held buffers.new) (opening_of run.new level result) }
 {
-    if skipped(w, plan[SIZE], at) {
-        return shut(level);
+    let rows = &mut *buffers.w;
+    if skipped(rows, plan.size, at) {
+        return Ok(None);
     }
-    let np = grow(p, r, q, plan[ROOM_P], level.np, at);
-    if np == 0 {
-        refuse(run, SHORT_P);
-        return shut(level);
-    }
+    let records = &mut *buffers.r;
+    let paths = &mut *buffers.q;
+    let np = grow(buffers.p, records, paths, plan.rooms.p, level.np, at)?;
     if level.left == 0 {
-        let entry = no_entry(start, run[ENERGY]);
-        landed(w, p, s, r, q, np, plan, entry, run);
-        return shut(level);
+        let entry = no_entry(start, run.energy);
+        landed(buffers, np, plan, entry, run)?;
+        return Ok(None);
     }
-    follow(code, w, p, s, t, r, q, plan, start, level, at, np, run)
+    follow(code, buffers, plan, start, level, at, np, run)
 }

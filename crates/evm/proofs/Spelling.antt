@@ -2,7 +2,7 @@
 use mathlib.Core.Path.{◌≡◌, refl}
 use mathlib.Core.List.{List, [], ◌∷◌, ◌++◌}
 use Prim.Native.Nat.{ℕ, ◌+◌, ◌*◌, ◌^◌, ◌≤◌, ◌<◌}
-use native.Mathlib.Nat.{zero-add, pow-suc, pow-le-pow_right}
+use native.Mathlib.Nat.{zero-add, add-zero, pow-suc, pow-le-pow_right}
 use native.Mathlib.Numerals.{add-one}
 use native.Mathlib.Omega.{arith}
 use lib.ListN.{length, get_or, take, drop, length-drop}
@@ -25,16 +25,15 @@ pub spells-none : (code : List ℕ) (pc n : ℕ) → Spells code pc n 0 0
 spells-none code pc n = record { within = omega arith; spelt = refl; small = omega arith; fits = omega arith }
 
 module _ {code : List ℕ} {pc n i v : ℕ} (f : Follow code pc n) (s : Spells code pc n i v) where
-  pub spells-more : {b : ℕ} → i < n → Widened (get_or code (pc + (i + 1)) 0) b → Spells code pc n (i + 1) (v * 256 + b)
+  pub spells-more : {b : ℕ} → i < n → Widened (get_or code (pc + 1 + i) 0) b → Spells code pc n (i + 1) (v * 256 + b)
   spells-more {b} h w =
       let l : i < length (drop (pc + 1) code) = simp length-drop (omega arith) in
-      let k : pc + 1 + i ≡ pc + (i + 1) = omega arith in
       let few : i + 1 ≤ 4 = omega arith in
       let most : 256 ^ (i + 1) ≤ 256 ^ 4 = pow-le-pow_right (omega arith) few in
       let less : v * 256 + b < 256 ^ (i + 1) = rw (add-one, pow-suc) (omega arith) in
       record {
         within = omega arith;
-        spelt = rw (add-one i, take-suc (drop (pc + 1) code) i 0 l, big-more, ← s.spelt, get_or-drop, k, ← w.same);
+        spelt = rw (add-one i, take-suc (drop (pc + 1) code) i 0 l, big-more, ← s.spelt, get_or-drop, ← w.same);
         small = less;
         fits = omega arith;
       }
@@ -46,10 +45,10 @@ module _ {code : List ℕ} {pc n i v : ℕ} (f : Follow code pc n) (s : Spells c
 
 module _ {code : List ℕ} {pc n : ℕ} (f : Follow code pc n) {b : ℕ} (w : Widened (get_or code (pc + 1) 0) b) where
   spells-first : 0 < n → Spells code pc n 1 b
-  spells-first h = simp zero-add at (spells-more f (spells-none code pc n) h w)
+  spells-first h = simp zero-add at (spells-more f (spells-none code pc n) h (record { same = rw add-zero w.same; small = w.small }))
 
   pub spelled-one : n ≡ 1 → Spelled code pc n b
   spelled-one e = spelled f (spells-first (omega arith)) (omega arith)
 
   pub spelled-two : {d : ℕ} → n ≡ 2 → Widened (get_or code (pc + 2) 0) d → Spelled code pc n (b * 256 + d)
-  spelled-two e x = spelled f (spells-more f (spells-first (omega arith)) (omega arith) x) (omega arith)
+  spelled-two e x = spelled f (spells-more f (spells-first (omega arith)) (omega arith) (let k : pc + 1 + 1 ≡ pc + 2 = omega arith in record { same = rw k x.same; small = x.small })) (omega arith)

@@ -7,38 +7,39 @@ ghost use Rattle.evm.specs.Step.{next_at, step_at};
 
 use crate::rows::size_of;
 
-// A whole instruction, with the place of the next one; or none: the code ends, or ends before the instruction does.
-#[derive(Clone, Copy)]
-pub enum Step {
-    Whole { pc: usize, op: u8, next: usize },
-    End,
+// A whole instruction of the code, with the place of the next one.
+#[derive(Clone, Copy, PartialEq, Eq)]
+pub struct Instruction {
+    pub pc: usize,
+    pub op: u8,
+    pub next: usize,
 }
 
-// What stands at a place of the code.
-pub fn step_at(code: &[u8], at: usize) -> Step
+// The instruction at a place of the code; none where the code ends, or ends before the instruction does.
+pub fn step_at(code: &[u8], at: usize) -> Option<Instruction>
     ensures { result ≡ step_at code.now at }
 {
     if code.len() <= at {
-        return Step::End;
+        return None;
     }
     let op = code[at];
     // most have no argument, and then the place of the next does not wait for a length
     if !is_push(op) {
-        return Step::Whole {
+        return Some(Instruction {
             pc: at,
             op,
             next: at + 1,
-        };
+        });
     }
     let long = size_of(op);
     if is_whole(long, code.len() - at) {
-        Step::Whole {
+        Some(Instruction {
             pc: at,
             op,
             next: at + long,
-        }
+        })
     } else {
-        Step::End
+        None
     }
 }
 
@@ -47,10 +48,7 @@ pub fn step_at(code: &[u8], at: usize) -> Step
 fn is_push(op: u8) -> bool
     ensures { result ≡ ltb 0 (argument op) }
 {
-    match op {
-        0x60..=0x7f => true,
-        _ => false,
-    }
+    matches!(op, 0x60..=0x7f)
 }
 
 // Does an instruction end within the bytes that are left of the code? "stops before one that runs past the end"
@@ -65,8 +63,8 @@ pub fn next_at(code: &[u8], at: usize) -> usize
     ensures { result ≡ next_at code.now at }
 {
     match step_at(code, at) {
-        Step::Whole { pc: _, op: _, next } => next,
-        Step::End => at,
+        Some(instruction) => instruction.next,
+        None => at,
     }
 }
 
@@ -90,10 +88,8 @@ fn spell(code: &[u8], pc: usize, count: usize) -> u64
     ensures { Spelled code.now pc count result }
 {
     let mut value: u64 = 0;
-    let mut i = 0;
-    while i < count {
-        i += 1;
-        value = value * 256 + wide(code[pc + i]);
+    for i in 0..count {
+        value = value * 256 + wide(code[pc + 1 + i]);
     }
     value
 }

@@ -13,15 +13,16 @@ use Rattle.exec.specs.Modes.{mode_of}
 use Rattle.exec.specs.Owns.{goes_of, room_of, Runs, Owned}
 use Rattle.exec.specs.declared.mode.Mode.{Mode}
 use Rattle.exec.specs.declared.mode.Mode.TheVariants.{Plain, KnownZero}
-use Rattle.exec.specs.declared.run.Goes.{Goes}
-use Rattle.exec.specs.declared.run.Goes.TheVariants.{To, Nowhere}
+use Rattle.std.specs.Prelude as std
+use Rattle.std.specs.Prelude.{Some, None}
+use Rattle.state.specs.declared.sym.StackSym.{StackSym}
 use Rattle.exec.specs.declared.run.Own.{Own}
 
-one-goes : {x y : Goes} {s : Option Sym} → goes_of x ≡ s → goes_of y ≡ s → x ≡ y
-one-goes {x = To x} {y = To y} p q = ap To (one_symbol {x = x} {y = y} refl (cc))
-one-goes {x = To x} {y = Nowhere} p q = cc
-one-goes {x = Nowhere} {y = To y} p q = cc
-one-goes {x = Nowhere} {y = Nowhere} p q = refl
+one-goes : {x y : std.Option StackSym} {s : Option Sym} → goes_of x ≡ s → goes_of y ≡ s → x ≡ y
+one-goes {x = Some x} {y = Some y} p q = ap Some (one_symbol {x = x} {y = y} refl (cc))
+one-goes {x = Some x} {y = None} p q = cc
+one-goes {x = None} {y = Some y} p q = cc
+one-goes {x = None} {y = None} p q = refl
 
 -- the state and where it goes; its cells; and all outside the part for runs
 pub record OneRun (code : List ℕ) (end : ℕ) (w v : List ℕ) (r s : Own) : Type 0 where

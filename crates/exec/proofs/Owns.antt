@@ -5,17 +5,22 @@ use mathlib.Core.List.{List, [], ◌∷◌}
 use Prim.Native.Nat.{ℕ, suc, ◌+◌, ◌-◌, ◌*◌, ◌≤◌, ◌<◌}
 use native.Mathlib.Omega.{arith}
 use lib.Dec.{eqb}
-use lib.ListN.{length, drop}
+use lib.ListN.{length, get_or, drop}
+use mir.Syntax.{w8}
+use mir.Val.{Fits}
 use Rattle.spec.specs.Lists.{if}
 use Rattle.spec.specs.Opcodes.{row, in_mode}
 use Rattle.spec.specs.Walk.{Ins, ins, walk}
 use Rattle.spec.specs.Stacks.{Sym, Stack, entry, Does, pushes_value, pushes_pc, dups, swaps, ands, adds, jumps, jumpis, lands, halts, plain, does, act, Ran, still, after, runs, before, cells, trims, trim, own}
 use Rattle.lent.proofs.Parts.{take_less}
 use Rattle.lent.proofs.Stored.{kept-take, kept-drop}
-use Rattle.evm.specs.Step.{step_at}
-use Rattle.evm.specs.declared.walk.Step.{Step}
-use Rattle.evm.specs.declared.walk.Step.TheVariants as step
-use Rattle.evm.proofs.Steps.{Took, took, ended}
+use Rattle.std.specs.Borrow.{Bor}
+use Rattle.evm.specs.Walker.{walker_at, Walks}
+use Rattle.evm.specs.declared.walker.Walker.{Walker}
+use Rattle.evm.specs.declared.walk.Instruction.{Instruction}
+use Rattle.std.specs.Prelude.{Option, Some, None}
+use Rattle.evm.proofs.Steps.{Took}
+use Rattle.evm.proofs.Walkers.{walks-took, walks-next, walks-ended}
 use Rattle.state.specs.Cells.{syms_at, Put, depth, Lies}
 use Rattle.state.specs.Symbols.{sym_of}
 use Rattle.exec.specs.Working.{stack_of, end_of, Held}
@@ -26,7 +31,6 @@ use Rattle.state.specs.declared.sym.StackSym.{StackSym}
 use Rattle.exec.specs.declared.top.Top.{Top}
 use Rattle.exec.specs.declared.step.Stepped.{Stepped}
 use Rattle.exec.specs.declared.step.Stepped.TheVariants.{On, Ends, Jumps}
-use Rattle.exec.specs.declared.run.Goes.TheVariants.{To, Nowhere}
 use Rattle.exec.specs.declared.run.End.{End}
 use Rattle.state.proofs.Syms.{length-syms, syms-none, cells-none}
 use Rattle.exec.proofs.Bounds.{bounded-entry, bounded-later, bounded-reach, bounded-act}
@@ -127,37 +131,40 @@ module _ (m : ℕ) {k : ℕ} {s : Stack} (b : Bounded k s) (code : List ℕ) (st
 
 -- ---- the loop
 
-pub record Running (mode : ℕ) (code : List ℕ) (start : ℕ) (w₀ : List ℕ) (end : ℕ) (w : List ℕ) (at : ℕ) (t : Top) : Type 0 where
-  pub rest : runs (in_mode mode) code start (walk (drop at code) at 0) (stack_of w t) ≡ runs (in_mode mode) code start (walk (drop start code) start 0) entry
-  pub passed : start ≤ at
-  pub within : at - start ≤ length code
-  pub bounded : Bounded (at - start) (stack_of w t)
+pub record Running (mode : ℕ) (code : List ℕ) (start : ℕ) (w₀ : List ℕ) (end : ℕ) (w : List ℕ) (v : Walker) (t : Top) : Type 0 where
+  pub over : v.code.now ≡ code
+  pub rest : runs (in_mode mode) code start (walk (drop v.at code) v.at 0) (stack_of w t) ≡ runs (in_mode mode) code start (walk (drop start code) start 0) entry
+  pub passed : start ≤ v.at
+  pub within : v.at - start ≤ length code
+  pub bounded : Bounded (v.at - start) (stack_of w t)
   pub held : Held w t
   pub ends : end_of t ≡ end
   pub inside : Inside code w₀ end w
 
 module _ {mode : ℕ} {code : List ℕ} {start : ℕ} {w₀ : List ℕ} {end : ℕ} (q : Runs code w₀ end) where
-  pub running-start : Running mode code start w₀ end w₀ start (record { at = end - 9; n = 0; base = 0 })
+  pub running-start : {v : Walker} {b : Bor (List ℕ)} → v ≡ walker_at b start → b.now ≡ code → Running mode code start w₀ end w₀ v (record { at = end - 9; n = 0; base = 0 })
   unfolding stack_of
-  running-start =
+  running-start {v} e f =
+      let p : v.at ≡ start = ap (λ (u : Walker). u.at) e in
       let none : syms_at w₀ (end - 9) 0 ≡ [] = syms-none w₀ (end - 9) in
       let z : start - start ≡ 0 = omega arith in
       record {
-        rest = rw none;
+        over = ap (λ (u : Walker). u.code.now) e ∙ f;
+        rest = rw (p, none);
         passed = omega arith;
         within = omega arith;
-        bounded = rw (none, z) bounded-entry;
+        bounded = rw (p, none, z) bounded-entry;
         held = record { inside = omega (arith, q.inside, q.room); cells = cells-none (omega (arith, q.inside)) };
         ends = omega (arith, q.room);
         inside = record { front = refl; back = refl; kept = refl };
       }
 
-  module _ {w : List ℕ} {at : ℕ} {t : Top} (l : Running mode code start w₀ end w at t) where
+  module _ {w : List ℕ} {v v' : Walker} {t : Top} (l : Running mode code start w₀ end w v t) {r : Option Instruction} (s : Walks v r v') where
     -- at the end of the code
-    pub ended-none : {r : Step} → r ≡ step_at code at → r ≡ step.End → ToEnd mode code start w₀ end w (record { top = t; goes = Nowhere })
-    ended-none e f =
+    pub ended-none : r ≡ None → ToEnd mode code start w₀ end w (record { top = t; goes = None })
+    ended-none f =
         record {
-          is = rw (ended code at e f) at l.rest;
+          is = rw (rw l.over at (walks-ended s f)) at l.rest;
           bounded = bounded-later l.within l.bounded;
           near = omega arith;
           held = l.held;
@@ -165,11 +172,11 @@ module _ {mode : ℕ} {code : List ℕ} {start : ℕ} {w₀ : List ℕ} {end : �
           inside = l.inside;
         }
 
-    module _ {pc op to : ℕ} {r : Step} (e : r ≡ step_at code at) (f : r ≡ step.Whole pc op to) where
-      took-here : Took code at pc op to
-      took-here = took code at e f
+    module _ {now : Instruction} (f : r ≡ Some now) where
+      took-here : Took code v.at now.pc now.op now.next
+      took-here = rw l.over at (walks-took s f)
 
-      pub running-steps : Steps code pc op w t
+      pub running-steps : Steps code now.pc now.op w t
       unfolding stack_of
       running-steps =
           let k = took-here in
@@ -182,35 +189,35 @@ module _ {mode : ℕ} {code : List ℕ} {start : ℕ} {w₀ : List ℕ} {end : �
             low = omega (arith, l.bounded.low, k.here);
           }
 
-      pub running-less : length code - to < length code - at
-      running-less = let k = took-here in omega (arith, k.size, k.inside)
-
       -- after one more
-      module _ {w' : List ℕ} {x : Stepped} (small : op < 0x100) (d : Turns w t (next mode code start (ins pc op (drop (pc + 1) code)) (stack_of w t)) w' x) (kept : length w' ≡ length w) where
+      module _ {w' : List ℕ} {x : Stepped} (bytes : (j : ℕ) → Fits w8 (get_or code j 0)) (d : Turns w t (next mode code start (ins now.pc now.op (drop (now.pc + 1) code)) (stack_of w t)) w' x) (kept : length w' ≡ length w) where
         i : Ins
-        i = ins at op (drop (at + 1) code)
+        i = ins v.at now.op (drop (v.at + 1) code)
 
         due : next_of w' x ≡ next mode code start i (stack_of w t)
         unfolding i
         due = rw took-here.here at d.is
 
-        rest : go_on (runs (in_mode mode) code start (walk (drop to code) to 0)) (next_of w' x) ≡ runs (in_mode mode) code start (walk (drop start code) start 0) entry
+        rest : go_on (runs (in_mode mode) code start (walk (drop now.next code) now.next 0)) (next_of w' x) ≡ runs (in_mode mode) code start (walk (drop start code) start 0) entry
         unfolding i
         rest =
-            ap (go_on (runs (in_mode mode) code start (walk (drop to code) to 0))) due
-            ∙ sym (runs-next mode code start i (walk (drop to code) to 0) (stack_of w t))
+            ap (go_on (runs (in_mode mode) code start (walk (drop now.next code) now.next 0))) due
+            ∙ sym (runs-next mode code start i (walk (drop now.next code) now.next 0) (stack_of w t))
             ∙ ap (λ (is : List Ins). runs (in_mode mode) code start is (stack_of w t)) (sym took-here.walks)
             ∙ l.rest
 
-        later : Bounded (to - start) (stack_of w' (top_of x))
+        small : now.op < 0x100
+        small = omega (arith, took-here.byte, bytes v.at)
+
+        later : Bounded (now.next - start) (stack_of w' (top_of x))
         unfolding i
         later =
             let k = took-here in
             let b = bounded-next mode l.bounded code start i small in
-            let m : suc (at - start) ≤ to - start = omega (arith, k.size, l.passed) in
+            let m : suc (v.at - start) ≤ now.next - start = omega (arith, k.size, l.passed) in
             rw (← stack-in w' x, due) (bounded-later m b)
 
-        within : to - start ≤ length code
+        within : now.next - start ≤ length code
         within = omega (arith, took-here.inside)
 
         inside : Inside code w₀ end w'
@@ -225,19 +232,21 @@ module _ {mode : ℕ} {code : List ℕ} {start : ℕ} {w₀ : List ℕ} {end : �
               kept = kept ∙ l.inside.kept;
             }
 
-        pub running-on : {u : Top} → x ≡ On u → Running mode code start w₀ end w' to u
+        pub running-on : {u : Top} → x ≡ On u → Running mode code start w₀ end w' v' u
         running-on {u} g =
+            let p : v'.at ≡ now.next = ap (λ (u : Walker). u.at) (walks-next s f) in
             record {
-              rest = rw g at rest;
-              passed = omega (arith, l.passed, took-here.size);
-              within = within;
-              bounded = rw g at later;
+              over = ap (λ (u : Walker). u.code.now) (walks-next s f) ∙ l.over;
+              rest = rw p (rw g at rest);
+              passed = omega (arith, p, l.passed, took-here.size);
+              within = omega (arith, p, within);
+              bounded = rw p (rw g at later);
               held = rw g at d.moves.held;
               ends = rw g at d.moves.ends ∙ l.ends;
               inside = inside;
             }
 
-        ended_by : (y : End) → top_of x ≡ y.top → go_on (runs (in_mode mode) code start (walk (drop to code) to 0)) (next_of w' x) ≡ ran_of w' y → far (goes_of y.goes) ≤ 17 * length code + 16 → ToEnd mode code start w₀ end w' y
+        ended_by : (y : End) → top_of x ≡ y.top → go_on (runs (in_mode mode) code start (walk (drop now.next code) now.next 0)) (next_of w' x) ≡ ran_of w' y → far (goes_of y.goes) ≤ 17 * length code + 16 → ToEnd mode code start w₀ end w' y
         ended_by y g h n =
             record {
               is = sym h ∙ rest;
@@ -255,10 +264,10 @@ module _ {mode : ℕ} {code : List ℕ} {start : ℕ} {w₀ : List ℕ} {end : �
             let f = far-next mode l.bounded code start i in
             omega (arith, e, ap far_in due, f, l.within)
 
-        pub ended-ends : {u : Top} → x ≡ Ends u → ToEnd mode code start w₀ end w' (record { top = u; goes = Nowhere })
+        pub ended-ends : {u : Top} → x ≡ Ends u → ToEnd mode code start w₀ end w' (record { top = u; goes = None })
         ended-ends g = ended_by _ (rw g) (rw g) (omega arith)
 
-        pub ended-jumps : {u : Top} {y : StackSym} → x ≡ Jumps u y → ToEnd mode code start w₀ end w' (record { top = u; goes = To y })
+        pub ended-jumps : {u : Top} {y : StackSym} → x ≡ Jumps u y → ToEnd mode code start w₀ end w' (record { top = u; goes = Some y })
         ended-jumps g = ended_by _ (rw g) (rw g) (jump-near g)
 
 -- ---- the whole run: the bottom's cell is put, and what the numbering gives is left to it

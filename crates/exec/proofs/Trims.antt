@@ -1,8 +1,9 @@
 -- Trimming from the bottom up: while the symbol next above Before base joins it, the state ends with that symbol. Assumes nothing.
 use mathlib.Core.Path.{◌≡◌, refl, sym, ap, ◌∙◌}
-use mathlib.Core.Bool.{Bool, true, false}
+use mathlib.Core.Bool.{Bool, true, false, not}
 use mathlib.Core.List.{List, [], ◌∷◌, ◌++◌}
-use Prim.Native.Nat.{ℕ, suc, ◌+◌, ◌-◌, ◌*◌, ◌≤◌}
+use Prim.Native.Nat.{ℕ, suc, ◌+◌, ◌-◌, ◌*◌, ◌≤◌, ◌<◌}
+use native.Mathlib.Nat.{sub-zero}
 use native.Mathlib.Omega.{arith}
 use lib.Dec.{eqb}
 use lib.ListN.{length}
@@ -20,11 +21,14 @@ use Rattle.state.proofs.States.{lies-here}
 -- ---- whether a symbol joins
 
 module _ (base : ℕ) where
-  pub joins-none : (x : StackSym) → base ≡ 0 → false ≡ joins (sym_of x) base
-  joins-none (Before n) e = sym (ne_eqb (suc n) base (λ h. omega arith))
-  joins-none (Constant v) e = refl
-  joins-none (Jumpdest v) e = refl
-  joins-none (Other pc) e = refl
+  pub joins-none : (x : StackSym) (n : ℕ) → x ≡ Before n → base ≡ 0 → not (eqb base 0) ≡ joins (sym_of x) base
+  joins-none x n e z = rw (e, z) (sym (ne_eqb (suc n) 0 (λ h. omega arith)))
+
+  pub joins-other : (x : StackSym) → ((n : ℕ) → x ≡ Before n → ⊥) → false ≡ joins (sym_of x) base
+  joins-other (Before n) h = absurd (h n refl)
+  joins-other (Constant v) h = refl
+  joins-other (Jumpdest v) h = refl
+  joins-other (Other pc) h = refl
 
   pub joins-before : (x : StackSym) (n : ℕ) → (base ≡ 0 → ⊥) → x ≡ Before n → eqb n (base - 1) ≡ joins (sym_of x) base
   joins-before x n z e = rw e (go (eqb n (base - 1)) refl)
@@ -102,6 +106,31 @@ module _ {w : List ℕ} {at n base : ℕ} (t : Trims w at n base) where
 
       pub trim-stop : c ≡ false → Lies w at (m + 1) (trims (syms_at w at n) base)
       trim-stop h = lies-trimmed (sym l.same ∙ ap (λ (xs : List Sym). trims xs low) snoc ∙ trims-stay x low (syms_at w at (m - 1)) (sym j ∙ h) ∙ ap {B = Stack} (λ (xs : List Sym). record { above = xs; base = low }) (sym snoc))
+
+-- the loop has passed i of the n cells, from the lowest up
+pub record Passed (w : List ℕ) (at n base i : ℕ) : Type 0 where
+  pub most : i ≤ n
+  pub low : i ≤ base
+  pub on : Trimming w at n base (n - i) (base - i)
+
+module _ {w : List ℕ} {at n base : ℕ} (t : Trims w at n base) where
+  pub passed-none : Passed w at n base 0
+  passed-none = record { most = omega arith; low = omega arith; on = rw (sub-zero, sub-zero) (trim_start t) }
+
+  module _ {i : ℕ} (p : Passed w at n base i) where
+    pub passed-all : n ≤ i → Lies w at 1 (trims (syms_at w at n) base)
+    passed-all h = let z : n - i ≡ 0 = omega arith in let e : n - i + 1 ≡ 1 = omega arith in rw e at (trim-done t p.on z)
+
+    module _ {x : Sym} {c : Bool} (h : i < n) (e : x ≡ sym_at w (at + 9 * (n - i - 1))) (j : c ≡ joins x (base - i)) where
+      pub passed-more : c ≡ true → Passed w at n base (i + 1)
+      passed-more g =
+          let some : 1 ≤ base - i = trim-some t p.on x c (λ z. omega arith) e j g in
+          let m : n - i - 1 ≡ n - (i + 1) = omega arith in
+          let l : base - i - 1 ≡ base - (i + 1) = omega arith in
+          record { most = omega arith; low = omega arith; on = rw (m, l) at (trim-more t p.on x c (λ z. omega arith) e j g) }
+
+      pub passed-stop : c ≡ false → Lies w at (n - i + 1) (trims (syms_at w at n) base)
+      passed-stop g = trim-stop t p.on x c (λ z. omega arith) e j g
 
 -- ---- it leaves no more than there was
 

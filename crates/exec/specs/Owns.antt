@@ -1,5 +1,6 @@
 -- A block's own run: the contracts of its functions. Assumes nothing.
-use Rattle.std.specs.Prelude.{◌≡◌, ℕ, ◌+◌, ◌-◌, ◌*◌, ◌≤◌, List, length, take, drop}
+use Rattle.std.specs.Prelude as std
+use Rattle.std.specs.Prelude.{Some, None, ◌≡◌, ℕ, ◌+◌, ◌-◌, ◌*◌, ◌≤◌, List, length, take, drop}
 use Rattle.std.proofs.Math.Option.{Option, none, some}
 use Rattle.spec.specs.Opcodes.{in_mode}
 use Rattle.spec.specs.Walk.{walk}
@@ -9,14 +10,13 @@ use Rattle.state.specs.Symbols.{sym_of}
 use Rattle.state.specs.Cells.{sym_at, Cells, depth, reach, Lies}
 use Rattle.exec.specs.Bounds.{Bounded}
 use Rattle.exec.specs.Working.{stack_of, end_of, Held}
-use Rattle.exec.specs.declared.run.Goes.{Goes}
-use Rattle.exec.specs.declared.run.Goes.TheVariants.{To, Nowhere}
+use Rattle.state.specs.declared.sym.StackSym.{StackSym}
 use Rattle.exec.specs.declared.run.End.{End}
 use Rattle.exec.specs.declared.run.Own.{Own}
 
-abbrev pub goes_of : Goes → Option Sym
-goes_of (To x) = some (sym_of x)
-goes_of Nowhere = none
+abbrev pub goes_of : std.Option StackSym → Option Sym
+goes_of (Some x) = some (sym_of x)
+goes_of None = none
 
 -- how deep into the entry stack a jump's symbol reaches
 abbrev pub far : Option Sym → ℕ

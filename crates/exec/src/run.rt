@@ -10,31 +10,23 @@ ghost use Rattle.exec.specs.Owns.{Runs, ToEnd, Trims, Owned};
 use crate::mode::Mode;
 use crate::step::{Stepped, step};
 use crate::top::Top;
-use evm::walk::Step;
-use evm::walker::step_from;
-use state::cell::{get_cell, put_cell};
+use evm::walker::Walker;
+use state::cell::{CELL, get_cell, put_cell};
 use state::sym::StackSym;
 
-// The symbol that the run's jump takes, if it ends with one.
-#[derive(Clone, Copy)]
-pub enum Goes {
-    To(StackSym),
-    Nowhere,
-}
-
-// Where a run ended: the stack in hand, and where it goes.
+// Where a run ended: the stack in hand, and the symbol that its jump takes, if it ends with one.
 #[derive(Clone, Copy)]
 struct End {
     top: Top,
-    goes: Goes,
+    goes: Option<StackSym>,
 }
 
-// A block's own state, in n cells from `at` on, and where it goes.
-#[derive(Clone, Copy)]
+// A block's own state, in n cells from `at` on, and the symbol that its jump takes, if it ends with one.
+#[derive(Clone, Copy, PartialEq, Eq)]
 pub struct Own {
     pub at: usize,
     pub n: usize,
-    pub goes: Goes,
+    pub goes: Option<StackSym>,
 }
 
 // Runs the block at `start` to its end, with its stack in the part of w that ends at `end`.
@@ -42,54 +34,38 @@ fn to_end(mode: Mode, code: &[u8], start: usize, w: &mut [u8], end: usize) -> En
     requires { Runs code.now w.old end }
     ensures { ToEnd (mode_of mode) code.now start w.old end w.new result }
 {
-    let mut at = start;
     let mut top = Top {
-        at: end - 9,
+        at: end - CELL,
         n: 0,
         base: 0,
     };
-    loop {
-        match step_from(code, at) {
-            Step::End => {
+    for instruction in Walker::new(code, start) {
+        match step(mode, code, start, instruction.pc, instruction.op, w, top) {
+            Stepped::On(after) => top = after,
+            Stepped::Ends(after) => {
                 return End {
-                    top,
-                    goes: Goes::Nowhere,
+                    top: after,
+                    goes: None,
                 };
             }
-            Step::Whole { pc, op, next } => match step(mode, code, start, pc, op, w, top) {
-                Stepped::On(after) => {
-                    top = after;
-                    at = next;
-                }
-                Stepped::Ends(after) => {
-                    return End {
-                        top: after,
-                        goes: Goes::Nowhere,
-                    };
-                }
-                Stepped::Jumps(after, symbol) => {
-                    return End {
-                        top: after,
-                        goes: Goes::To(symbol),
-                    };
-                }
-            },
+            Stepped::Jumps(after, symbol) => {
+                return End {
+                    top: after,
+                    goes: Some(symbol),
+                };
+            }
         }
     }
+    End { top, goes: None }
 }
 
 // Whether a symbol is the Before that the numbering gives next above Before(base).
 fn joined(symbol: StackSym, base: usize) -> bool
     ensures { result ≡ joins (sym_of symbol) base }
 {
-    if base == 0 {
-        return false;
-    }
     match symbol {
-        StackSym::Before(position) => position == base - 1,
-        StackSym::Constant(_) => false,
-        StackSym::Jumpdest(_) => false,
-        StackSym::Other(_) => false,
+        StackSym::Before(position) => base != 0 && position == base - 1,
+        _ => false,
     }
 }
 
@@ -99,17 +75,13 @@ fn trimmed(w: &[u8], at: usize, count: usize, base: usize) -> usize
     requires { Trims w.now at count base }
     ensures { Lies w.now at result (trims (syms_at w.now at count) base) }
 {
-    let mut left = count;
-    let mut low = base;
-    while left != 0 {
-        if joined(get_cell(w, at + 9 * (left - 1)), low) {
-            left -= 1;
-            low -= 1;
-        } else {
+    for i in 0..count {
+        let left = count - i;
+        if !joined(get_cell(w, at + CELL * (left - 1)), base - i) {
             return left + 1;
         }
     }
-    left + 1
+    1
 }
 
 // Runs the block at `start` in a mode, and stores its state in the part of w that ends at `end`, which has a cell for each byte of code, and seventeen.
@@ -120,7 +92,7 @@ pub fn run(mode: Mode, code: &[u8], start: usize, w: &mut [u8], end: usize) -> O
     let ended = to_end(mode, code, start, w, end);
     let top = ended.top;
     let goes = ended.goes;
-    put_cell(w, end - 9, StackSym::Before(top.base));
+    put_cell(w, end - CELL, StackSym::Before(top.base));
     let cells = trimmed(w, top.at, top.n, top.base);
     Own {
         at: top.at,

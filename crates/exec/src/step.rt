@@ -33,7 +33,7 @@ fn past(first: u8, op: u8) -> usize
     requires { first ≤ op }
     ensures { result ≡ op - first }
 {
-    (op - first) as usize
+    usize::from(op - first)
 }
 
 // PUSH1 to PUSH4: the `count` bytes after pc, as a value.

@@ -7,7 +7,7 @@ ghost use Rattle.exec.specs.Working.{stack_of, deepen, Held, Spells, Deepens, Be
 
 use crate::top::Top;
 use lent::copy_within;
-use state::cell::{get_cell, put_cell};
+use state::cell::{CELL, get_cell, put_cell};
 use state::sym::StackSym;
 
 // Writes Before(base), Before(base + 1) and so on into the `count` cells from `at` on.
@@ -15,10 +15,8 @@ fn spell(w: &mut [u8], at: usize, base: usize, count: usize)
     requires { Spells w.old at base count }
     ensures { Wrote count w.old at (befores base count) w.new }
 {
-    let mut i = 0;
-    while i < count {
-        put_cell(w, at + 9 * i, StackSym::Before(base + i));
-        i += 1;
+    for i in 0..count {
+        put_cell(w, at + CELL * i, StackSym::Before(base + i));
     }
 }
 
@@ -31,9 +29,9 @@ fn deepened(w: &mut [u8], top: Top, cells: usize) -> Top
         return top;
     }
     let more = cells - top.n;
-    let at = top.at - 9 * more;
-    copy_within(w, top.at, at, 9 * top.n);
-    spell(w, at + 9 * top.n, top.base, more);
+    let at = top.at - CELL * more;
+    copy_within(w, top.at, at, CELL * top.n);
+    spell(w, at + CELL * top.n, top.base, more);
     Top {
         at,
         n: cells,
@@ -46,7 +44,7 @@ fn exchange(w: &mut [u8], top: Top, depth: usize)
     requires { (Held w.old top) × (depth + 1 < top.n) }
     ensures { Becomes w.old top (swap depth (stack_of w.old top)) w.new top }
 {
-    let far = top.at + 9 * (depth + 1);
+    let far = top.at + CELL * (depth + 1);
     let symbol = get_cell(w, top.at);
     let other = get_cell(w, far);
     put_cell(w, top.at, other);

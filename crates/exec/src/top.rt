@@ -6,7 +6,7 @@ ghost use Rattle.spec.specs.Stacks.{Stack, push, pops, read};
 ghost use Rattle.state.specs.Symbols.{sym_of};
 ghost use Rattle.exec.specs.Working.{stack_of, popped, Free, Near, Reads, Pops, Becomes};
 
-use state::cell::{get_cell, put_cell};
+use state::cell::{CELL, get_cell, put_cell};
 use state::sym::StackSym;
 
 #[derive(Clone, Copy)]
@@ -22,7 +22,7 @@ impl Top {
         requires { Free w.old self }
         ensures { Becomes w.old self (push (sym_of symbol) (stack_of w.old self)) w.new result }
     {
-        let at = self.at - 9;
+        let at = self.at - CELL;
         put_cell(w, at, symbol);
         Top {
             at,
@@ -38,13 +38,13 @@ impl Top {
     {
         if words <= self.n {
             return Top {
-                at: self.at + 9 * words,
+                at: self.at + CELL * words,
                 n: self.n - words,
                 base: self.base,
             };
         }
         Top {
-            at: self.at + 9 * self.n,
+            at: self.at + CELL * self.n,
             n: 0,
             base: self.base + (words - self.n),
         }
@@ -56,7 +56,7 @@ impl Top {
         ensures { sym_of result ≡ read (stack_of w.now self) depth }
     {
         if depth < self.n {
-            return get_cell(w, self.at + 9 * depth);
+            return get_cell(w, self.at + CELL * depth);
         }
         StackSym::Before(self.base + (depth - self.n))
     }

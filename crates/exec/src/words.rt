@@ -8,7 +8,7 @@ ghost use Rattle.state.specs.Symbols.{sym_of};
 ghost use Rattle.exec.specs.Working.{stack_of, after_and, after_add, Ready, Becomes};
 
 use crate::top::Top;
-use state::sym::{Known, StackSym};
+use state::sym::StackSym;
 
 // AND with the mask leaves the other symbol as it is.
 fn and_of(pc: usize, first: StackSym, second: StackSym) -> StackSym
@@ -27,10 +27,10 @@ fn and_of(pc: usize, first: StackSym, second: StackSym) -> StackSym
 fn sum_of(code: &[u8], pc: usize, first: StackSym, second: StackSym) -> StackSym
     ensures { sym_of result ≡ summed code.now pc (known_value (sym_of first)) (known_value (sym_of second)) }
 {
-    let Known::Value(value) = first.known_value() else {
+    let Some(value) = first.known_value() else {
         return StackSym::Other(pc);
     };
-    let Known::Value(other) = second.known_value() else {
+    let Some(other) = second.known_value() else {
         return StackSym::Other(pc);
     };
     sum_of_values(code, pc, value, other)
@@ -40,10 +40,10 @@ fn sum_of(code: &[u8], pc: usize, first: StackSym, second: StackSym) -> StackSym
 fn sum_of_values(code: &[u8], pc: usize, first: usize, second: usize) -> StackSym
     ensures { sym_of result ≡ summed code.now pc (some first) (some second) }
 {
-    if first <= 0xffff_ffff_ffff_ffff - second {
-        return StackSym::from_value(first + second, code);
+    match first.checked_add(second) {
+        Some(sum) => StackSym::from_value(sum, code),
+        None => StackSym::Other(pc),
     }
-    StackSym::Other(pc)
 }
 
 // The stack after AND.

@@ -1,5 +1,5 @@
 -- The walk along the log is the definitions': what is left to follow ends where the whole ends. Assumes nothing.
-use Rattle.std.proofs.Common.{◌≡◌, ℕ, zero, suc, ◌+◌, ◌*◌, ◌/◌, ◌%◌, ◌^◌, ◌<◌, ◌≤◌, Bool, true, false, ◌&&◌, eqb, List, [], ◌∷◌, ◌++◌, map, length, get_or, take, drop, set, replicate, sym, refl, ap, ◌∙◌, subst, add-one, arith, drop-drop}
+use Rattle.std.proofs.Common.{◌≡◌, ℕ, zero, suc, ◌+◌, ◌*◌, ◌/◌, ◌%◌, ◌^◌, ◌<◌, ◌≤◌, Bool, true, false, ◌&&◌, eqb, List, [], ◌∷◌, ◌++◌, map, length, get_or, take, drop, set, replicate, sym, refl, ap, ◌∙◌, subst, add-one, arith, drop-drop, Option as Maybe, Some, None}
 use lib.ListN.{replicate-append-replicate}
 use Rattle.spec.specs.Lists.{little, number}
 use Rattle.spec.specs.Ending.{Final}
@@ -24,12 +24,10 @@ use Rattle.follow.specs.Finding.{slots_of, Ready, Placed}
 use Rattle.follow.specs.Stepping.{StandsAs, out_there, in_block, Standing, EdgeOf, MoveAs, no_move, goes_on, begins_with, takes_to, StepsSo}
 use Rattle.follow.specs.Walking.{bump_at, bumps_of, turn_of, Turned, Zeroed, Walked}
 use Rattle.follow.specs.declared.block.Block.{Block}
+use Rattle.follow.specs.declared.find.Counted.{Counted}
 use Rattle.follow.specs.declared.step.Stand.{Stand}
-use Rattle.follow.specs.declared.step.Stand.TheVariants.{Outside, Inside}
 use Rattle.follow.specs.declared.step.Move.{Move}
-use Rattle.follow.specs.declared.step.Move.TheVariants.{No, Stays, Begins, Takes}
-use Rattle.follow.specs.declared.walk.Went.{Went}
-use Rattle.follow.specs.declared.walk.Went.TheVariants.{On, Off}
+use Rattle.follow.specs.declared.step.Move.TheVariants.{Stays, Begins, Takes}
 use Rattle.follow.proofs.Passing.{slots-append, slots-first}
 use Rattle.follow.proofs.Moving.{slot-low, place-low}
 use Rattle.follow.proofs.Tallying.{bump-number, enters-numbers, entered_here, takes-numbers, taken_here}
@@ -58,7 +56,7 @@ held-rises b m e = subst (λ (fs : List Final). Rising 0 (finals-at fs)) (held-b
 
 -- ---- count_step
 
-slots-inside : (b : List ℕ) {v : spec.Move} {k : Block} {slot : ℕ} → MoveAs b v (Begins k slot) → slot < slots_of (finals_at b 0)
+slots-inside : (b : List ℕ) {v : spec.Move} {k : Counted} → MoveAs b v (Some (Begins k)) → k.slot < slots_of (finals_at b 0)
 slots-inside b (begins_with p) = omega (arith, slot-low p)
 
 edge-inside : {b : List ℕ} {f : Final} {to edge : ℕ} → EdgeOf b f to edge → edge < slots_of (finals_at b 0)
@@ -71,43 +69,43 @@ record InsideBoth (n edge slot : ℕ) : Type 0 where
   first : edge < n
   second : slot < n
 
-takes-inside : (b : List ℕ) {v : spec.Move} {k : Block} {edge slot : ℕ} → MoveAs b v (Takes edge k slot) → InsideBoth (slots_of (finals_at b 0)) edge slot
+takes-inside : (b : List ℕ) {v : spec.Move} {k : Counted} {edge : ℕ} → MoveAs b v (Some (Takes edge k)) → InsideBoth (slots_of (finals_at b 0)) edge k.slot
 takes-inside b (takes_to o p) = record { first = edge-inside o; second = omega (arith, slot-low p) }
 
-module _ (b code : List ℕ) (s : Stand) (q : ℕ) {r : Move} (h : StepsSo b code s q r) where
+module _ (b code : List ℕ) (s : Maybe Stand) (q : ℕ) {r : Maybe Move} (h : StepsSo b code s q r) where
   moved : (y : Ready b) (d : Standing b s) → MoveAs b (move y.map code d.at q) r
   moved y d = h.so y.map d.at (held-blocks b y.map y.held) d.stands
 
   module _ (y : Ready b) (d : Standing b s) (c : List ℕ) (fits : 8 * slots_of (finals_at b 0) ≤ length c) where
-    pub begin-fits : {k : Block} {slot : ℕ} → r ≡ Begins k slot → 8 * slot + 8 ≤ length c
+    pub begin-fits : {k : Counted} → r ≡ Some (Begins k) → 8 * k.slot + 8 ≤ length c
     begin-fits e = omega (arith, slots-inside b (subst (MoveAs b (move y.map code d.at q)) e (moved y d)))
 
-    pub edge-fits : {k : Block} {edge slot : ℕ} → r ≡ Takes edge k slot → 8 * edge + 8 ≤ length c
+    pub edge-fits : {k : Counted} {edge : ℕ} → r ≡ Some (Takes edge k) → 8 * edge + 8 ≤ length c
     edge-fits e = omega (arith, (takes-inside b (subst (MoveAs b (move y.map code d.at q)) e (moved y d))).first)
 
-    pub enter-fits : {k : Block} {edge slot : ℕ} → r ≡ Takes edge k slot → {c₁ : List ℕ} → c₁ ≡ bump_at c edge → 8 * slot + 8 ≤ length c₁
+    pub enter-fits : {k : Counted} {edge : ℕ} → r ≡ Some (Takes edge k) → {c₁ : List ℕ} → c₁ ≡ bump_at c edge → 8 * k.slot + 8 ≤ length c₁
     enter-fits {edge} e k =
         omega (arith, (takes-inside b (subst (MoveAs b (move y.map code d.at q)) e (moved y d))).second, ap length k, bump-kept c edge (edge-fits e))
 
-    pub turn-begins : {k : Block} {slot : ℕ} → r ≡ Begins k slot → {c' : List ℕ} → c' ≡ bump_at c slot → Turned b code s q c c' (On (Inside k slot q))
-    turn-begins {k} {slot} e g =
-        record { move = Begins k slot; so = subst (StepsSo b code s q) e h; turn = refl; counts = g; kept = ap length g ∙ bump-kept c slot (begin-fits e) }
+    pub turn-begins : {k : Counted} → r ≡ Some (Begins k) → {c' : List ℕ} → c' ≡ bump_at c k.slot → Turned b code s q c c' (Some (record { at = k; pc = q }))
+    turn-begins {k} e g =
+        record { move = Some (Begins k); so = subst (StepsSo b code s q) e h; turn = refl; counts = g; kept = ap length g ∙ bump-kept c k.slot (begin-fits e) }
 
-    pub turn-takes : {k : Block} {edge slot : ℕ} → r ≡ Takes edge k slot → {c₁ c' : List ℕ} → c₁ ≡ bump_at c edge → c' ≡ bump_at c₁ slot → Turned b code s q c c' (On (Inside k slot q))
-    turn-takes {k} {edge} {slot} e {c₁} g l =
+    pub turn-takes : {k : Counted} {edge : ℕ} → r ≡ Some (Takes edge k) → {c₁ c' : List ℕ} → c₁ ≡ bump_at c edge → c' ≡ bump_at c₁ k.slot → Turned b code s q c c' (Some (record { at = k; pc = q }))
+    turn-takes {k} {edge} e {c₁} g l =
         record {
-          move = Takes edge k slot;
+          move = Some (Takes edge k);
           so = subst (StepsSo b code s q) e h;
           turn = refl;
-          counts = l ∙ ap (λ (x : List ℕ). bump_at x slot) g;
-          kept = ap length l ∙ bump-kept c₁ slot (enter-fits e g) ∙ ap length g ∙ bump-kept c edge (edge-fits e);
+          counts = l ∙ ap (λ (x : List ℕ). bump_at x k.slot) g;
+          kept = ap length l ∙ bump-kept c₁ k.slot (enter-fits e g) ∙ ap length g ∙ bump-kept c edge (edge-fits e);
         }
 
-  pub turn-no : (c : List ℕ) → r ≡ No → Turned b code s q c c Off
-  turn-no c e = record { move = No; so = subst (StepsSo b code s q) e h; turn = refl; counts = refl; kept = refl }
+  pub turn-no : (c : List ℕ) → r ≡ None → Turned b code s q c c None
+  turn-no c e = record { move = None; so = subst (StepsSo b code s q) e h; turn = refl; counts = refl; kept = refl }
 
-  pub turn-stays : (c : List ℕ) {k : Block} {slot : ℕ} → r ≡ Stays k slot → Turned b code s q c c (On (Inside k slot q))
-  turn-stays c {k} {slot} e = record { move = Stays k slot; so = subst (StepsSo b code s q) e h; turn = refl; counts = refl; kept = refl }
+  pub turn-stays : (c : List ℕ) {k : Counted} → r ≡ Some (Stays k) → Turned b code s q c c (Some (record { at = k; pc = q }))
+  turn-stays c {k} e = record { move = Some (Stays k); so = subst (StepsSo b code s q) e h; turn = refl; counts = refl; kept = refl }
 
 -- ---- the log's steps
 
@@ -139,7 +137,7 @@ zero-eights (suc n) =
 abbrev counts_of : List ℕ → (ℕ → ℕ) → (ℕ → ℕ → ℕ) → List Counts
 counts_of b E W = map (counts-by E W) (finals_at b 0)
 
-pub record Following (b code log c₀ : List ℕ) (i : ℕ) (s : Stand) (c : List ℕ) : Type 0 where
+pub record Following (b code log c₀ : List ℕ) (i : ℕ) (s : Maybe Stand) (c : List ℕ) : Type 0 where
   pub m : Map
   pub held : read b ≡ holds m
   pub at : spec.Stand
@@ -154,7 +152,7 @@ pub record Following (b code log c₀ : List ℕ) (i : ℕ) (s : Stand) (c : Lis
   pub kept : length c ≡ length c₀
   pub fits : 8 * slots_of (finals_at b 0) ≤ length c₀
 
-pub follow-start : {b : List ℕ} (code log : List ℕ) {c : List ℕ} → Ready b → Zeroed b c → Following b code log c 0 Outside c
+pub follow-start : {b : List ℕ} (code log : List ℕ) {c : List ℕ} → Ready b → Zeroed b c → Following b code log c 0 None c
 unfolding slots_of
 follow-start {b} code log {c} y z =
     let e = held-blocks b y.map y.held in
@@ -193,10 +191,10 @@ flag-low : (t : Bool) → flag t ≤ 1
 flag-low true = omega arith
 flag-low false = omega arith
 
-pub follow-standing : {b code log c₀ : List ℕ} {i : ℕ} {s : Stand} {c : List ℕ} → Following b code log c₀ i s c → Standing b s
+pub follow-standing : {b code log c₀ : List ℕ} {i : ℕ} {s : Maybe Stand} {c : List ℕ} → Following b code log c₀ i s c → Standing b s
 follow-standing f = record { at = f.at; stands = f.stands }
 
-pub follow-fits : {b code log c₀ : List ℕ} {i : ℕ} {s : Stand} {c : List ℕ} → Following b code log c₀ i s c → 8 * slots_of (finals_at b 0) ≤ length c
+pub follow-fits : {b code log c₀ : List ℕ} {i : ℕ} {s : Maybe Stand} {c : List ℕ} → Following b code log c₀ i s c → 8 * slots_of (finals_at b 0) ≤ length c
 follow-fits f = omega (arith, f.kept, f.fits)
 
 -- one more in a block's count, and in an edge's
@@ -225,7 +223,7 @@ module _ (b c₀ : List ℕ) (rising : Rising 0 (finals-at (finals_at b 0))) (E 
       (ap (λ (n : ℕ). set (numbers (counts_of b E W)) n (suc (W (starts_at f) to))) o.edge_is
       ∙ sym (takes-numbers E W (finals_at b 0) o.before f o.after o.is rising to o.n o.place) ∙ ap numbers (taken_is E W (starts_at f) to (finals_at b 0)))
 
-module _ {b code log c₀ : List ℕ} {i : ℕ} {s : Stand} {c : List ℕ} (f : Following b code log c₀ i s c) (left : i < length log / 8) {q : ℕ} (g : Holds 8 log (8 * i) q) where
+module _ {b code log c₀ : List ℕ} {i : ℕ} {s : Maybe Stand} {c : List ℕ} (f : Following b code log c₀ i s c) (left : i < length log / 8) {q : ℕ} (g : Holds 8 log (8 * i) q) where
   abbrev rest : List ℕ
   rest = drop (suc i) (steps log)
 
@@ -239,10 +237,10 @@ module _ {b code log c₀ : List ℕ} {i : ℕ} {s : Stand} {c : List ℕ} (f : 
       ∙ ap (onward i (counts_of b f.E f.W) (λ (t : spec.Stand) (p : ℕ) (ds : List Counts). follow_from f.m code rest t p ds) q) e
 
   -- behind a step to a block
-  next-so : {c' : List ℕ} {h : Final} {k : Block} {slot : ℕ} → Placed b h k slot → (F : ℕ → ℕ) (U : ℕ → ℕ → ℕ) → ((a : ℕ) → F a ≤ i + 1) → ((a t : ℕ) → U a t ≤ i + 1)
+  next-so : {c' : List ℕ} {h : Final} {k : Counted} → Placed b h k.block k.slot → (F : ℕ → ℕ) (U : ℕ → ℕ → ℕ) → ((a : ℕ) → F a ≤ i + 1) → ((a t : ℕ) → U a t ≤ i + 1)
       → c' ≡ over (as_eights (numbers (counts_of b F U))) c₀ → length c' ≡ length c
       → follow f.m code (steps log) ≡ follow_from f.m code rest (inside h q) (suc i) (counts_of b F U)
-      → Following b code log c₀ (i + 1) (Inside k slot q) c'
+      → Following b code log c₀ (i + 1) (Some (record { at = k; pc = q })) c'
   next-so {c'} {h} p F U x y e l z =
       record {
         m = f.m;
@@ -261,52 +259,52 @@ module _ {b code log c₀ : List ℕ} {i : ℕ} {s : Stand} {c : List ℕ} (f : 
       }
 
   module _ (small : length log < 2 ^ 64) where
-    by_move : {v : spec.Move} {mv : Move} → MoveAs b v mv → move f.m code f.at q ≡ v → {t : Stand} → On t ≡ turn_of mv q → {c' : List ℕ} → c' ≡ bumps_of mv c → length c' ≡ length c
-        → Following b code log c₀ (i + 1) t c'
+    by_move : {v : spec.Move} {mv : Maybe Move} → MoveAs b v mv → move f.m code f.at q ≡ v → {t : Stand} → Some t ≡ turn_of mv q → {c' : List ℕ} → c' ≡ bumps_of mv c → length c' ≡ length c
+        → Following b code log c₀ (i + 1) (Some t) c'
     unfolding counted
     by_move no_move e w k l = never (cc)
-    by_move (goes_on {f = h} {k = x} {slot = n} p) e {t} w {c'} k l =
-        let is : Inside x n q ≡ t = cc in
-        subst (λ (u : Stand). Following b code log c₀ (i + 1) u c') is
+    by_move (goes_on {f = h} {k = x} p) e {t} w {c'} k l =
+        let is : record { at = x; pc = q } ≡ t = cc in
+        subst (λ (u : Stand). Following b code log c₀ (i + 1) (Some u) c') is
         (next-so p f.E f.W (λ a. omega (arith, f.e_low a)) (λ a u. omega (arith, f.w_low a u)) (k ∙ f.counts) l (onto (stays_in h) e))
-    by_move (begins_with {f = h} {k = x} {slot = n} p) e {t} w {c'} k l =
-        let is : Inside x n q ≡ t = cc in
+    by_move (begins_with {f = h} {k = x} p) e {t} w {c'} k l =
+        let is : record { at = x; pc = q } ≡ t = cc in
         let rising = held-rises b f.m f.held in
         let F : ℕ → ℕ = λ a. f.E a + flag (eqb (starts_at h) a) in
-        subst (λ (u : Stand). Following b code log c₀ (i + 1) u c') is
+        subst (λ (u : Stand). Following b code log c₀ (i + 1) (Some u) c') is
         (next-so p F f.W (λ a. omega (arith, f.e_low a, flag-low (eqb (starts_at h) a))) (λ a u. omega (arith, f.w_low a u))
-        (k ∙ ap (λ (x : List ℕ). bump_at x n) f.counts ∙ bump-enters b c₀ rising f.E f.W p (omega (arith, f.e_low (starts_at h)))) l
+        (k ∙ ap (λ (y : List ℕ). bump_at y x.slot) f.counts ∙ bump-enters b c₀ rising f.E f.W p (omega (arith, f.e_low (starts_at h)))) l
         (onto (begins h) e ∙ ap (λ (ds : List Counts). follow_from f.m code rest (inside h q) (suc i) ds) (entered-is f.E f.W (starts_at h) (finals_at b 0))))
-    by_move (takes_to {f = j} {g = h} {k = x} {slot = n} {edge = d} o p) e {t} w {c'} k l =
-        let is : Inside x n q ≡ t = cc in
+    by_move (takes_to {f = j} {g = h} {k = x} {edge = d} o p) e {t} w {c'} k l =
+        let is : record { at = x; pc = q } ≡ t = cc in
         let rising = held-rises b f.m f.held in
         let F : ℕ → ℕ = λ a. f.E a + flag (eqb (starts_at h) a) in
         let U : ℕ → ℕ → ℕ = λ a u. f.W a u + flag (eqb (starts_at j) a && eqb (starts_at h) u) in
-        subst (λ (u : Stand). Following b code log c₀ (i + 1) u c') is
+        subst (λ (u : Stand). Following b code log c₀ (i + 1) (Some u) c') is
         (next-so p F U (λ a. omega (arith, f.e_low a, flag-low (eqb (starts_at h) a))) (λ a u. omega (arith, f.w_low a u, flag-low (eqb (starts_at j) a && eqb (starts_at h) u)))
-        (k ∙ ap (λ (x : List ℕ). bump_at (bump_at x d) n) f.counts
-        ∙ ap (λ (x : List ℕ). bump_at x n) (bump_takes b c₀ rising f.E f.W o (omega (arith, f.w_low (starts_at j) (starts_at h))))
+        (k ∙ ap (λ (y : List ℕ). bump_at (bump_at y d) x.slot) f.counts
+        ∙ ap (λ (y : List ℕ). bump_at y x.slot) (bump_takes b c₀ rising f.E f.W o (omega (arith, f.w_low (starts_at j) (starts_at h))))
         ∙ bump-enters b c₀ rising f.E U p (omega (arith, f.e_low (starts_at h)))) l
         (onto (takes j h) e
         ∙ ap (λ (ds : List Counts). follow_from f.m code rest (inside h q) (suc i) ds)
         (ap (map (enter (starts_at h))) (taken_is f.E f.W (starts_at j) (starts_at h) (finals_at b 0)) ∙ entered-is f.E U (starts_at h) (finals_at b 0))))
 
-  module _ {c' : List ℕ} {r : Went} (d : Turned b code s q c c' r) where
+  module _ {c' : List ℕ} {r : Maybe Stand} (d : Turned b code s q c c' r) where
     as_moved : MoveAs b (move f.m code f.at q) d.move
     as_moved = d.so.so f.m f.at (held-blocks b f.m f.held) f.stands
 
-    pub follow-on : length log < 2 ^ 64 → {t : Stand} → r ≡ On t → Following b code log c₀ (i + 1) t c'
+    pub follow-on : length log < 2 ^ 64 → {t : Stand} → r ≡ Some t → Following b code log c₀ (i + 1) (Some t) c'
     follow-on small e = by_move small as_moved refl (sym e ∙ d.turn) d.counts d.kept
 
     -- a step that is not in the map
-    off-so : {v : spec.Move} {mv : Move} → MoveAs b v mv → move f.m code f.at q ≡ v → Off ≡ turn_of mv q → c' ≡ bumps_of mv c
+    off-so : {v : spec.Move} {mv : Maybe Move} → MoveAs b v mv → move f.m code f.at q ≡ v → None ≡ turn_of mv q → c' ≡ bumps_of mv c
         → (follow f.m code (steps log) ≡ record { place = i; counts = counts_of b f.E f.W }) × (c' ≡ c)
     off-so no_move e w k = (onto not_in_map e, k)
     off-so (goes_on p) e w k = never (cc)
     off-so (begins_with p) e w k = never (cc)
     off-so (takes_to o p) e w k = never (cc)
 
-    pub follow-off : r ≡ Off → Walked b code log c₀ c' i
+    pub follow-off : r ≡ None → Walked b code log c₀ c' i
     follow-off e =
         let k = off-so as_moved refl (sym e ∙ d.turn) d.counts in
         ends k.0 (k.1 ∙ f.counts)
@@ -314,7 +312,7 @@ module _ {b code log c₀ : List ℕ} {i : ℕ} {s : Stand} {c : List ℕ} (f : 
         ends : follow f.m code (steps log) ≡ record { place = i; counts = counts_of b f.E f.W } → c' ≡ over (as_eights (numbers (counts_of b f.E f.W))) c₀ → Walked b code log c₀ c' i
         ends = walked-so f.m f.held i (counts_of b f.E f.W)
 
-pub follow-ends : {b code log c₀ : List ℕ} {i : ℕ} {s : Stand} {c : List ℕ} → Following b code log c₀ i s c → length log / 8 ≤ i → Walked b code log c₀ c (length log / 8)
+pub follow-ends : {b code log c₀ : List ℕ} {i : ℕ} {s : Maybe Stand} {c : List ℕ} → Following b code log c₀ i s c → length log / 8 ≤ i → Walked b code log c₀ c (length log / 8)
 unfolding follow_from
 follow-ends {b} {code} {log} {i} f l =
     let n = length log / 8 in
@@ -324,5 +322,5 @@ follow-ends {b} {code} {log} {i} f l =
     ∙ ap (λ (x : ℕ). follow_from f.m code (drop x (steps log)) f.at x (counts_of b f.E f.W)) e
     ∙ ap (λ (xs : List ℕ). follow_from f.m code xs f.at n (counts_of b f.E f.W)) (steps-end n log)) f.counts
 
-pub follow-kept : {b code log c₀ : List ℕ} {i : ℕ} {s : Stand} {c : List ℕ} → Following b code log c₀ i s c → {q : ℕ} {c' : List ℕ} {r : Went} → Turned b code s q c c' r → length c' ≡ length c₀
+pub follow-kept : {b code log c₀ : List ℕ} {i : ℕ} {s : Maybe Stand} {c : List ℕ} → Following b code log c₀ i s c → {q : ℕ} {c' : List ℕ} {r : Maybe Stand} → Turned b code s q c c' r → length c' ≡ length c₀
 follow-kept f d = d.kept ∙ f.kept

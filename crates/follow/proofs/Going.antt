@@ -1,5 +1,6 @@
 -- Over the blocks of accepted bytes, and over the destinations of a block. Assumes nothing.
-use Rattle.std.proofs.Common.{◌≡◌, ℕ, zero, suc, ◌+◌, ◌-◌, ◌<◌, ◌≤◌, Bool, true, false, not, eqb, leb, List, [], ◌∷◌, ◌++◌, length, drop, sym, refl, ap, ◌∙◌, subst, arith, eq-eqb, eqb-true, leb-false}
+use Rattle.std.proofs.Common.{◌≡◌, ℕ, ◌+◌, ◌-◌, ◌*◌, ◌<◌, ◌≤◌, Bool, true, false, not, eqb, leb, List, [], ◌∷◌, ◌++◌, length, drop, sym, refl, ap, ◌∙◌, subst, arith, eq-eqb, eqb-true, le-leb, leb-false, Option, Some, None, Result, Ok, Err}
+use borrow.Author.Tests.{lt-leb}
 use native.Mathlib.Decide.{dec_le}
 use Rattle.spec.specs.Lists.{if, keep}
 use Rattle.spec.specs.Search.{dests}
@@ -15,23 +16,18 @@ use Rattle.theorems.proofs.ReaderPlaces.{never}
 use Rattle.reader.specs.Shapes.{behind_at, entry_at, item_of}
 use Rattle.reader.specs.Classes.{class_of}
 use Rattle.reader.specs.Walks.{walk_at, items_from, Walking, over, here}
-use Rattle.reader.specs.declared.dest.Destination.{Destination}
-use Rattle.reader.specs.declared.dest.Destination.TheVariants.{Missing as Nowhere, At}
 use Rattle.reader.specs.declared.entry.Entry.{Entry}
-use Rattle.reader.specs.declared.entry.Entry.TheVariants.{Head, Terminate, Jump, Jumpi, DynamicJump, DynamicJumpi, Way, Record, Unknown, Wrong, Cut}
-use Rattle.reader.specs.declared.class.Class.TheVariants.{Bad}
-use Rattle.reader.specs.declared.walk.Walk.{Walk}
-use Rattle.reader.specs.declared.walk.Walk.TheVariants.{Here, Over}
+use Rattle.reader.specs.declared.entry.Entry.TheVariants.{Head, Terminate, Jump, Jumpi, DynamicJump, DynamicJumpi, Way, Record}
+use Rattle.reader.specs.declared.entry.Fault.{Fault}
+use Rattle.reader.specs.declared.walk.Step.{Step}
 use Rattle.reader.proofs.Judging.{entry-cut, behind-whole}
 use Rattle.reader.proofs.Walked.{stepping, ended}
-use Rattle.follow.specs.Blocks.{finals_at, outs_at, seen_of, sides_in, named_by, Begins, out_of, SevenTo, next_seven, Leads}
+use Rattle.follow.specs.Blocks.{finals_at, outs_at, block_of, sides_in, named_by, Begins, way_of, SevenTo, next_seven, Leads}
+use Rattle.follow.specs.declared.block.Sides.{Sides}
+use Rattle.follow.specs.declared.block.Sides.TheVariants.{Zero, One, Two}
 use Rattle.follow.specs.declared.block.Named.{Named}
-use Rattle.follow.specs.declared.block.Seen.{Seen}
-use Rattle.follow.specs.declared.block.Seen.TheVariants.{Block as Block-seen, Other}
-use Rattle.follow.specs.declared.destination.Out.{Out}
-use Rattle.follow.specs.declared.destination.Out.TheVariants.{To as Out-to, Missing, No}
+use Rattle.follow.specs.declared.block.Block.{Block}
 use Rattle.follow.specs.declared.destination.Seven.{Seven}
-use Rattle.follow.specs.declared.destination.Seven.TheVariants.{To as Seven-to, Over as Sevens-over}
 
 -- ---- a walk stands within the bytes, and an entry has 6 bytes at least
 
@@ -39,18 +35,20 @@ pub inside : {b : List ℕ} {at : ℕ} → Walking b at → at ≤ length b
 inside (over z) = omega arith
 inside (here l n w) = omega arith
 
-pub far : {b : List ℕ} {at : ℕ} → Walking b at → {r : Walk} → r ≡ walk_at b at → {e : Entry} {to : ℕ} → r ≡ Here e to → at + 6 ≤ to
+pub far : {b : List ℕ} {at : ℕ} → Walking b at → {r : Option Step} → r ≡ walk_at b at → {s : Step} → r ≡ Some s → at + 6 ≤ s.behind
 unfolding walk_at
-far {b} {at} w {r} h {e} {to} q =
-    both (λ (x : Walk). r ≡ x → at + 6 ≤ to) (leb (length b) at)
-    (λ _ (k : r ≡ Over). never (cc))
-    (λ off k. by-walk w (leb-false (length b) at off) (cc)) h
+far {b} {at} w {r} h {s} q =
+    both (λ (x : Option Step). r ≡ x → at + 6 ≤ s.behind) (leb (length b) at)
+    (λ _ (k : r ≡ None). never (cc))
+    (λ off k.
+    let g : s ≡ record { entry = entry_at b at; behind = behind_at b at } = cc in
+    by-walk w (leb-false (length b) at off) (ap (λ (x : Step). x.behind) g)) h
   where
-    by_whole : (class_of (entry_at b at) ≡ Bad → ⊥) → Dec (Whole (drop at b)) → at + 6 ≤ behind_at b at
+    by_whole : (class_of (entry_at b at) ≡ None → ⊥) → Dec (Whole (drop at b)) → at + 6 ≤ behind_at b at
     by_whole n (yes x) = rw (behind-whole b at x) (omega arith)
     by_whole n (no m) = absurd (n (rw (entry-cut b at m)))
 
-    by-walk : Walking b at → at < length b → to ≡ behind_at b at → at + 6 ≤ to
+    by-walk : Walking b at → at < length b → s.behind ≡ behind_at b at → at + 6 ≤ s.behind
     by-walk (over z) l t = absurd (omega arith)
     by-walk (here m n v) l t = rw t (by_whole n (dec_le (6 + announced (drop at b)) (length (drop at b))))
 
@@ -90,92 +88,62 @@ ways-dests a (a_block b n ∷ is) = refl
 ways-dests a (a_record c r ∷ is) = refl
 ways-dests a (no_item ∷ is) = refl
 
--- the ways out of seen_in
-module _ {e : Entry} {s x : ℕ} where
-  pub seen-terminate : {k : ℕ} → e ≡ Terminate s x k → Block-seen s x 0 0 0 ≡ seen_of e
-  seen-terminate q = rw q
-
-  pub seen-jump : {t : ℕ} → e ≡ Jump s x t → Block-seen s x 1 t 0 ≡ seen_of e
-  seen-jump q = rw q
-
-  pub seen-jumpi : {t f : ℕ} → e ≡ Jumpi s x t f → Block-seen s x 2 t f ≡ seen_of e
-  seen-jumpi q = rw q
-
-  pub seen-dynamic_jump : {n : ℕ} → e ≡ DynamicJump s x n → Block-seen s x 0 0 0 ≡ seen_of e
-  seen-dynamic_jump q = rw q
-
-  pub seen-dynamic_jumpi : {f n : ℕ} → e ≡ DynamicJumpi s x f n → Block-seen s x 1 f 0 ≡ seen_of e
-  seen-dynamic_jumpi q = rw q
-
 -- the items begin with a block
-record Starts (is : List Item) (i : Item) (s x n p q : ℕ) : Type 0 where
+record Starts (is : List Item) (i : Item) (s x : ℕ) (l : Sides) : Type 0 where
   final : Final
   first : finals_in (i ∷ is) ≡ final ∷ finals_in is
   start : s ≡ starts_at final
   end : x ≡ final.block.end
-  named : distinct (sides_in n p q ++ dests (ways 0 is)) ≡ outgoing final
-  few : n ≤ 2
+  named : distinct (sides_in l ++ dests (ways 0 is)) ≡ outgoing final
 
-abbrev SeenIs : List Item → Item → Seen → Type 0
-SeenIs is i (Block-seen s x n p q) = Starts is i s x n p q
-SeenIs is i Other = finals_in (i ∷ is) ≡ finals_in is
+-- or with another entry
+abbrev HereIs : List Item → Item → Option Block → Type 0
+HereIs is i (Some k) = Starts is i k.start k.end k.named.sides
+HereIs is i None = finals_in (i ∷ is) ≡ finals_in is
 
-seen-is : (b : List ℕ) (is : List Item) (e : Entry) → SeenIs is (item_of b e) (seen_of e)
+here-is : (b : List ℕ) (is : List Item) (e : Result Entry Fault) (own at : ℕ) → HereIs is (item_of b e) (block_of e own at)
 unfolding finals_in
-seen-is b is (Terminate s x ok) =
-    record { final = record { block = block s s x (terminate (eqb ok 1)); entries = ways s is }; first = refl; start = refl; end = refl; named = ap (λ (l : List ℕ). distinct l) (sym (ways-dests s is)); few = omega arith }
-seen-is b is (Jump s x t) =
-    record { final = record { block = block s s x (jump t); entries = ways s is }; first = refl; start = refl; end = refl; named = ap (λ (l : List ℕ). distinct (t ∷ l)) (sym (ways-dests s is)); few = omega arith }
-seen-is b is (Jumpi s x t f) =
+here-is b is (Ok (Terminate s x ok)) own at =
+    record { final = record { block = block s s x (terminate (eqb ok 1)); entries = ways s is }; first = refl; start = refl; end = refl; named = ap (λ (l : List ℕ). distinct l) (sym (ways-dests s is)) }
+here-is b is (Ok (Jump s x t)) own at =
+    record { final = record { block = block s s x (jump t); entries = ways s is }; first = refl; start = refl; end = refl; named = ap (λ (l : List ℕ). distinct (t ∷ l)) (sym (ways-dests s is)) }
+here-is b is (Ok (Jumpi s x t f)) own at =
     record {
       final = record { block = block s s x (jumpi t f); entries = ways s is };
       first = refl;
       start = refl;
       end = refl;
       named = distinct-sides t f (dests (ways 0 is)) ∙ ap (λ (l : List ℕ). distinct (if (eqb t f) (t ∷ []) (t ∷ f ∷ []) ++ l)) (sym (ways-dests s is));
-      few = omega arith;
     }
-seen-is b is (DynamicJump s x n) =
-    record { final = record { block = block s s x dynamic_jump; entries = ways s is }; first = refl; start = refl; end = refl; named = ap (λ (l : List ℕ). distinct l) (sym (ways-dests s is)); few = omega arith }
-seen-is b is (DynamicJumpi s x f n) =
-    record { final = record { block = block s s x (dynamic_jumpi f); entries = ways s is }; first = refl; start = refl; end = refl; named = ap (λ (l : List ℕ). distinct (f ∷ l)) (sym (ways-dests s is)); few = omega arith }
-seen-is b is (Head z n m y) = refl
-seen-is b is (Way t p n) = refl
-seen-is b is (Record s t f v p n) = refl
-seen-is b is Unknown = refl
-seen-is b is Wrong = refl
-seen-is b is Cut = refl
+here-is b is (Ok (DynamicJump s x n)) own at =
+    record { final = record { block = block s s x dynamic_jump; entries = ways s is }; first = refl; start = refl; end = refl; named = ap (λ (l : List ℕ). distinct l) (sym (ways-dests s is)) }
+here-is b is (Ok (DynamicJumpi s x f n)) own at =
+    record { final = record { block = block s s x (dynamic_jumpi f); entries = ways s is }; first = refl; start = refl; end = refl; named = ap (λ (l : List ℕ). distinct (f ∷ l)) (sym (ways-dests s is)) }
+here-is b is (Ok (Head z n m y)) own at = refl
+here-is b is (Ok (Way t p n)) own at = refl
+here-is b is (Ok (Record s t v p n)) own at = refl
+here-is b is (Err fault) own at = refl
 
-module _ {b : List ℕ} {at : ℕ} (w : Walking b at) {r : Walk} (h : r ≡ walk_at b at) where
-  module _ {e : Entry} {to : ℕ} (q : r ≡ Here e to) where
-    pub walks_on : Walking b to
-    walks_on = (stepping w h q).walking
+-- a block says where it stands, and where its destinations do
+own-in : Option Block → ℕ
+own-in (Some k) = k.own
+own-in None = 0
 
-    pub goes-less : length b - to < length b - at
-    goes-less = let s = stepping w h q in omega arith
+behind-in : Option Block → ℕ
+behind-in (Some k) = k.named.at
+behind-in None = 0
 
-    pub block-other : {v : Seen} → v ≡ seen_of e → v ≡ Other → finals_at b at ≡ finals_at b to
-    unfolding finals_at
-    block-other k z = ap finals_in (stepping w h q).item ∙ subst (SeenIs (items_from b to) (item_of b e)) (sym k ∙ z) (seen-is b (items_from b to) e)
-
-    pub block-begins : {v : Seen} → v ≡ seen_of e → {s x n f g : ℕ} → v ≡ Block-seen s x n f g
-        → Begins b at (record { start = s; end = x; named = record { many = n; first = f; second = g; at = to }; own = at })
-    unfolding finals_at outs_at named_by
-    block-begins k z =
-        let t = subst (SeenIs (items_from b to) (item_of b e)) (sym k ∙ z) (seen-is b (items_from b to) e) in
-        record {
-          final = t.final;
-          is = record { start = t.start; end = t.end; named = t.named; few = t.few; walking = (stepping w h q).walking };
-          here = ap finals_in (stepping w h q).item ∙ t.first;
-          on = (stepping w h q).on;
-          own_here = ap finals_in (stepping w h q).item ∙ t.first;
-          own_walking = w;
-          own_on = (stepping w h q).on;
-        }
-
-  pub block-over : r ≡ Over → finals_at b at ≡ []
-  unfolding finals_at finals_in
-  block-over q = ap finals_in (ended w h q)
+stands-at : (e : Result Entry Fault) (own at : ℕ) {k : Block} → block_of e own at ≡ Some k → (k.own ≡ own) × (k.named.at ≡ at)
+unfolding own-in behind-in
+stands-at (Ok (Terminate s x ok)) own at q = (sym (ap own-in q), sym (ap behind-in q))
+stands-at (Ok (Jump s x t)) own at q = (sym (ap own-in q), sym (ap behind-in q))
+stands-at (Ok (Jumpi s x t f)) own at q = (sym (ap own-in q), sym (ap behind-in q))
+stands-at (Ok (DynamicJump s x n)) own at q = (sym (ap own-in q), sym (ap behind-in q))
+stands-at (Ok (DynamicJumpi s x f n)) own at q = (sym (ap own-in q), sym (ap behind-in q))
+stands-at (Ok (Head z n m y)) own at q = never (cc)
+stands-at (Ok (Way t p n)) own at q = never (cc)
+stands-at (Ok (Record s t v p n)) own at q = never (cc)
+stands-at (Err fault) own at q = never (cc)
 
 -- the loop over entries: what is left begins where the whole does
 pub record BlockFrom (b : List ℕ) (from at : ℕ) : Type 0 where
@@ -186,53 +154,69 @@ pub record BlockFrom (b : List ℕ) (from at : ℕ) : Type 0 where
 pub block_start : {b : List ℕ} {from : ℕ} → Walking b from → BlockFrom b from from
 block_start w = record { walking = w; same = refl; on = omega arith }
 
-module _ {b : List ℕ} {from at : ℕ} (i : BlockFrom b from at) {r : Walk} (h : r ≡ walk_at b at) where
-  pub block_on : {e : Entry} {to : ℕ} → r ≡ Here e to → {v : Seen} → v ≡ seen_of e → v ≡ Other → BlockFrom b from to
-  block_on q k z =
-      let s = stepping i.walking h q in
-      record { walking = s.walking; same = i.same ∙ block-other i.walking h q k z; on = omega arith }
+module _ {b : List ℕ} {from at : ℕ} (i : BlockFrom b from at) {r : Option Step} (h : r ≡ walk_at b at) where
+  module _ {s : Step} (q : r ≡ Some s) where
+    abbrev e : Result Entry Fault
+    e = s.entry
 
-  pub block-less : {e : Entry} {to : ℕ} → r ≡ Here e to → length b - to < length b - at
-  block-less q = goes-less i.walking h q
+    abbrev to : ℕ
+    to = s.behind
 
-  pub block_here : {e : Entry} {to : ℕ} → r ≡ Here e to → {v : Seen} → v ≡ seen_of e → {s x n f g : ℕ} → v ≡ Block-seen s x n f g
-      → Begins b from (record { start = s; end = x; named = record { many = n; first = f; second = g; at = to }; own = at })
-  block_here q k z =
-      let t = block-begins i.walking h q k z in
-      record { final = t.final; is = t.is; here = i.same ∙ t.here; on = omega arith; own_here = t.own_here; own_walking = t.own_walking; own_on = t.own_on }
+    pub block-less : length b - to < length b - at
+    block-less = let s = stepping i.walking h q in omega arith
 
-  pub block_none : r ≡ Over → finals_at b from ≡ []
-  block_none q = i.same ∙ block-over i.walking h q
+    module _ {v : Option Block} (k : v ≡ block_of e at to) where
+      pub block_on : v ≡ None → BlockFrom b from to
+      unfolding finals_at
+      block_on z =
+          let s = stepping i.walking h q in
+          record {
+            walking = s.walking;
+            same = i.same ∙ ap finals_in s.item ∙ subst (HereIs (items_from b to) (item_of b e)) (sym k ∙ z) (here-is b (items_from b to) e at to);
+            on = omega arith;
+          }
+
+      pub block_here : {x : Block} → v ≡ Some x → Begins b from x
+      unfolding finals_at outs_at named_by
+      block_here {x} z =
+          let s = stepping i.walking h q in
+          let t : Starts (items_from b to) (item_of b e) x.start x.end x.named.sides = subst (HereIs (items_from b to) (item_of b e)) (sym k ∙ z) (here-is b (items_from b to) e at to) in
+          let a = stands-at e at to (sym k ∙ z) in
+          let first : finals_at b at ≡ t.final ∷ finals_at b x.named.at = ap finals_in s.item ∙ t.first ∙ ap (λ (n : ℕ). t.final ∷ finals_in (items_from b n)) (sym a.1) in
+          record {
+            final = t.final;
+            is = record { start = t.start; end = t.end; named = ap (λ (n : ℕ). distinct (sides_in x.named.sides ++ dests (ways 0 (items_from b n)))) a.1 ∙ t.named; walking = subst (Walking b) (sym a.1) s.walking };
+            here = i.same ∙ first;
+            on = omega (arith, a.1, i.on, s.on);
+            own_here = subst (λ (n : ℕ). finals_at b n ≡ t.final ∷ finals_at b x.named.at) (sym a.0) first;
+            own_walking = subst (Walking b) (sym a.0) i.walking;
+            own_on = omega (arith, a.0, a.1, s.on);
+          }
+
+  pub block_none : r ≡ None → finals_at b from ≡ []
+  unfolding finals_at finals_in
+  block_none q = i.same ∙ ap finals_in (ended i.walking h q)
 
 -- ---- destinations
 
--- the ways out of out_of
-module _ {e : Entry} {d : Destination} {p n : ℕ} (q : e ≡ Way d p n) where
-  pub out-missing : d ≡ Nowhere → Missing ≡ out_of e
-  out-missing z = rw (q, z)
+-- the items begin with a 7, or with another entry
+abbrev WayIs : List Item → Item → Option (Option ℕ) → Type 0
+WayIs is i (Some (Some t)) = dests (ways 0 (i ∷ is)) ≡ t ∷ dests (ways 0 is)
+WayIs is i (Some None) = dests (ways 0 (i ∷ is)) ≡ dests (ways 0 is)
+WayIs is i None = dests (ways 0 (i ∷ is)) ≡ []
 
-  pub out-to : {t : ℕ} → d ≡ At t → Out-to t ≡ out_of e
-  out-to z = rw (q, z)
-
-abbrev OutIs : List Item → Item → Out → Type 0
-OutIs is i (Out-to t) = dests (ways 0 (i ∷ is)) ≡ t ∷ dests (ways 0 is)
-OutIs is i Missing = dests (ways 0 (i ∷ is)) ≡ dests (ways 0 is)
-OutIs is i No = dests (ways 0 (i ∷ is)) ≡ []
-
-out_is : (b : List ℕ) (is : List Item) (e : Entry) → OutIs is (item_of b e) (out_of e)
+way_is : (b : List ℕ) (is : List Item) (e : Result Entry Fault) → WayIs is (item_of b e) (way_of e)
 unfolding ways
-out_is b is (Way Nowhere p n) = refl
-out_is b is (Way (At t) p n) = refl
-out_is b is (Terminate s x ok) = refl
-out_is b is (Jump s x t) = refl
-out_is b is (Jumpi s x t f) = refl
-out_is b is (DynamicJump s x n) = refl
-out_is b is (DynamicJumpi s x f n) = refl
-out_is b is (Head z n m y) = refl
-out_is b is (Record s t f v p n) = refl
-out_is b is Unknown = refl
-out_is b is Wrong = refl
-out_is b is Cut = refl
+way_is b is (Ok (Way None p n)) = refl
+way_is b is (Ok (Way (Some t) p n)) = refl
+way_is b is (Ok (Terminate s x ok)) = refl
+way_is b is (Ok (Jump s x t)) = refl
+way_is b is (Ok (Jumpi s x t f)) = refl
+way_is b is (Ok (DynamicJump s x n)) = refl
+way_is b is (Ok (DynamicJumpi s x f n)) = refl
+way_is b is (Ok (Head z n m y)) = refl
+way_is b is (Ok (Record s t v p n)) = refl
+way_is b is (Err fault) = refl
 
 pub record SevensFrom (b : List ℕ) (from at : ℕ) : Type 0 where
   pub walking : Walking b at
@@ -242,55 +226,72 @@ pub record SevensFrom (b : List ℕ) (from at : ℕ) : Type 0 where
 pub seven-start : {b : List ℕ} {from : ℕ} → Walking b from → SevensFrom b from from
 seven-start w = record { walking = w; same = refl; on = omega arith }
 
-module _ {b : List ℕ} {from at : ℕ} (i : SevensFrom b from at) {r : Walk} (h : r ≡ walk_at b at) where
-  module _ {e : Entry} {to : ℕ} (q : r ≡ Here e to) {v : Out} (k : v ≡ out_of e) where
-    step : {u : Out} → v ≡ u → OutIs (items_from b to) (item_of b e) u
-    step z = subst (OutIs (items_from b to) (item_of b e)) (sym k ∙ z) (out_is b (items_from b to) e)
+module _ {b : List ℕ} {from at : ℕ} (i : SevensFrom b from at) {r : Option Step} (h : r ≡ walk_at b at) where
+  module _ {s : Step} (q : r ≡ Some s) {v : Option (Option ℕ)} (k : v ≡ way_of s.entry) where
+    step : {u : Option (Option ℕ)} → v ≡ u → WayIs (items_from b s.behind) (item_of b s.entry) u
+    step z = subst (WayIs (items_from b s.behind) (item_of b s.entry)) (sym k ∙ z) (way_is b (items_from b s.behind) s.entry)
 
-    items-are : outs_at b at ≡ dests (ways 0 (item_of b e ∷ items_from b to))
+    items-are : outs_at b at ≡ dests (ways 0 (item_of b s.entry ∷ items_from b s.behind))
     unfolding outs_at
     items-are = ap (λ (l : List Item). dests (ways 0 l)) (stepping i.walking h q).item
 
-    pub seven-to : {t : ℕ} → v ≡ Out-to t → SevenTo b from t to
+    pub seven-to : {t : ℕ} → v ≡ Some (Some t) → SevenTo b from t s.behind
     unfolding outs_at
-    seven-to z = record { is = i.same ∙ items-are ∙ step z; walking = (stepping i.walking h q).walking; on = omega (arith, far i.walking h q) }
+    seven-to z = record { is = i.same ∙ items-are ∙ step z; walking = (stepping i.walking h q).walking; on = omega (arith, i.on, far i.walking h q) }
 
-    pub seven-on : v ≡ Missing → SevensFrom b from to
+    pub seven-on : v ≡ Some None → SevensFrom b from s.behind
     unfolding outs_at
-    seven-on z = record { walking = (stepping i.walking h q).walking; same = i.same ∙ items-are ∙ step z; on = omega (arith, far i.walking h q) }
+    seven-on z = record { walking = (stepping i.walking h q).walking; same = i.same ∙ items-are ∙ step z; on = omega (arith, i.on, far i.walking h q) }
 
-    pub seven-no : v ≡ No → outs_at b from ≡ []
+    pub seven-no : v ≡ None → outs_at b from ≡ []
     seven-no z = i.same ∙ items-are ∙ step z
 
-    pub seven-less : length b - to < length b - at
-    seven-less = goes-less i.walking h q
+    pub seven-less : length b - s.behind < length b - at
+    seven-less = let t = stepping i.walking h q in omega arith
 
-  pub seven-over : r ≡ Over → outs_at b from ≡ []
+  pub seven-over : r ≡ None → outs_at b from ≡ []
   unfolding outs_at ways
   seven-over q = i.same ∙ ap (λ (l : List Item). dests (ways 0 l)) (ended i.walking h q)
 
+-- each takes 6 bytes at least
+walk-over : (b : List ℕ) {at : ℕ} → at ≡ length b → None ≡ walk_at b at
+unfolding walk_at
+walk-over b {at} z = sym (if-true (leb (length b) at) _ _ (le-leb (length b) at (omega arith)))
+
+walk-here : (b : List ℕ) {at : ℕ} → at < length b → Some (record { entry = entry_at b at; behind = behind_at b at }) ≡ walk_at b at
+unfolding walk_at
+walk-here b {at} l = sym (if-false (leb (length b) at) _ _ (lt-leb (length b) at l))
+
+pub few-outs : {b : List ℕ} {at : ℕ} → Walking b at → 6 * length (outs_at b at) + at ≤ length b
+unfolding outs_at ways
+few-outs {b} {at} (over z) = rw (ended (over z) (walk-over b z) refl) (omega arith)
+few-outs {b} {at} (here l n w) =
+    let s = stepping (here l n w) (walk-here b l) refl in
+    let f = far (here l n w) (walk-here b l) refl in
+    rw (s.item) (by-way (few-outs w) f (way_of (entry_at b at)) (way_is b (items_from b (behind_at b at)) (entry_at b at)))
+  where
+    by-way : 6 * length (dests (ways 0 (items_from b (behind_at b at)))) + behind_at b at ≤ length b → at + 6 ≤ behind_at b at
+        → (v : Option (Option ℕ)) → WayIs (items_from b (behind_at b at)) (item_of b (entry_at b at)) v → 6 * length (dests (ways 0 (item_of b (entry_at b at) ∷ items_from b (behind_at b at)))) + at ≤ length b
+    by-way g f (Some (Some t)) k = rw k (omega arith)
+    by-way g f (Some None) k = rw k (omega arith)
+    by-way g f None k = rw k (omega arith)
+
 module _ (b : List ℕ) (c : Named) where
-  pub dest-seven : {r : Seven} → next_seven b c.at r → c.many ≡ 0 → {to behind : ℕ} → r ≡ Seven-to to behind → Leads b c to (record { many = 0; first = 0; second = 0; at = behind })
+  pub dest-two : Walking b c.at → {x y : ℕ} → c.sides ≡ Two x y → Leads b c x (record { sides = One y; at = c.at })
   unfolding named_by
-  dest-seven k z q =
-      let s = subst (next_seven b c.at) q k in
-      record {
-        is = ap (λ (n : ℕ). sides_in n c.first c.second ++ outs_at b c.at) z ∙ s.is;
-        walking = s.walking;
-        few = omega arith;
-        spent = omega (arith, s.on);
-      }
+  dest-two w e = record { is = ap (λ (l : Sides). sides_in l ++ outs_at b c.at) e; walking = w; spent = rw e (omega arith) }
 
-  pub dest-none : {r : Seven} → next_seven b c.at r → c.many ≡ 0 → r ≡ Sevens-over → named_by b c ≡ []
+  pub dest-one : Walking b c.at → {x : ℕ} → c.sides ≡ One x → Leads b c x (record { sides = Zero; at = c.at })
   unfolding named_by
-  dest-none k z q = ap (λ (n : ℕ). sides_in n c.first c.second ++ outs_at b c.at) z ∙ subst (next_seven b c.at) q k
+  dest-one w e = record { is = ap (λ (l : Sides). sides_in l ++ outs_at b c.at) e; walking = w; spent = rw e (omega arith) }
 
-  pub dest-side : Walking b c.at → c.many ≤ 2 → (c.many ≡ 0 → ⊥) → Leads b c c.first (record { many = c.many - 1; first = c.second; second = 0; at = c.at })
-  unfolding named_by
-  dest-side w few n = record { is = by-many c.many few n; walking = w; few = omega arith; spent = omega arith }
-    where
-      by-many : (m : ℕ) → m ≤ 2 → (m ≡ 0 → ⊥) → sides_in m c.first c.second ++ outs_at b c.at ≡ c.first ∷ (sides_in (m - 1) c.second 0 ++ outs_at b c.at)
-      by-many zero l n = absurd (n refl)
-      by-many (suc zero) l n = refl
-      by-many (suc (suc zero)) l n = refl
-      by-many (suc (suc (suc m))) l n = absurd (omega arith)
+  module _ (e : c.sides ≡ Zero) {r : Option Seven} (h : next_seven b c.at r) where
+    pub dest-seven : {s : Seven} → r ≡ Some s → Leads b c s.to (record { sides = Zero; at = s.behind })
+    unfolding named_by
+    dest-seven {s} q =
+        let t : SevenTo b c.at s.to s.behind = subst (next_seven b c.at) q h in
+        record { is = ap (λ (l : Sides). sides_in l ++ outs_at b c.at) e ∙ t.is; walking = t.walking; spent = rw e (omega (arith, t.on)) }
+
+    pub dest-none : r ≡ None → named_by b c ≡ []
+    unfolding named_by
+    dest-none q = ap (λ (l : Sides). sides_in l ++ outs_at b c.at) e ∙ subst (next_seven b c.at) q h

@@ -1,5 +1,5 @@
 -- The index's rows are right, block by block. Assumes nothing.
-use Rattle.std.proofs.Common.{◌≡◌, ℕ, ◌+◌, ◌-◌, ◌*◌, ◌^◌, ◌<◌, ◌≤◌, Bool, true, false, eqb, List, [], ◌∷◌, ◌++◌, length, replicate, sym, refl, ap, ◌∙◌, subst, arith, w64, Fits, eqb-true}
+use Rattle.std.proofs.Common.{◌≡◌, ℕ, ◌+◌, ◌-◌, ◌*◌, ◌^◌, ◌<◌, ◌≤◌, Bool, true, false, eqb, List, [], ◌∷◌, ◌++◌, length, replicate, sym, refl, ap, ◌∙◌, subst, arith, w64, Fits, eqb-true, Option as Maybe, Some, None, Bor}
 use native.Mathlib.Decide.{dec_lt}
 use mathlib.Core.Option.{none, some}
 use borrow.Author.Tests.{eqb-false}
@@ -16,14 +16,13 @@ use Rattle.lent.specs.Bytes.{num_at, Stored}
 use Rattle.lent.proofs.Numbers.{num-zeros}
 use Rattle.lent.proofs.Stored.{kept-num, read_back}
 use Rattle.reader.specs.Walks.{Walking}
-use Rattle.follow.specs.Blocks.{finals_at, Begins, next_block}
+use Rattle.follow.specs.Blocks.{finals_at, Begins, next_block, GivesBlock}
 use Rattle.follow.specs.Finding.{Ready, Spot, RowIs, Rows, RowPut, Tells, Table, Filled}
 use Rattle.follow.specs.Edges.{Owned, Linked}
 use Rattle.follow.specs.declared.block.Block.{Block}
-use Rattle.follow.specs.declared.block.Next.{Next}
-use Rattle.follow.specs.declared.block.Next.TheVariants.{Block as Block-next, Over as Blocks-over}
+use Rattle.follow.specs.declared.block.Blocks.{Blocks}
 use Rattle.follow.proofs.Going.{inside}
-use Rattle.follow.proofs.Passing.{Passing, pass-ready, pass_on, pass-sum, pass-less, pass-walking, pass-few, its-block, split-here, same-slot, starting-append, starting-nil, starting-here, starting-later}
+use Rattle.follow.proofs.Passing.{Passing, pass_on, pass-sum, pass-walking, its-block, split-here, found-here, same-slot, slots-none, ready-walks, starting-append, starting-nil, starting-here, starting-later}
 use Rattle.follow.proofs.Following.{held-rises}
 
 -- ---- the first of blocks that starts at an address
@@ -43,15 +42,6 @@ rising_none (x ∷ xs) f ys (one_more l r) =
     let low = above (xs ++ f ∷ ys) r f (in_right xs here) in
     starting-later (starts_at f) x xs (λ e. omega arith) ∙ rising_none xs f ys r
 
--- ---- the last block's start
-
-module _ (b : List ℕ) (at : ℕ) {r : Next} (h : next_block b at r) {k : Block} (z : r ≡ Block-next k) where
-  pub last_on : Walking b k.named.at
-  last_on = (subst (next_block b at) z h).is.walking
-
-  pub last_less : length b - k.named.at < length b - at
-  last_less = omega (arith, (subst (next_block b at) z h).on, inside last_on)
-
 -- ---- a row
 
 pub put-row-is : {w w₁ w₂ : List ℕ} {start own slot : ℕ} → Stored 8 w (16 * start) (little 8 (own + 1)) w₁ → Stored 8 w₁ (16 * start + 8) (little 8 slot) w₂ → own + 1 < 2 ^ 64 → slot < 2 ^ 64
@@ -66,16 +56,17 @@ put-row-is {start} s t l m =
 
 -- ---- the loop
 
-pub record Filling (b work : List ℕ) (rows at slot : ℕ) (w : List ℕ) : Type 0 where
-  pub passing : Passing b at slot
+pub record Filling (b work : List ℕ) (rows : ℕ) (s : Blocks) (slot : ℕ) (w : List ℕ) : Type 0 where
+  pub passing : Passing b s slot
   pub filled : Rows b passing.before w rows
   pub table : Table b w rows
   pub kept : length w ≡ length work
 
-pub fill_start : {b work : List ℕ} {rows : ℕ} → Ready b → work ≡ replicate (length work) 0 → 16 * rows ≤ length work → Filling b work rows 0 0 work
-fill_start {b} {work} {rows} y z l =
-    record {
-      passing = pass-ready y;
+pub fill_start : {map : Bor (List ℕ)} {work : List ℕ} {rows : ℕ} {s : Blocks} → s ≡ record { map = map; at = 0 } → Ready map.now → work ≡ replicate (length work) 0 → 16 * rows ≤ length work
+    → Filling map.now work rows s 0 work
+fill_start {work} {rows} e y z l =
+    rw e (record {
+      passing = record { same = refl; before = []; is = refl; count = sym slots-none; walking = ready-walks y };
       filled = record {
         fits = l;
         row = λ q _. record { empty = λ e. starting-nil q; full = λ n. absurd (n (nought (16 * q))) };
@@ -83,14 +74,14 @@ fill_start {b} {work} {rows} y z l =
       };
       table = record { fits = l; entry = λ i. record { so = λ slot n e _. absurd (omega (arith, nought (16 * rows + 24 * i))) } };
       kept = refl;
-    }
+    })
   where
     nought : (i : ℕ) → num_at 8 work i ≡ 0
     nought i = ap (λ (x : List ℕ). num_at 8 x i) z ∙ num-zeros 8 (length work) i
 
 -- no row, no index
-pub fill_none : {b work : List ℕ} → Filled b work work 0
-fill_none = record { index = record { fits = omega arith; built = λ n. absurd (n refl); edges = λ n. absurd (n refl) }; kept = refl }
+pub fill_none : {b work : List ℕ} → Filled b work work None
+fill_none = record { index = record { built = λ n. never (cc); edges = λ n. never (cc) }; kept = refl }
 
 -- a row in bytes that are the same there
 row_moved : {b : List ℕ} {fs : List Final} {w w' : List ℕ} {q : ℕ} → RowIs b fs w q
@@ -119,29 +110,33 @@ row-later {b} {fs} {w} {w'} {q} f r n e d =
           walking = s.walking;
         })
 
-module _ {b work : List ℕ} {rows at slot : ℕ} {w : List ℕ} (i : Filling b work rows at slot w) {r : Next} (h : next_block b at r) where
-  pub fill-ends : r ≡ Blocks-over → Filled b work w rows
-  fill-ends q = record { index = record { fits = i.table.fits; built = λ n. subst (λ (fs : List Final). Rows b fs w rows) (sym all) i.filled; edges = λ n. i.table }; kept = i.kept }
+module _ {b work : List ℕ} {rows : ℕ} {s : Blocks} {slot : ℕ} {w : List ℕ} (i : Filling b work rows s slot w) {r : Maybe Block} {t : Blocks} (h : GivesBlock s r t) where
+  pub fill-kept : length w ≡ length work
+  fill-kept = i.kept
+
+  pub fill-ends : r ≡ None → Filled b work w (Some rows)
+  fill-ends q =
+      record {
+        index = record {
+          built = λ {n} e. let m : rows ≡ n = cc in subst (λ (k : ℕ). Rows b (finals_at b 0) w k) m (subst (λ (fs : List Final). Rows b fs w rows) (sym all) i.filled);
+          edges = λ {n} e. let m : rows ≡ n = cc in subst (λ (k : ℕ). Table b w k) m i.table;
+        };
+        kept = i.kept;
+      }
     where
       nothing : (l : List Final) → l ++ [] ≡ l
       nothing [] = refl
       nothing (x ∷ l) = ap {B = List Final} (λ (k : List Final). x ∷ k) (nothing l)
 
       all : finals_at b 0 ≡ i.passing.before
-      all = i.passing.is ∙ ap (λ (l : List Final). i.passing.before ++ l) (subst (next_block b at) q h) ∙ nothing i.passing.before
+      all = i.passing.is ∙ ap (λ (l : List Final). i.passing.before ++ l) (subst (next_block b s.at) q (found-here i.passing h)) ∙ nothing i.passing.before
 
-  module _ {k : Block} (z : r ≡ Block-next k) where
-    pub fill-short : rows ≤ k.start → Filled b work w 0
-    fill-short l = record { index = record { fits = omega arith; built = λ n. absurd (n refl); edges = λ n. absurd (n refl) }; kept = i.kept }
-
-    pub fill-few : k.named.many ≤ 2
-    fill-few = pass-few i.passing h z
+  module _ {k : Block} (z : r ≡ Some k) where
+    pub fill-short : Filled b work w None
+    fill-short = record { index = record { built = λ n. never (cc); edges = λ n. never (cc) }; kept = i.kept }
 
     pub fill-walking : Walking b k.named.at
     fill-walking = pass-walking i.passing h z
-
-    pub fill-less : length b - k.named.at < length b - at
-    fill-less = pass-less i.passing h z
 
     pub fill-owned : Owned b (slot + 1) k.named
     fill-owned =
@@ -162,20 +157,20 @@ module _ {b work : List ℕ} {rows at slot : ℕ} {w : List ℕ} (i : Filling b 
       pub fill-fits : 16 * k.start + 16 ≤ length w
       fill-fits = omega (arith, i.filled.fits)
 
-      module _ {w₁ : List ℕ} (s : RowPut w k.start k.own slot w₁) where
+      module _ {w₁ : List ℕ} (put : RowPut w k.start k.own slot w₁) where
         -- the entries stand behind the rows
         pub fill-table : Table b w₁ rows
-        fill-table = record { fits = omega (arith, i.table.fits, s.kept); entry = λ j. moved (16 * rows + 24 * j) (omega arith) (i.table.entry j) }
+        fill-table = record { fits = omega (arith, i.table.fits, put.kept); entry = λ j. moved (16 * rows + 24 * j) (omega arith) (i.table.entry j) }
           where
             behind : (x : ℕ) → 16 * rows ≤ x → num_at 8 w₁ x ≡ num_at 8 w x
-            behind x g = s.apart x (λ u. omega arith)
+            behind x g = put.apart x (λ u. omega arith)
 
             moved : (x : ℕ) → 16 * rows ≤ x → Tells b w x → Tells b w₁ x
             moved x g y =
                 record { so = λ slot n e d. rw (behind (x + 8) (omega arith)) (y.so slot n (sym (behind x g) ∙ e) (sym (behind (x + 16) (omega arith)) ∙ d)) }
 
         module _ (y : Ready b) where
-          abbrev first : Begins b at k
+          abbrev first : Begins b s.at k
           first = its-block i.passing h z
 
           none_before : starting (starts_at first.final) i.passing.before ≡ none
@@ -184,7 +179,7 @@ module _ {b work : List ℕ} {rows at slot : ℕ} {w : List ℕ} (i : Filling b 
           row_new : RowIs b (i.passing.before ++ first.final ∷ []) w₁ k.start
           row_new =
               record {
-                empty = λ n. absurd (omega (arith, s.own_is));
+                empty = λ n. absurd (omega (arith, put.own_is));
                 full = λ _. subst (λ (x : ℕ). Spot b (i.passing.before ++ first.final ∷ []) k.start x (num_at 8 w₁ (16 * k.start + 8))) at-is
                     (record {
                       before = i.passing.before;
@@ -194,18 +189,18 @@ module _ {b work : List ℕ} {rows at slot : ℕ} {w : List ℕ} (i : Filling b 
                       here = first.own_here;
                       starts = ap (λ (a : ℕ). starting a (i.passing.before ++ first.final ∷ [])) first.is.start
                           ∙ starting-append (starts_at first.final) i.passing.before (first.final ∷ []) none_before ∙ starting-here (starts_at first.final) first.final [] refl;
-                      slot_is = s.slot_is ∙ i.passing.count;
+                      slot_is = put.slot_is ∙ i.passing.count;
                       walking = first.own_walking;
                     });
               }
             where
               at-is : k.own ≡ num_at 8 w₁ (16 * k.start) - 1
-              at-is = omega (arith, s.own_is)
+              at-is = omega (arith, put.own_is)
 
           row_old : (q : ℕ) → q < rows → (q ≡ k.start → ⊥) → RowIs b (i.passing.before ++ first.final ∷ []) w₁ q
           row_old q g n =
               row-later first.final (i.filled.row q g) (λ d. n (d ∙ sym first.is.start))
-              (s.apart (16 * q) (apart (dec_lt q k.start))) (s.apart (16 * q + 8) (apart-2 (dec_lt q k.start)))
+              (put.apart (16 * q) (apart (dec_lt q k.start))) (put.apart (16 * q + 8) (apart-2 (dec_lt q k.start)))
             where
               apart : Dec (q < k.start) → 16 * q < 16 * k.start + 16 → 16 * q + 8 ≤ 16 * k.start
               apart (yes x) _ = omega arith
@@ -215,10 +210,10 @@ module _ {b work : List ℕ} {rows at slot : ℕ} {w : List ℕ} (i : Filling b 
               apart-2 (yes x) _ = omega arith
               apart-2 (no x) u = absurd (n (omega arith))
 
-          pub fill_on : {m : ℕ} {w₂ : List ℕ} → Linked b w₁ rows k.named w₂ m → Filling b work rows k.named.at (slot + 1 + m) w₂
+          pub fill_on : {m : ℕ} {w₂ : List ℕ} → Linked b w₁ rows k.named w₂ m → Filling b work rows t (slot + 1 + m) w₂
           fill_on g =
               record {
-                passing = pass_on i.passing h z g.many;
+                passing = pass_on i.passing h z g.many refl;
                 filled = record {
                   fits = g.table.fits;
                   row = λ q f. row_moved (by-start q f (eqb q k.start) refl) (g.rows_kept (16 * q) (omega arith)) (g.rows_kept (16 * q + 8) (omega arith));
@@ -226,7 +221,7 @@ module _ {b work : List ℕ} {rows at slot : ℕ} {w : List ℕ} (i : Filling b 
                       ∙ starting-later q first.final [] (λ d. omega (arith, first.is.start)) ∙ starting-nil q;
                 };
                 table = g.table;
-                kept = g.kept ∙ s.kept ∙ i.kept;
+                kept = g.kept ∙ put.kept ∙ i.kept;
               }
             where
               by-start : (q : ℕ) → q < rows → (t : Bool) → eqb q k.start ≡ t → RowIs b (i.passing.before ++ first.final ∷ []) w₁ q

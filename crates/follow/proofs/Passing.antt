@@ -1,5 +1,5 @@
 -- Passing over the blocks: those before, and those from here on. Assumes nothing.
-use Rattle.std.proofs.Common.{◌≡◌, ℕ, suc, ◌+◌, ◌-◌, ◌*◌, ◌<◌, ◌≤◌, Bool, true, false, eqb, List, [], ◌∷◌, ◌++◌, length, sym, refl, ap, ◌∙◌, subst, append_assoc, arith, w64, Fits, eq-eqb, ne_eqb}
+use Rattle.std.proofs.Common.{◌≡◌, ℕ, suc, ◌+◌, ◌-◌, ◌*◌, ◌<◌, ◌≤◌, Bool, true, false, eqb, List, [], ◌∷◌, ◌++◌, length, sym, refl, ap, ◌∙◌, subst, append_assoc, arith, w64, Fits, eq-eqb, ne_eqb, Option, Some, None, SomeIff, Bor}
 use mathlib.Core.Option.{none, some}
 use Rattle.spec.specs.Lists.{if}
 use Rattle.spec.specs.Ending.{Final}
@@ -10,12 +10,12 @@ use Rattle.theorems.proofs.ReaderPlaces.{never}
 use Rattle.lent.specs.Bytes.{num_at, Holds}
 use Rattle.reader.specs.Walks.{Walking}
 use Rattle.reader.proofs.Walked.{begins}
-use Rattle.follow.specs.Blocks.{finals_at, named_by, Begins, next_block}
-use Rattle.follow.specs.Finding.{slots_of, Fitting, Ready, FoundAt, Spot, Indexed, Index}
+use Rattle.follow.specs.Blocks.{finals_at, named_by, Begins, next_block, CanGo, GivesBlock}
+use Rattle.follow.specs.Finding.{slots_of, Fitting, Ready, FoundAt, Spot, Indexed, Finds}
 use Rattle.follow.specs.declared.block.Block.{Block}
-use Rattle.follow.specs.declared.block.Next.{Next}
-use Rattle.follow.specs.declared.block.Next.TheVariants.{Block as Block-next, Over as Blocks-over}
-use Rattle.follow.proofs.Going.{inside}
+use Rattle.follow.specs.declared.block.Blocks.{Blocks}
+use Rattle.follow.specs.declared.find.Finder.{Finder}
+use Rattle.refusal.specs.declared.Refusal.TheVariants.{Counts}
 
 -- ---- counts of blocks one after the other
 
@@ -45,45 +45,43 @@ same-slot (x ∷ xs) (y ∷ ys) f g us vs e s =
 
 -- ---- the loop's state
 
-pub record Passing (b : List ℕ) (at n : ℕ) : Type 0 where
+pub record Passing (b : List ℕ) (s : Blocks) (n : ℕ) : Type 0 where
+  pub same : s.map.now ≡ b
   pub before : List Final
-  pub is : finals_at b 0 ≡ before ++ finals_at b at
+  pub is : finals_at b 0 ≡ before ++ finals_at b s.at
   pub count : n ≡ slots_of before
-  pub walking : Walking b at
+  pub walking : Walking b s.at
 
-abbrev pub pass-start : {b : List ℕ} → Walking b 0 → Passing b 0 0
-pass-start w = record { before = []; is = refl; count = sym slots-none; walking = w }
+pub pass-start : {map : Bor (List ℕ)} {s : Blocks} → s ≡ record { map = map; at = 0 } → Walking map.now 0 → Passing map.now s 0
+pass-start e w = rw e (record { same = refl; before = []; is = refl; count = sym slots-none; walking = w })
+
+pub go-start : {map : Bor (List ℕ)} {s : Blocks} → s ≡ record { map = map; at = 0 } → Walking map.now 0 → CanGo s
+go-start e w = rw e w
 
 pub ready-walks : {b : List ℕ} → Ready b → Walking b 0
 ready-walks r = (begins _ r.map r.held).walking
 
-abbrev pub pass-ready : {b : List ℕ} → Ready b → Passing b 0 0
-pass-ready r = pass-start (ready-walks r)
+module _ {b : List ℕ} {s : Blocks} {n : ℕ} (i : Passing b s n) {r : Option Block} {t : Blocks} (g : GivesBlock s r t) where
+  pub found-here : next_block b s.at r
+  found-here = subst (λ (m : List ℕ). next_block m s.at r) i.same g.here
 
-module _ {b : List ℕ} {at n : ℕ} (i : Passing b at n) {r : Next} (h : next_block b at r) where
-  pub pass_all : r ≡ Blocks-over → n ≡ slots_of (finals_at b 0)
+  pub pass_all : r ≡ None → n ≡ slots_of (finals_at b 0)
   pass_all q =
       i.count ∙ omega_zero
-      ∙ sym (ap slots_of i.is ∙ slots-append i.before (finals_at b at) ∙ ap (λ (l : List Final). slots_of i.before + slots_of l) (subst (next_block b at) q h) ∙ ap (λ (k : ℕ). slots_of i.before + k) slots-none)
+      ∙ sym (ap slots_of i.is ∙ slots-append i.before (finals_at b s.at) ∙ ap (λ (l : List Final). slots_of i.before + slots_of l) (subst (next_block b s.at) q found-here) ∙ ap (λ (k : ℕ). slots_of i.before + k) slots-none)
     where
       omega_zero : slots_of i.before ≡ slots_of i.before + 0
       omega_zero = omega arith
 
-  module _ {k : Block} (q : r ≡ Block-next k) where
-    pub its-block : Begins b at k
-    its-block = subst (next_block b at) q h
+  module _ {k : Block} (q : r ≡ Some k) where
+    pub its-block : Begins b s.at k
+    its-block = subst (next_block b s.at) q found-here
 
     pub split-here : finals_at b 0 ≡ i.before ++ its-block.final ∷ finals_at b k.named.at
     split-here = i.is ∙ ap (λ (l : List Final). i.before ++ l) its-block.here
 
     pub pass-walking : Walking b k.named.at
     pass-walking = its-block.is.walking
-
-    pub pass-few : k.named.many ≤ 2
-    pass-few = its-block.is.few
-
-    pub pass-less : length b - k.named.at < length b - at
-    pass-less = omega (arith, its-block.on, inside pass-walking)
 
     module _ {m : ℕ} (e : m ≡ length (distinct (named_by b k.named))) where
       pub wide : m ≡ length (outgoing its-block.final)
@@ -95,44 +93,39 @@ module _ {b : List ℕ} {at n : ℕ} (i : Passing b at n) {r : Next} (h : next_b
           let t = slots-first its-block.final (finals_at b k.named.at) in
           omega (arith, wide, i.count)
 
-      abbrev pub pass_on : Passing b k.named.at (n + 1 + m)
-      pass_on =
+      abbrev pub pass_on : {total : ℕ} → total ≡ n + 1 + m → Passing b t total
+      pass_on {total} z =
           record {
+            same = ap (λ (x : Bor (List ℕ)). x.now) g.same ∙ i.same;
             before = i.before ++ its-block.final ∷ [];
-            is = split-here ∙ sym (append_assoc i.before (its-block.final ∷ []) (finals_at b k.named.at));
+            is = subst (λ (a : ℕ). finals_at b 0 ≡ (i.before ++ its-block.final ∷ []) ++ finals_at b a) (sym (g.behind k q)) (split-here ∙ sym (append_assoc i.before (its-block.final ∷ []) (finals_at b k.named.at)));
             count = let s = slots-append i.before (its-block.final ∷ []) in let t = slots-first its-block.final [] in omega (arith, wide, i.count, slots-none);
-            walking = pass-walking;
+            walking = subst (Walking b) (sym (g.behind k q)) pass-walking;
           }
 
 -- ---- room_for
 
-pub record Rooming (b : List ℕ) (lent at n : ℕ) : Type 0 where
-  pub passing : Passing b at n
+pub record Rooming (b : List ℕ) (lent : ℕ) (s : Blocks) (n : ℕ) : Type 0 where
+  pub passing : Passing b s n
   pub low : n ≤ lent
 
-pub room-start : {b : List ℕ} {lent : ℕ} → Walking b 0 → Rooming b lent 0 0
-room-start w = record { passing = pass-start w; low = omega arith }
+pub room-start : {map : Bor (List ℕ)} {lent : ℕ} {s : Blocks} → s ≡ record { map = map; at = 0 } → Walking map.now 0 → Rooming map.now lent s 0
+room-start e w = record { passing = pass-start e w; low = omega arith }
 
-module _ {b : List ℕ} {lent at n : ℕ} (i : Rooming b lent at n) {r : Next} (h : next_block b at r) where
-  pub room_fits : r ≡ Blocks-over → Fitting lent (slots_of (finals_at b 0)) n
-  room_fits q = record { is = pass_all i.passing h q; fits = i.low }
+module _ {b : List ℕ} {lent : ℕ} {s : Blocks} {n : ℕ} (i : Rooming b lent s n) {r : Option Block} {t : Blocks} (g : GivesBlock s r t) where
+  pub room_fits : r ≡ None → Fitting lent (slots_of (finals_at b 0)) n
+  room_fits q = record { is = pass_all i.passing g q; fits = i.low }
 
-  module _ {k : Block} (q : r ≡ Block-next k) where
+  module _ {k : Block} (q : r ≡ Some k) where
     pub room-walking : Walking b k.named.at
-    room-walking = pass-walking i.passing h q
-
-    pub room-few : k.named.many ≤ 2
-    room-few = pass-few i.passing h q
-
-    pub room-less : length b - k.named.at < length b - at
-    room-less = pass-less i.passing h q
+    room-walking = pass-walking i.passing g q
 
     module _ {m : ℕ} (e : m ≡ length (distinct (named_by b k.named))) where
-      pub room_short : lent - n ≤ m → lent < slots_of (finals_at b 0)
-      room_short l = omega (arith, pass-sum i.passing h q e, i.low)
+      pub room_short : lent - n ≤ m → (Counts ≡ Counts) × (lent < slots_of (finals_at b 0))
+      room_short l = (refl, omega (arith, pass-sum i.passing g q e, i.low))
 
-      pub room-on : m < lent - n → Rooming b lent k.named.at (n + 1 + m)
-      room-on l = record { passing = pass_on i.passing h q e; low = omega arith }
+      pub room-on : m < lent - n → Rooming b lent t (n + (1 + m))
+      room-on l = record { passing = pass_on i.passing g q e (omega arith); low = omega arith }
 
 -- ---- scan
 
@@ -157,23 +150,23 @@ pub starting-later : (q : ℕ) (f : Final) (fs : List Final) → (q ≡ starts_a
 unfolding starting
 starting-later q f fs n = if-false (eqb q (starts_at f)) _ _ (ne_eqb q (starts_at f) n)
 
-pub record Scanning (b : List ℕ) (q at slot : ℕ) : Type 0 where
-  pub passing : Passing b at slot
+pub record Scanning (b : List ℕ) (q : ℕ) (s : Blocks) (slot : ℕ) : Type 0 where
+  pub passing : Passing b s slot
   pub none_yet : starting q passing.before ≡ none
 
-pub scan-start : {b : List ℕ} {q : ℕ} → Ready b → Scanning b q 0 0
-scan-start {q} r = record { passing = pass-ready r; none_yet = starting-nil q }
+pub scan-start : {map : Bor (List ℕ)} {q : ℕ} {s : Blocks} → s ≡ record { map = map; at = 0 } → Ready map.now → Scanning map.now q s 0
+scan-start {q} e r = rw e (record { passing = record { same = refl; before = []; is = refl; count = sym slots-none; walking = ready-walks r }; none_yet = starting-nil q })
 
-so_far : {b : List ℕ} {q at slot : ℕ} → Scanning b q at slot → starting q (finals_at b 0) ≡ starting q (finals_at b at)
-so_far {b} {q} {at} i = ap (starting q) i.passing.is ∙ starting-append q i.passing.before (finals_at b at) i.none_yet
+so_far : {b : List ℕ} {q : ℕ} {s : Blocks} {slot : ℕ} → Scanning b q s slot → starting q (finals_at b 0) ≡ starting q (finals_at b s.at)
+so_far {b} {q} {s} i = ap (starting q) i.passing.is ∙ starting-append q i.passing.before (finals_at b s.at) i.none_yet
 
-module _ {b : List ℕ} {q at slot : ℕ} (i : Scanning b q at slot) {r : Next} (h : next_block b at r) where
-  pub scan-none : r ≡ Blocks-over → starting q (finals_at b 0) ≡ none
-  scan-none z = so_far i ∙ ap (starting q) (subst (next_block b at) z h) ∙ starting-nil q
+module _ {b : List ℕ} {q : ℕ} {s : Blocks} {slot : ℕ} (i : Scanning b q s slot) {r : Option Block} {t : Blocks} (g : GivesBlock s r t) where
+  pub scan-none : r ≡ None → starting q (finals_at b 0) ≡ none
+  scan-none z = so_far i ∙ ap (starting q) (subst (next_block b s.at) z (found-here i.passing g)) ∙ starting-nil q
 
-  module _ {k : Block} (z : r ≡ Block-next k) where
-    abbrev first : Begins b at k
-    first = its-block i.passing h z
+  module _ {k : Block} (z : r ≡ Some k) where
+    abbrev first : Begins b s.at k
+    first = its-block i.passing g z
 
     pub scan-at : k.start ≡ q → FoundAt b q k slot
     scan-at e =
@@ -183,37 +176,38 @@ module _ {b : List ℕ} {q at slot : ℕ} (i : Scanning b q at slot) {r : Next} 
           placed = record {
             before = i.passing.before;
             after = finals_at b k.named.at;
-            is = split-here i.passing h z;
+            is = split-here i.passing g z;
             block = first.is;
             slot_is = i.passing.count;
           };
         }
 
     pub scan-walking : Walking b k.named.at
-    scan-walking = pass-walking i.passing h z
-
-    pub scan-few : k.named.many ≤ 2
-    scan-few = pass-few i.passing h z
-
-    pub scan-less : length b - k.named.at < length b - at
-    scan-less = pass-less i.passing h z
-
-    pub scan-one : Ready b → Fits w64 (slot + 1)
-    scan-one d = omega (arith, pass-sum i.passing h z refl, d.few)
+    scan-walking = pass-walking i.passing g z
 
     module _ {m : ℕ} (e : m ≡ length (distinct (named_by b k.named))) where
-      pub scan-sum : Ready b → Fits w64 (slot + 1 + m)
-      scan-sum d = omega (arith, pass-sum i.passing h z e, d.few)
+      pub scan-one : Ready b → Fits w64 (1 + m)
+      scan-one d = omega (arith, pass-sum i.passing g z e, d.few)
 
-      pub scan-on : (k.start ≡ q → ⊥) → Scanning b q k.named.at (slot + 1 + m)
+      pub scan-sum : Ready b → Fits w64 (slot + (1 + m))
+      scan-sum d = omega (arith, pass-sum i.passing g z e, d.few)
+
+      pub scan-on : (k.start ≡ q → ⊥) → Scanning b q t (slot + (1 + m))
       scan-on n =
           record {
-            passing = pass_on i.passing h z e;
+            passing = pass_on i.passing g z e (omega arith);
             none_yet = starting-append q i.passing.before (first.final ∷ []) i.none_yet
                 ∙ starting-later q first.final [] (λ y. n (first.is.start ∙ sym y)) ∙ starting-nil q;
           }
 
 -- ---- row, find
+
+-- one less, where there is one
+pub one-none : {a : ℕ} {r : Option ℕ} → SomeIff r (1 ≤ a) (a - 1) → r ≡ None → a ≡ 0
+one-none {a} {r} h e = let n : 1 ≤ a → ⊥ = subst (λ (o : Option ℕ). SomeIff o (1 ≤ a) (a - 1)) e h in omega arith
+
+pub one-some : {a : ℕ} {r : Option ℕ} → SomeIff r (1 ≤ a) (a - 1) → {own : ℕ} → r ≡ Some own → a ≡ own + 1
+one-some {a} {r} h {own} e = let s = subst (λ (o : Option ℕ). SomeIff o (1 ≤ a) (a - 1)) e h in omega (arith, s.0, s.1)
 
 module _ {b work : List ℕ} {rows q : ℕ} (x : Indexed b work rows) (l : q < rows) where
   pub row_fits : 16 * q + 8 ≤ length work
@@ -226,20 +220,20 @@ module _ {b work : List ℕ} {rows q : ℕ} (x : Indexed b work rows) (l : q < r
     pub row-none : a ≡ 0 → starting q (finals_at b 0) ≡ none
     row-none z = (x.row q l).empty (sym g.is ∙ z)
 
-    module _ (n : a ≡ 0 → ⊥) where
-      spot : Spot b (finals_at b 0) q (a - 1) (num_at 8 work (16 * q + 8))
-      spot = subst (λ (y : ℕ). Spot b (finals_at b 0) q (y - 1) (num_at 8 work (16 * q + 8))) (sym g.is) ((x.row q l).full (λ z. n (g.is ∙ z)))
+    module _ (own : ℕ) (n : a ≡ own + 1) where
+      spot : Spot b (finals_at b 0) q own (num_at 8 work (16 * q + 8))
+      spot = subst (λ (y : ℕ). Spot b (finals_at b 0) q y (num_at 8 work (16 * q + 8))) (omega (arith, g.is)) ((x.row q l).full (λ z. absurd (omega (arith, g.is))))
 
-      pub row-walking : Walking b (a - 1)
+      pub row-walking : Walking b own
       row-walking = spot.walking
 
-      module _ {r : Next} (h : next_block b (a - 1) r) where
-        pub row-over : r ≡ Blocks-over → starting q (finals_at b 0) ≡ none
-        row-over z = let e : [] ≡ spot.final ∷ spot.after = sym (subst (next_block b (a - 1)) z h) ∙ spot.here in never (cc)
+      module _ {r : Option Block} (h : next_block b own r) where
+        pub row-over : r ≡ None → starting q (finals_at b 0) ≡ none
+        row-over z = let e : [] ≡ spot.final ∷ spot.after = sym (subst (next_block b own) z h) ∙ spot.here in never (cc)
 
-        pub row_at : {k : Block} → r ≡ Block-next k → {s : ℕ} → Holds 8 work (16 * q + 8) s → FoundAt b q k s
+        pub row_at : {k : Block} → r ≡ Some k → {s : ℕ} → Holds 8 work (16 * q + 8) s → FoundAt b q k s
         row_at {k} z p =
-            let t : Begins b (a - 1) k = subst (next_block b (a - 1)) z h in
+            let t : Begins b own k = subst (next_block b own) z h in
             let same : t.final ∷ finals_at b k.named.at ≡ spot.final ∷ spot.after = sym t.here ∙ spot.here in
             let one : spot.final ≡ t.final = cc in
             record {
@@ -254,9 +248,9 @@ module _ {b work : List ℕ} {rows q : ℕ} (x : Indexed b work rows) (l : q < r
               };
             }
 
-module _ {b work : List ℕ} {rows : ℕ} (x : Index b work rows) (n : rows ≡ 0 → ⊥) where
-  pub find-index : Indexed b work rows
-  find-index = x.built n
+module _ {x : Finder} (f : Finds x) {rows : ℕ} (e : x.rows ≡ Some rows) where
+  pub find-index : Indexed x.map.now x.work.now rows
+  find-index = f.index.built e
 
-  pub find-beyond : {q : ℕ} → rows ≤ q → starting q (finals_at b 0) ≡ none
-  find-beyond {q} l = (x.built n).beyond q l
+  pub find-beyond : {q : ℕ} → rows ≤ q → starting q (finals_at x.map.now 0) ≡ none
+  find-beyond {q} l = find-index.beyond q l

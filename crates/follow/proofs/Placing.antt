@@ -1,21 +1,23 @@
 -- A destination's place among the distinct ones of a list, found from the front. Assumes nothing.
-use Rattle.std.proofs.Common.{◌≡◌, ℕ, zero, suc, ◌+◌, ◌-◌, ◌*◌, ◌^◌, ◌<◌, ◌≤◌, Bool, true, false, not, ◌&&◌, ◌||◌, eqb, List, [], ◌∷◌, ◌++◌, length, take, sym, refl, ap, ◌∙◌, subst, ap₂, append_assoc, arith, length-append, take_at, w64, Fits, eq-eqb, ne_eqb, eqb-true}
+use Rattle.std.proofs.Common.{◌≡◌, ℕ, zero, suc, ◌+◌, ◌-◌, ◌*◌, ◌^◌, ◌<◌, ◌≤◌, Bool, true, false, not, ◌||◌, eqb, List, [], ◌∷◌, ◌++◌, length, take, drop, sym, refl, ap, ◌∙◌, subst, ap₂, append_assoc, arith, length-append, take_at, drop_at, w64, Fits, eq-eqb, ne_eqb, eqb-true, Option, Some, None, Bor, cond, ltb, lt-ltb, le-ltb}
+use Rattle.std.specs.List.{position_or_len}
 use borrow.Author.Tests.{eqb-false}
 use Rattle.spec.specs.Lists.{if, keep, mem}
-use Rattle.spec.specs.Counting.{distinct}
+use Rattle.spec.specs.Counting.{count, distinct}
+use Rattle.spec.specs.Entries.{flag}
 use Rattle.laws.proofs.Branch.{both, if-true, if-false}
-use Rattle.laws.proofs.Members.{mem-in, in_mem}
+use Rattle.laws.proofs.Members.{In, here, mem-in, in_mem, in_right}
 use Rattle.theorems.proofs.ReaderPlaces.{never}
-use Rattle.theorems.proofs.DistinctOnes.{in-distinct}
+use Rattle.theorems.proofs.DistinctOnes.{in-distinct, distinct-once}
 use Rattle.reader.specs.Walks.{Walking}
-use Rattle.follow.specs.Blocks.{named_by, Leads, next_dest}
-use Rattle.follow.specs.Places.{fresh_in, PlaceOf, NoPlace, Asked, sought}
+use Rattle.follow.specs.Blocks.{outs_at, sides_in, named_by, many_in, Leads, next_dest}
+use Rattle.follow.specs.Places.{PlaceOf, place_in, CanChoose, none_passed, left_of, distinct_left}
+use Rattle.follow.specs.declared.block.Sides.{Sides}
+use Rattle.follow.specs.declared.block.Sides.TheVariants.{Zero, One, Two}
 use Rattle.follow.specs.declared.block.Named.{Named}
-use Rattle.follow.specs.declared.destination.Dest.{Dest}
-use Rattle.follow.specs.declared.destination.Dest.TheVariants.{To as Dest-to, Over as Dests-over}
-use Rattle.follow.specs.declared.place.Place.{Place}
-use Rattle.follow.specs.declared.place.Place.TheVariants.{At, Not}
-use Rattle.follow.proofs.Going.{inside}
+use Rattle.follow.specs.declared.destination.Lead.{Lead}
+use Rattle.follow.specs.declared.place.Distinct.{Distinct}
+use Rattle.follow.proofs.Going.{inside, few-outs}
 
 -- ---- the distinct ones of a list, by its front
 
@@ -99,178 +101,238 @@ mem-last q x (y ∷ xs) h n =
 
 -- ---- fresh
 
-pub record FreshFrom (b : List ℕ) (c : Named) (n d left : ℕ) (rest : Named) : Type 0 where
-  pub walking : Walking b rest.at
-  pub few : rest.many ≤ 2
-  pub same : mem d (take n (named_by b c)) ≡ mem d (take left (named_by b rest))
+-- what is left to look at says what the whole says
+pub record FreshFrom (d : ℕ) (whole : List ℕ) (left : ℕ) (ds : List ℕ) : Type 0 where
+  pub same : mem d whole ≡ mem d (take left ds)
 
-is-fresh : (b : List ℕ) (c : Named) (n d : ℕ) → mem d (take n (named_by b c)) ≡ false → 1 ≡ fresh_in b c n d
-is-fresh b c n d e = sym (if-false (mem d (take n (named_by b c))) 0 1 e)
+pub fresh_start : {d n left : ℕ} {ds es : List ℕ} → left ≡ n → es ≡ ds → FreshFrom d (take n ds) left es
+fresh_start {d} e q = record { same = ap₂ (λ (m : ℕ) (l : List ℕ). mem d (take m l)) (sym e) (sym q) }
 
-module _ {b : List ℕ} {c : Named} {n d : ℕ} where
-  pub fresh_start : Walking b c.at → c.many ≤ 2 → FreshFrom b c n d n c
-  fresh_start w l = record { walking = w; few = l; same = refl }
+module _ {d : ℕ} {whole : List ℕ} {left : ℕ} {ds : List ℕ} (i : FreshFrom d whole left ds) where
+  pub fresh-end : (0 < left → (ds ≡ []) × (ds ≡ [])) → true ≡ not (mem d whole)
+  fresh-end e = sym (ap not (i.same ∙ none left (λ z. (e z).0)))
+    where
+      none : (n : ℕ) → (0 < n → ds ≡ []) → mem d (take n ds) ≡ false
+      none zero g = refl
+      none (suc n) g = ap (λ (l : List ℕ). mem d (take (suc n) l)) (g (omega arith))
 
-  module _ {left : ℕ} {rest : Named} (i : FreshFrom b c n d left rest) where
-    pub fresh-end : left ≡ 0 → 1 ≡ fresh_in b c n d
-    fresh-end z = is-fresh b c n d (i.same ∙ ap (λ (m : ℕ). mem d (take m (named_by b rest))) z)
-
-    module _ {r : Dest} (h : next_dest b rest r) where
-      pub fresh-over : r ≡ Dests-over → 1 ≡ fresh_in b c n d
-      fresh-over q = is-fresh b c n d (i.same ∙ ap (λ (l : List ℕ). mem d (take left l)) (subst (next_dest b rest) q h) ∙ nothing left)
-        where
-          nothing : (m : ℕ) → mem d (take m []) ≡ false
-          nothing zero = refl
-          nothing (suc m) = refl
-
-      module _ (l : left ≡ 0 → ⊥) {to : ℕ} {others : Named} (q : r ≡ Dest-to to others) where
-        leads : Leads b rest to others
-        leads = subst (next_dest b rest) q h
-
-        one_less : mem d (take left (named_by b rest)) ≡ eqb d to || mem d (take (left - 1) (named_by b others))
-        one_less = ap (λ (k : List ℕ). mem d (take left k)) leads.is ∙ by_left left l
-          where
-            by_left : (m : ℕ) → (m ≡ 0 → ⊥) → mem d (take m (to ∷ named_by b others)) ≡ eqb d to || mem d (take (m - 1) (named_by b others))
-            by_left zero n = absurd (n refl)
-            by_left (suc m) n = ap (λ (k : ℕ). eqb d to || mem d (take k (named_by b others))) (less m)
-              where
-                less : (m : ℕ) → m ≡ suc m - 1
-                less m = omega arith
-
-        pub fresh-found : to ≡ d → 0 ≡ fresh_in b c n d
-        fresh-found e =
-            sym (if-true (mem d (take n (named_by b c))) 0 1
-            (i.same ∙ one_less ∙ ap (λ (t : Bool). t || mem d (take (left - 1) (named_by b others))) (eq-eqb d to (sym e))))
-
-        pub fresh_on : (to ≡ d → ⊥) → FreshFrom b c n d (left - 1) others
-        fresh_on m =
-            record {
-              walking = leads.walking;
-              few = omega (arith, leads.few, i.few);
-              same = i.same ∙ one_less ∙ ap (λ (t : Bool). t || mem d (take (left - 1) (named_by b others))) (ne_eqb d to (λ e. m (sym e)));
-            }
-
--- ---- seek
-
-pub record Seeking (b : List ℕ) (c : Named) (all : Bool) (q passed n : ℕ) (rest : Named) : Type 0 where
-  pub prefix : List ℕ
-  pub is : named_by b c ≡ prefix ++ named_by b rest
-  pub long : length prefix ≡ passed
-  pub count : n ≡ length (distinct prefix)
-  pub none : all ≡ false → mem q prefix ≡ false
-  pub walking : Walking b rest.at
-  pub few : rest.many ≤ 2
-  pub bound : 6 * (passed + rest.many) ≤ rest.at + 12
-  pub low : n ≤ passed
-
-pub hits-one : {all : Bool} (to q : ℕ) → all ≡ false → eqb to q ≡ not all && eqb to q
-hits-one to q e = rw e
-
-hit : (all : Bool) (to q : ℕ) → not all && eqb to q ≡ true → (all ≡ false) × (to ≡ q)
-hit true to q e = never (cc)
-hit false to q e = (refl, eqb-true to q e)
-
-no_hit : (all : Bool) (to q : ℕ) → not all && eqb to q ≡ false → all ≡ false → q ≡ to → ⊥
-no_hit true to q e z k = never (cc)
-no_hit false to q e z k = eqb-false to q e (sym k)
-
-module _ {b : List ℕ} {c : Named} {all : Bool} {q : ℕ} where
-  pub seek-start : Walking b c.at → c.many ≤ 2 → Seeking b c all q 0 0 c
-  unfolding distinct
-  seek-start w l = record { prefix = []; is = refl; long = refl; count = refl; none = λ _. refl; walking = w; few = l; bound = omega arith; low = omega arith }
-
-  module _ {passed n : ℕ} {rest : Named} (i : Seeking b c all q passed n rest) {r : Dest} (h : next_dest b rest r) where
-    pub seek-over : r ≡ Dests-over → NoPlace all q (distinct (named_by b c)) n
-    seek-over z =
-        let e : named_by b c ≡ i.prefix = i.is ∙ ap (λ (l : List ℕ). i.prefix ++ l) (subst (next_dest b rest) z h) ∙ append-nil-of i.prefix in
-        record {
-          none = λ a. ap (λ (l : List ℕ). mem q (distinct l)) e ∙ mem-distinct q i.prefix (i.none a);
-          long = i.count ∙ ap (λ (l : List ℕ). length (distinct l)) (sym e);
-        }
+  module _ {to : ℕ} {others : List ℕ} (less : ℕ) (h : (ds ≡ to ∷ others) × (less + 1 ≡ left)) where
+    one_less : mem d whole ≡ eqb d to || mem d (take less others)
+    one_less = i.same ∙ ap (λ (k : List ℕ). mem d (take left k)) h.0 ∙ ap (λ (n : ℕ). mem d (take n (to ∷ others))) (more less left h.1)
       where
-        append-nil-of : (l : List ℕ) → l ++ [] ≡ l
-        append-nil-of [] = refl
-        append-nil-of (x ∷ l) = ap {B = List ℕ} (λ (k : List ℕ). x ∷ k) (append-nil-of l)
+        more : (n m : ℕ) → n + 1 ≡ m → m ≡ suc n
+        more n m z = omega arith
 
-    module _ {to : ℕ} {others : Named} (e : r ≡ Dest-to to others) where
-      leads_to : Leads b rest to others
-      leads_to = subst (next_dest b rest) e h
+    pub fresh-found : to ≡ d → false ≡ not (mem d whole)
+    fresh-found z = sym (ap not (one_less ∙ ap (λ (t : Bool). t || mem d (take less others)) (eq-eqb d to (sym z))))
 
-      its : named_by b c ≡ i.prefix ++ to ∷ named_by b others
-      its = i.is ∙ ap (λ (l : List ℕ). i.prefix ++ l) leads_to.is
+    pub fresh_on : (to ≡ d → ⊥) → FreshFrom d whole less others
+    fresh_on n = record { same = one_less ∙ ap (λ (t : Bool). t || mem d (take less others)) (ne_eqb d to (λ z. n (sym z))) }
 
-      pub seek-less : length b + 6 * others.many - others.at < length b + 6 * rest.many - rest.at
-      seek-less = omega (arith, leads_to.spent, inside leads_to.walking, inside i.walking)
+-- ---- the distinct ones that are left behind those before
 
-      module _ {t : Bool} (k : t ≡ not all && eqb to q) where
-        pub seek_hit : t ≡ true → Asked all q (distinct (named_by b c)) n
-        seek_hit z =
-            let x = hit all to q (sym k ∙ z) in
-            let p = parted q i.prefix (named_by b others) (i.none x.0) in
-            record {
-              asked = x.0;
-              there = record {
-                before = distinct i.prefix;
-                behind = p.later;
-                is = ap distinct its ∙ ap (λ (y : ℕ). distinct (i.prefix ++ y ∷ named_by b others)) x.1 ∙ p.is;
-                first = mem-distinct q i.prefix (i.none x.0);
-                place = i.count;
-              };
-            }
+distinct-length : (xs : List ℕ) → length (distinct xs) ≤ length xs
+unfolding distinct
+distinct-length [] = omega arith
+distinct-length (x ∷ xs) = omega (arith, fewer (distinct xs), distinct-length xs)
+  where
+    fewer : (ys : List ℕ) → length (others x ys) ≤ length ys
+    fewer [] = omega arith
+    fewer (y ∷ ys) =
+        both (λ (l : List ℕ). length l ≤ suc (length ys)) (not (eqb x y)) (λ _. omega (arith, fewer ys)) (λ _. omega (arith, fewer ys))
 
-        module _ {f : ℕ} (g : f ≡ fresh_in b c passed to) where
-          front : take passed (named_by b c) ≡ i.prefix
-          front = ap (take passed) i.is ∙ take_at i.prefix (named_by b rest) passed i.long
+pub left-all : (ds : List ℕ) → left_of ds 0 ≡ distinct ds
+unfolding left_of distinct
+left-all ds = refl
 
-          adds : f ≡ if (mem to i.prefix) 0 1
-          adds = g ∙ ap (λ (l : List ℕ). if (mem to l) 0 1) front
+drop-length : (xs : List ℕ) → drop (length xs) xs ≡ []
+drop-length [] = refl
+drop-length (x ∷ xs) = drop-length xs
 
-          one-most : f ≤ 1
-          one-most = rw adds (both (λ (x : ℕ). x ≤ 1) (mem to i.prefix) (λ _. omega arith) (λ _. omega arith))
+module _ (ds prefix : List ℕ) (passed : ℕ) (long : length prefix ≡ passed) where
+  left-none : ds ≡ prefix → left_of ds passed ≡ []
+  unfolding left_of
+  left-none e = ap (λ (l : List ℕ). drop (length (distinct l)) (distinct ds)) (ap (take passed) (e ∙ sym (append-nil prefix)) ∙ take_at prefix [] passed long) ∙ ap (λ (l : List ℕ). drop (length (distinct prefix)) (distinct l)) e ∙ drop-length (distinct prefix)
+    where
+      append-nil : (l : List ℕ) → l ++ [] ≡ l
+      append-nil [] = refl
+      append-nil (x ∷ l) = ap {B = List ℕ} (λ (k : List ℕ). x ∷ k) (append-nil l)
 
-          -- one that is new comes behind those before it
-          pub seek-new : (f ≡ 0 → ⊥) → PlaceOf to (distinct (named_by b c)) n
-          seek-new z =
-              let p = parted to i.prefix (named_by b others) not_there in
-              record {
-                before = distinct i.prefix;
-                behind = p.later;
-                is = ap distinct its ∙ p.is;
-                first = mem-distinct to i.prefix not_there;
-                place = i.count;
-              }
-            where
-              by-test : (m : Bool) → f ≡ if m 0 1 → m ≡ false
-              by-test true e = absurd (z (e ∙ if-true true 0 1 refl))
-              by-test false e = refl
+  module _ (q : ℕ) (ys : List ℕ) (e : ds ≡ prefix ++ q ∷ ys) where
+    front : take passed ds ≡ prefix
+    front = ap (take passed) e ∙ take_at prefix (q ∷ ys) passed long
 
-              not_there : mem to i.prefix ≡ false
-              not_there = by-test (mem to i.prefix) adds
+    front-more : take (passed + 1) ds ≡ prefix ++ q ∷ []
+    front-more =
+        ap (take (passed + 1)) (e ∙ sym (append_assoc prefix (q ∷ []) ys))
+        ∙ take_at (prefix ++ q ∷ []) ys (passed + 1) (omega (arith, length-append prefix (q ∷ []), long))
 
-          pub seek-sum : length b < 2 ^ 64 → Fits w64 (n + f)
-          seek-sum l = omega (arith, one-most, i.bound, i.low, inside i.walking)
+    left-is : left_of ds passed ≡ drop (length (distinct prefix)) (distinct ds)
+    unfolding left_of
+    left-is = ap (λ (l : List ℕ). drop (length (distinct l)) (distinct ds)) front
 
-          pub seek-on : t ≡ false → Seeking b c all q (passed + 1) (n + f) others
-          seek-on z =
-              record {
-                prefix = i.prefix ++ to ∷ [];
-                is = its ∙ sym (append_assoc i.prefix (to ∷ []) (named_by b others));
-                long = omega (arith, length-append i.prefix (to ∷ []), i.long);
-                count = ap₂ ◌+◌ i.count adds ∙ sym (distinct_more to i.prefix);
-                none = λ a. mem-last q to i.prefix (i.none a) (no_hit all to q (sym k ∙ z) a);
-                walking = leads_to.walking;
-                few = omega (arith, leads_to.few, i.few);
-                bound = omega (arith, leads_to.spent, i.bound);
-                low = omega (arith, one-most, i.low);
-              }
+    left-more : left_of ds (passed + 1) ≡ drop (length (distinct (prefix ++ q ∷ []))) (distinct ds)
+    unfolding left_of
+    left-more = ap (λ (l : List ℕ). drop (length (distinct l)) (distinct ds)) front-more
 
-        pub seek-passed : length b < 2 ^ 64 → Fits w64 (passed + 1)
-        seek-passed l = omega (arith, i.bound, inside i.walking)
+    left-old : mem q prefix ≡ true → left_of ds passed ≡ left_of ds (passed + 1)
+    unfolding new-or-not if
+    left-old m =
+        left-is ∙ ap (λ (n : ℕ). drop n (distinct ds)) (same (length (distinct prefix)) (length (distinct (prefix ++ q ∷ []))) (distinct_more q prefix ∙ ap (λ (t : Bool). length (distinct prefix) + if t 0 1) m)) ∙ sym left-more
+      where
+        same : (a c : ℕ) → c ≡ a + 0 → a ≡ c
+        same a c z = omega arith
 
--- the ways out of many
-module _ (b : List ℕ) (c : Named) (all : Bool) (q : ℕ) where
-  pub many-not : {r : Place} → sought all q (distinct (named_by b c)) r → {n : ℕ} → r ≡ Not n → n ≡ length (distinct (named_by b c))
-  many-not s e = (subst (sought all q (distinct (named_by b c))) e s).long
+    left-new : mem q prefix ≡ false → left_of ds passed ≡ q ∷ left_of ds (passed + 1)
+    unfolding new-or-not if
+    left-new m =
+        let p = parted q prefix ys m in
+        let all = ap distinct e ∙ p.is in
+        let one : distinct (prefix ++ q ∷ []) ≡ distinct prefix ++ q ∷ [] = distinct-last q prefix ∙ ap (λ (t : Bool). distinct prefix ++ new-or-not q t) m in
+        let first : left_of ds passed ≡ q ∷ p.later = left-is ∙ ap (drop (length (distinct prefix))) all ∙ drop_at (distinct prefix) (q ∷ p.later) (length (distinct prefix)) refl in
+        let others : left_of ds (passed + 1) ≡ p.later =
+        left-more ∙ ap (λ (l : List ℕ). drop (length l) (distinct ds)) one ∙ ap (drop (length (distinct prefix ++ q ∷ []))) (all ∙ sym (append_assoc (distinct prefix) (q ∷ []) p.later))
+        ∙ drop_at (distinct prefix ++ q ∷ []) p.later (length (distinct prefix ++ q ∷ [])) refl in
+        first ∙ ap {B = List ℕ} (λ (l : List ℕ). q ∷ l) (sym others)
 
-  pub many-at : {r : Place} → all ≡ true → sought all q (distinct (named_by b c)) r → {n : ℕ} → r ≡ At n → n ≡ length (distinct (named_by b c))
-  many-at a s e = let k = subst (sought all q (distinct (named_by b c))) e s in let z = k.asked in never (cc)
+-- ---- the iterator over them
+
+few-sides : (x : Sides) → many_in x ≤ 2
+few-sides Zero = omega arith
+few-sides (One x) = omega arith
+few-sides (Two x y) = omega arith
+
+pub choose-start : {map : Bor (List ℕ)} {c : Named} → Walking map.now c.at → CanChoose (none_passed map c)
+choose-start {c} w = record { prefix = []; is = refl; long = refl; start = w; walking = w; bound = omega (arith, few-sides c.sides) }
+
+-- behind a destination
+abbrev pub behind_of : Distinct → Named → Distinct
+behind_of s rest = record { map = s.map; named = s.named; passed = s.passed + 1; rest = rest }
+
+module _ {s : Distinct} (i : CanChoose s) {r : Option Lead} (h : next_dest s.map.now s.rest r) where
+  pub choose-over : r ≡ None → distinct_left s ≡ []
+  choose-over z =
+      left-none _ i.prefix s.passed i.long (i.is ∙ ap (λ (l : List ℕ). i.prefix ++ l) (subst (next_dest s.map.now s.rest) z h) ∙ append-nil i.prefix)
+    where
+      append-nil : (l : List ℕ) → l ++ [] ≡ l
+      append-nil [] = refl
+      append-nil (x ∷ l) = ap {B = List ℕ} (λ (k : List ℕ). x ∷ k) (append-nil l)
+
+  module _ {l : Lead} (e : r ≡ Some l) where
+    abbrev to : ℕ
+    to = l.to
+
+    abbrev rest : Named
+    rest = l.rest
+
+    leads : Leads s.map.now s.rest to rest
+    leads = subst (next_dest s.map.now s.rest) e h
+
+    its : named_by s.map.now s.named ≡ i.prefix ++ to ∷ named_by s.map.now rest
+    its = i.is ∙ ap (λ (l : List ℕ). i.prefix ++ l) leads.is
+
+    pub choose_on : CanChoose (behind_of s rest)
+    choose_on = record {
+      prefix = i.prefix ++ to ∷ [];
+      is = its ∙ sym (append_assoc i.prefix (to ∷ []) (named_by s.map.now rest));
+      long = omega (arith, length-append i.prefix (to ∷ []), i.long);
+      start = i.start;
+      walking = leads.walking;
+      bound = omega (arith, leads.spent, i.bound);
+    }
+
+    pub choose-passed : length s.map.now < 2 ^ 64 → Fits w64 (s.passed + 1)
+    choose-passed l = omega (arith, i.bound, inside i.walking)
+
+    pub choose-less : length s.map.now + 6 * many_in rest.sides - rest.at < length s.map.now + 6 * many_in s.rest.sides - s.rest.at
+    choose-less = omega (arith, leads.spent, inside leads.walking, inside i.walking)
+
+    module _ {new : Bool} (g : new ≡ not (mem to (take s.passed (named_by s.map.now s.named)))) where
+      among : new ≡ not (mem to i.prefix)
+      among = g ∙ ap (λ (l : List ℕ). not (mem to l)) (front _ i.prefix s.passed i.long to (named_by s.map.now rest) its)
+
+      pub choose-new : new ≡ true → distinct_left s ≡ to ∷ distinct_left (behind_of s rest)
+      choose-new z = left-new _ i.prefix s.passed i.long to (named_by s.map.now rest) its (off (mem to i.prefix) (sym among ∙ z))
+        where
+          off : (t : Bool) → not t ≡ true → t ≡ false
+          off true k = sym k
+          off false k = refl
+
+      pub choose-old : new ≡ false → distinct_left s ≡ distinct_left (behind_of s rest)
+      choose-old z = left-old _ i.prefix s.passed i.long to (named_by s.map.now rest) its (on (mem to i.prefix) (sym among ∙ z))
+        where
+          on : (t : Bool) → not t ≡ false → t ≡ true
+          on true k = refl
+          on false k = sym k
+
+-- ---- seek, many
+
+count-fits-at : {b : List ℕ} (c : Named) → Walking b c.at → length b < 2 ^ 64 → 0 + length (left_of (named_by b c) 0) < 2 ^ 64
+unfolding named_by
+count-fits-at {b} c w l =
+    rw (left-all (named_by b c)) (omega (arith, distinct-length (named_by b c), length-append (sides_in c.sides) (outs_at b c.at), two-most c.sides, few-outs w))
+  where
+    two-most : (x : Sides) → length (sides_in x) ≤ 2
+    two-most Zero = omega arith
+    two-most (One x) = omega arith
+    two-most (Two x y) = omega arith
+
+module _ {map : Bor (List ℕ)} {c : Named} {s : Distinct} (e : s ≡ none_passed map c) where
+  pub choose-can : Walking map.now c.at → CanChoose s
+  choose-can w = rw e (choose-start w)
+
+  pub choose-fits : Walking map.now c.at → length map.now < 2 ^ 64 → 0 + length (distinct_left s) < 2 ^ 64
+  choose-fits w l = rw e (count-fits-at c w l)
+
+  pub choose-all : distinct_left s ≡ distinct (named_by map.now c)
+  choose-all = ap distinct_left e ∙ left-all (named_by map.now c)
+
+pub few-distinct : {b : List ℕ} (c : Named) → Walking b c.at → length b < 2 ^ 64 → length (distinct (named_by b c)) < 2 ^ 64
+few-distinct {b} c w l = omega (arith, count-fits-at c w l, ap length (left-all (named_by b c)))
+
+-- what is named before a distinct one is another
+counts_one : (q : ℕ) (xs ys : List ℕ) → 1 ≤ count (eqb q) (xs ++ q ∷ ys)
+counts_one q [] ys = rw (eq-eqb q q refl) (omega arith)
+counts_one q (x ∷ xs) ys = omega (arith, counts_one q xs ys)
+
+counted-apart : (q : ℕ) (xs ys : List ℕ) → count (eqb q) (xs ++ q ∷ ys) ≡ 1 → mem q xs ≡ false
+counted-apart q [] ys e = refl
+counted-apart q (x ∷ xs) ys e = go (eqb q x) refl (counted-apart q xs ys)
+  where
+    go : (t : Bool) → eqb q x ≡ t → (count (eqb q) (xs ++ q ∷ ys) ≡ 1 → mem q xs ≡ false) → t || mem q xs ≡ false
+    go true z ih = absurd (omega (arith, counts_one q xs ys, ap flag z, e))
+    go false z ih = ih (omega (arith, ap flag z, e))
+
+pub once-first : (q : ℕ) (ds before behind : List ℕ) → distinct ds ≡ before ++ q ∷ behind → mem q before ≡ false
+once-first q ds before behind e =
+    counted-apart q before behind
+    (ap (count (eqb q)) (sym e) ∙ distinct-once q ds (in-distinct q ds (subst (λ (l : List ℕ). In q l) (sym e) (in_right before here))))
+
+-- the first that is the one that is asked for
+data Placed-at (q : ℕ) (ds : List ℕ) (n : ℕ) : Type 0 where
+  is_there : PlaceOf q ds n → n < length ds → Placed-at q ds n
+  is_not : mem q ds ≡ false → n ≡ length ds → Placed-at q ds n
+
+placed-at : (q : ℕ) (ds : List ℕ) → Placed-at q ds (position_or_len (λ (x : ℕ). eqb x q) ds)
+placed-at q [] = is_not refl refl
+placed-at q (x ∷ xs) = go (eqb x q) refl (placed-at q xs)
+  where
+    go : (t : Bool) → eqb x q ≡ t → Placed-at q xs (position_or_len (λ (x : ℕ). eqb x q) xs) → Placed-at q (x ∷ xs) (cond (not t) (1 + position_or_len (λ (x : ℕ). eqb x q) xs) 0)
+    go true e k = is_there (record { before = []; behind = xs; is = ap (λ (y : ℕ). y ∷ xs) (eqb-true x q e); first = refl; place = refl }) (omega arith)
+    go false e (is_there k l) =
+        is_there (record {
+          before = x ∷ k.before;
+          behind = k.behind;
+          is = ap {B = List ℕ} (λ (l : List ℕ). x ∷ l) k.is;
+          first = ap₂ ◌||◌ (ne_eqb q x (λ z. eqb-false x q e (sym z))) k.first;
+          place = omega (arith, k.place);
+        }) (omega arith)
+    go false e (is_not k l) = is_not (ap₂ ◌||◌ (ne_eqb q x (λ z. eqb-false x q e (sym z))) k) (omega (arith, l))
+
+pub place-position : (q : ℕ) (ds : List ℕ) {r : Option ℕ} → r ≡ cond (ltb (position_or_len (λ (x : ℕ). eqb x q) ds) (length ds)) (Some (position_or_len (λ (x : ℕ). eqb x q) ds)) None → place_in q ds r
+place-position q ds {r} e = subst (place_in q ds) (sym e) (go (placed-at q ds))
+  where
+    go : Placed-at q ds (position_or_len (λ (x : ℕ). eqb x q) ds)
+        → place_in q ds (cond (ltb (position_or_len (λ (x : ℕ). eqb x q) ds) (length ds)) (Some (position_or_len (λ (x : ℕ). eqb x q) ds)) None)
+    go (is_there k l) = rw (lt-ltb (position_or_len (λ (x : ℕ). eqb x q) ds) (length ds) l) k
+    go (is_not k l) = rw (le-ltb (position_or_len (λ (x : ℕ). eqb x q) ds) (length ds) (omega arith)) k

@@ -1,26 +1,23 @@
 -- The blocks of a stored map and their destinations, as the code goes over them. Assumes nothing.
-use Rattle.std.specs.Prelude.{◌≡◌, ℕ, zero, suc, ◌+◌, ◌*◌, ◌<◌, ◌≤◌, List, [], ◌∷◌, ◌++◌}
+use Rattle.std.specs.Prelude.{◌≡◌, ℕ, ◌+◌, ◌*◌, ◌<◌, ◌≤◌, List, [], ◌∷◌, ◌++◌, length, Option, Some, None, Result, Ok, Err}
+use Rattle.std.specs.Iterator.{Count, at_most}
 use Rattle.spec.specs.Search.{dests}
 use Rattle.spec.specs.Ending.{Final}
 use Rattle.spec.specs.Reader.{ways, finals_in}
 use Rattle.spec.specs.Counting.{distinct}
 use Rattle.spec.specs.Follow.{starts_at, outgoing}
 use Rattle.reader.specs.Walks.{items_from, Walking}
-use Rattle.reader.specs.declared.dest.Destination.TheVariants.{Missing as Nowhere, At}
 use Rattle.reader.specs.declared.entry.Entry.{Entry}
-use Rattle.reader.specs.declared.entry.Entry.TheVariants.{Head, Terminate, Jump, Jumpi, DynamicJump, DynamicJumpi, Way, Record, Unknown, Wrong, Cut}
+use Rattle.reader.specs.declared.entry.Entry.TheVariants.{Head, Terminate, Jump, Jumpi, DynamicJump, DynamicJumpi, Way, Record}
+use Rattle.reader.specs.declared.entry.Fault.{Fault}
+use Rattle.follow.specs.declared.block.Sides.{Sides}
+use Rattle.follow.specs.declared.block.Sides.TheVariants.{Zero, One, Two}
 use Rattle.follow.specs.declared.block.Named.{Named}
 use Rattle.follow.specs.declared.block.Block.{Block}
-use Rattle.follow.specs.declared.block.Seen.{Seen}
-use Rattle.follow.specs.declared.block.Seen.TheVariants.{Block as Block-seen, Other}
-use Rattle.follow.specs.declared.block.Next.{Next}
-use Rattle.follow.specs.declared.block.Next.TheVariants.{Block as Block-next, Over as Blocks-over}
-use Rattle.follow.specs.declared.destination.Out.{Out}
-use Rattle.follow.specs.declared.destination.Out.TheVariants.{To as Out-to, Missing, No}
+use Rattle.follow.specs.declared.block.Blocks.{Blocks}
 use Rattle.follow.specs.declared.destination.Seven.{Seven}
-use Rattle.follow.specs.declared.destination.Seven.TheVariants.{To as Seven-to, Over as Sevens-over}
-use Rattle.follow.specs.declared.destination.Dest.{Dest}
-use Rattle.follow.specs.declared.destination.Dest.TheVariants.{To as Dest-to, Over as Dests-over}
+use Rattle.follow.specs.declared.destination.Lead.{Lead}
+use Rattle.follow.specs.declared.destination.Destinations.{Destinations}
 
 -- ---- what stands from an offset on
 
@@ -34,35 +31,36 @@ outs_at b at = dests (ways 0 (items_from b at))
 
 -- ---- blocks
 
-abbrev pub seen_of : Entry → Seen
-seen_of (Terminate s e ok) = Block-seen s e 0 0 0
-seen_of (Jump s e to) = Block-seen s e 1 to 0
-seen_of (Jumpi s e t f) = Block-seen s e 2 t f
-seen_of (DynamicJump s e n) = Block-seen s e 0 0 0
-seen_of (DynamicJumpi s e f n) = Block-seen s e 1 f 0
-seen_of (Head size n m energy) = Other
-seen_of (Way to path n) = Other
-seen_of (Record s to form energy path n) = Other
-seen_of Unknown = Other
-seen_of Wrong = Other
-seen_of Cut = Other
+-- of an entry that stands at an offset, with the offset behind it
+abbrev pub block_with : ℕ → ℕ → Sides → ℕ → ℕ → Option Block
+block_with s e sides own at = Some (record { start = s; end = e; named = record { sides = sides; at = at }; own = own })
 
--- static sides, so many
-abbrev pub sides_in : ℕ → ℕ → ℕ → List ℕ
-sides_in zero x y = []
-sides_in (suc zero) x y = x ∷ []
-sides_in (suc (suc n)) x y = x ∷ y ∷ []
+abbrev pub block_of : Result Entry Fault → ℕ → ℕ → Option Block
+block_of (Ok (Terminate s e ok)) own at = block_with s e Zero own at
+block_of (Ok (Jump s e to)) own at = block_with s e (One to) own at
+block_of (Ok (Jumpi s e t f)) own at = block_with s e (Two t f) own at
+block_of (Ok (DynamicJump s e n)) own at = block_with s e Zero own at
+block_of (Ok (DynamicJumpi s e f n)) own at = block_with s e (One f) own at
+block_of (Ok (Head size n m energy)) own at = None
+block_of (Ok (Way to path n)) own at = None
+block_of (Ok (Record s to energy path n)) own at = None
+block_of (Err fault) own at = None
+
+-- static sides
+abbrev pub sides_in : Sides → List ℕ
+sides_in Zero = []
+sides_in (One x) = x ∷ []
+sides_in (Two x y) = x ∷ y ∷ []
 
 -- the destinations that are left
 unfoldable pub named_by : List ℕ → Named → List ℕ
-named_by b c = sides_in c.many c.first c.second ++ outs_at b c.at
+named_by b c = sides_in c.sides ++ outs_at b c.at
 
 -- a block of the map, as the code has it; of equal sides both stand in the list
 pub record BlockIs (b : List ℕ) (f : Final) (k : Block) : Type 0 where
   pub start : k.start ≡ starts_at f
   pub end : k.end ≡ f.block.end
   pub named : distinct (named_by b k.named) ≡ outgoing f
-  pub few : k.named.many ≤ 2
   pub walking : Walking b k.named.at
 
 -- the blocks from an offset on begin with this one
@@ -75,42 +73,66 @@ pub record Begins (b : List ℕ) (at : ℕ) (k : Block) : Type 0 where
   pub own_walking : Walking b k.own
   pub own_on : k.own < k.named.at
 
-abbrev pub next_block : List ℕ → ℕ → Next → Type 0
-next_block b at (Block-next k) = Begins b at k
-next_block b at Blocks-over = finals_at b at ≡ []
+abbrev pub next_block : List ℕ → ℕ → Option Block → Type 0
+next_block b at (Some k) = Begins b at k
+next_block b at None = finals_at b at ≡ []
+
+-- as an iterator: where it stands there is a walk, and behind a block it stands where that one's 7s begin
+abbrev pub CanGo : Blocks → Type 0
+CanGo s = Walking s.map.now s.at
+
+pub record GivesBlock (s : Blocks) (r : Option Block) (t : Blocks) : Type 0 where
+  pub here : next_block s.map.now s.at r
+  pub same : t.map ≡ s.map
+  pub behind : (k : Block) → r ≡ Some k → t.at ≡ k.named.at
+
+abbrev pub blocks_left : Blocks → Count
+blocks_left s = at_most (length (finals_at s.map.now s.at))
 
 -- ---- destinations
 
-abbrev pub out_of : Entry → Out
-out_of (Way Nowhere path n) = Missing
-out_of (Way (At t) path n) = Out-to t
-out_of (Terminate s e ok) = No
-out_of (Jump s e to) = No
-out_of (Jumpi s e t f) = No
-out_of (DynamicJump s e n) = No
-out_of (DynamicJumpi s e f n) = No
-out_of (Head size n m energy) = No
-out_of (Record s to form energy path n) = No
-out_of Unknown = No
-out_of Wrong = No
-out_of Cut = No
+abbrev pub way_of : Result Entry Fault → Option (Option ℕ)
+way_of (Ok (Way to path n)) = Some to
+way_of (Ok (Terminate s e ok)) = None
+way_of (Ok (Jump s e to)) = None
+way_of (Ok (Jumpi s e t f)) = None
+way_of (Ok (DynamicJump s e n)) = None
+way_of (Ok (DynamicJumpi s e f n)) = None
+way_of (Ok (Head size n m energy)) = None
+way_of (Ok (Record s to energy path n)) = None
+way_of (Err fault) = None
 
 pub record SevenTo (b : List ℕ) (at to behind : ℕ) : Type 0 where
   pub is : outs_at b at ≡ to ∷ outs_at b behind
   pub walking : Walking b behind
   pub on : at + 6 ≤ behind
 
-abbrev pub next_seven : List ℕ → ℕ → Seven → Type 0
-next_seven b at (Seven-to to behind) = SevenTo b at to behind
-next_seven b at Sevens-over = outs_at b at ≡ []
+abbrev pub next_seven : List ℕ → ℕ → Option Seven → Type 0
+next_seven b at (Some s) = SevenTo b at s.to s.behind
+next_seven b at None = outs_at b at ≡ []
+
+-- how many static sides
+abbrev pub many_in : Sides → ℕ
+many_in Zero = 0
+many_in (One x) = 1
+many_in (Two x y) = 2
 
 -- a step takes a side, or 6 bytes at least
 pub record Leads (b : List ℕ) (c : Named) (to : ℕ) (rest : Named) : Type 0 where
   pub is : named_by b c ≡ to ∷ named_by b rest
   pub walking : Walking b rest.at
-  pub few : rest.many ≤ c.many
-  pub spent : 6 * rest.many + c.at + 6 ≤ 6 * c.many + rest.at
+  pub spent : 6 * many_in rest.sides + c.at + 6 ≤ 6 * many_in c.sides + rest.at
 
-abbrev pub next_dest : List ℕ → Named → Dest → Type 0
-next_dest b c (Dest-to to rest) = Leads b c to rest
-next_dest b c Dests-over = named_by b c ≡ []
+abbrev pub next_dest : List ℕ → Named → Option Lead → Type 0
+next_dest b c (Some l) = Leads b c l.to l.rest
+next_dest b c None = named_by b c ≡ []
+
+-- as an iterator
+abbrev pub CanLead : Destinations → Type 0
+CanLead s = Walking s.map.now s.named.at
+
+abbrev pub named_left : Destinations → List ℕ
+named_left s = named_by s.map.now s.named
+
+abbrev pub dests_left : Destinations → Count
+dests_left s = at_most (length (named_left s))

@@ -1,17 +1,14 @@
 -- The index of edges: shelves of entries, how one is found there, and how one comes there. Assumes nothing.
-use Rattle.std.specs.Prelude.{◌≡◌, ℕ, ◌+◌, ◌*◌, ◌<◌, ◌≤◌, false, List, ◌∷◌, ◌++◌, length, ◌≢◌}
+use Rattle.std.specs.Prelude.{◌≡◌, ℕ, ◌+◌, ◌*◌, ◌<◌, ◌≤◌, List, ◌∷◌, ◌++◌, length, Option, Some, None}
 use Rattle.spec.specs.Ending.{Final}
 use Rattle.spec.specs.Counting.{distinct}
 use Rattle.spec.specs.Follow.{outgoing}
 use Rattle.lent.specs.Bytes.{num_at}
 use Rattle.follow.specs.Blocks.{finals_at, named_by}
-use Rattle.follow.specs.Places.{sought}
+use Rattle.follow.specs.Places.{place_in}
 use Rattle.follow.specs.Finding.{slots_of, Placed, Table}
 use Rattle.follow.specs.declared.block.Named.{Named}
-use Rattle.follow.specs.declared.block.Block.{Block}
-use Rattle.follow.specs.declared.place.Place.{Place}
-use Rattle.follow.specs.declared.edges.Shelf.{Shelf}
-use Rattle.follow.specs.declared.edges.Shelf.TheVariants.{At, Lacking}
+use Rattle.follow.specs.declared.find.Counted.{Counted}
 
 -- 16 entries behind the rows
 pub record ShelfAt (long rows shelf : ℕ) : Type 0 where
@@ -19,9 +16,9 @@ pub record ShelfAt (long rows shelf : ℕ) : Type 0 where
   pub is : shelf ≡ 16 * rows + 24 * first
   pub fits : shelf + 384 ≤ long
 
-abbrev pub shelf_in : ℕ → ℕ → Shelf → Type 0
-shelf_in long rows (At shelf) = ShelfAt long rows shelf
-shelf_in long rows Lacking = long < 16 * rows + 384
+abbrev pub shelf_in : ℕ → ℕ → Option ℕ → Type 0
+shelf_in long rows (Some shelf) = ShelfAt long rows shelf
+shelf_in long rows None = long < 16 * rows + 384
 
 -- ---- an edge that is looked up
 
@@ -35,16 +32,20 @@ pub record OnShelf (work : List ℕ) (shelf key q n : ℕ) : Type 0 where
   pub i : ℕ
   pub entry : EntryOf work (shelf + 24 * i) key q n
 
--- 0 tells nothing
-pub record Looked (work : List ℕ) (shelf key q r : ℕ) : Type 0 where
-  pub found : (r ≢ 0) → OnShelf work shelf key q r
+-- none tells nothing; an entry has one more than the place
+pub record Looked (work : List ℕ) (shelf key q : ℕ) (r : Option ℕ) : Type 0 where
+  pub found : {n : ℕ} → r ≡ Some n → OnShelf work shelf key q (n + 1)
 
-pub record Known (work : List ℕ) (rows key q r : ℕ) : Type 0 where
-  pub live : (r ≢ 0) → rows ≢ 0
-  pub found : (r ≢ 0) → OnShelf work (16 * rows) key q r
+pub record KnownAt (work : List ℕ) (rows : Option ℕ) (key q n : ℕ) : Type 0 where
+  pub many : ℕ
+  pub live : rows ≡ Some many
+  pub on : OnShelf work (16 * many) key q (n + 1)
 
-pub record PlaceSo (b : List ℕ) (k : Block) (slot q : ℕ) (r : Place) : Type 0 where
-  pub so : (f : Final) → Placed b f k slot → sought false q (outgoing f) r
+pub record Known (work : List ℕ) (rows : Option ℕ) (key q : ℕ) (r : Option ℕ) : Type 0 where
+  pub found : {n : ℕ} → r ≡ Some n → KnownAt work rows key q n
+
+pub record PlaceSo (b : List ℕ) (k : Counted) (q : ℕ) (r : Option ℕ) : Type 0 where
+  pub so : (f : Final) → Placed b f k.block k.slot → place_in q (outgoing f) r
 
 -- ---- an edge that is put
 
@@ -57,9 +58,9 @@ pub data Inserted (work : List ℕ) (shelf key to n : ℕ) : List ℕ → Type 0
   no_free : Inserted work shelf key to n work
   put_at : (i : ℕ) {work' : List ℕ} → Entered work (shelf + 24 * i) key to n work' → Inserted work shelf key to n work'
 
-pub data Kept (work : List ℕ) (rows new key to n : ℕ) : List ℕ → Type 0 where
-  not_kept : Kept work rows new key to n work
-  kept_at : (new ≢ 0) → (i : ℕ) {work' : List ℕ} → Entered work (16 * rows + 24 * i) key to n work' → Kept work rows new key to n work'
+pub data Kept (work : List ℕ) (rows key to n : ℕ) : List ℕ → Type 0 where
+  not_kept : Kept work rows key to n work
+  kept_at : (i : ℕ) {work' : List ℕ} → Entered work (16 * rows + 24 * i) key to n work' → Kept work rows key to n work'
 
 -- the destinations are those of the block whose count stands one before the key
 pub record Owned (b : List ℕ) (key : ℕ) (c : Named) : Type 0 where

@@ -1,5 +1,5 @@
 -- The blocks' counts in their order, the block that starts at an address, and the index of such. Assumes nothing.
-use Rattle.std.specs.Prelude.{◌≡◌, ℕ, suc, ◌+◌, ◌-◌, ◌*◌, ◌^◌, ◌<◌, ◌≤◌, List, ◌∷◌, ◌++◌, length, ◌≢◌}
+use Rattle.std.specs.Prelude.{◌≡◌, ℕ, suc, ◌+◌, ◌-◌, ◌*◌, ◌^◌, ◌<◌, ◌≤◌, List, ◌∷◌, ◌++◌, length, ◌≢◌, Option, Some, None, Result, Ok, Err}
 use Rattle.std.proofs.Math.Option.{none, some}
 use Rattle.spec.specs.Lists.{total}
 use Rattle.spec.specs.Ending.{Final}
@@ -11,10 +11,10 @@ use Rattle.reader.specs.Walks.{Walking}
 use Rattle.follow.specs.Blocks.{finals_at, BlockIs}
 use Rattle.follow.specs.Places.{PlaceOf}
 use Rattle.follow.specs.declared.block.Block.{Block}
-use Rattle.follow.specs.declared.find.Found.{Found}
-use Rattle.follow.specs.declared.find.Found.TheVariants.{At, Nowhere}
-use Rattle.follow.specs.declared.room.Room.{Room}
-use Rattle.follow.specs.declared.room.Room.TheVariants.{Fits, Short}
+use Rattle.follow.specs.declared.find.Counted.{Counted}
+use Rattle.follow.specs.declared.find.Finder.{Finder}
+use Rattle.refusal.specs.declared.Refusal.{Refusal}
+use Rattle.refusal.specs.declared.Refusal.TheVariants.{Counts}
 
 -- how many counts blocks have
 unfoldable pub slots_of : List Final → ℕ
@@ -24,9 +24,9 @@ pub record Fitting (lent slots n : ℕ) : Type 0 where
   pub is : n ≡ slots
   pub fits : n ≤ lent
 
-abbrev pub room_in : ℕ → ℕ → Room → Type 0
-room_in lent slots (Fits n) = Fitting lent slots n
-room_in lent slots Short = lent < slots
+abbrev pub room_in : ℕ → ℕ → Result ℕ Refusal → Type 0
+room_in lent slots (Ok n) = Fitting lent slots n
+room_in lent slots (Err e) = (e ≡ Counts) × (lent < slots)
 
 -- accepted bytes, whose counts stand in a buffer
 pub record Ready (b : List ℕ) : Type 0 where
@@ -47,9 +47,9 @@ pub record FoundAt (b : List ℕ) (q : ℕ) (k : Block) (slot : ℕ) : Type 0 wh
   pub starts : starting q (finals_at b 0) ≡ some final
   pub placed : Placed b final k slot
 
-abbrev pub found_in : List ℕ → ℕ → Found → Type 0
-found_in b q (At k slot) = FoundAt b q k slot
-found_in b q Nowhere = starting q (finals_at b 0) ≡ none
+abbrev pub found_in : List ℕ → ℕ → Option Counted → Type 0
+found_in b q (Some k) = FoundAt b q k.block k.slot
+found_in b q None = starting q (finals_at b 0) ≡ none
 
 -- ---- the index
 
@@ -99,11 +99,15 @@ pub record Table (b work : List ℕ) (rows : ℕ) : Type 0 where
   pub entry : (i : ℕ) → Tells b work (16 * rows + 24 * i)
 
 -- there are rows and entries, or no index
-pub record Index (b work : List ℕ) (rows : ℕ) : Type 0 where
-  pub fits : 16 * rows ≤ length work
-  pub built : (rows ≢ 0) → Indexed b work rows
-  pub edges : (rows ≢ 0) → Table b work rows
+pub record Index (b work : List ℕ) (rows : Option ℕ) : Type 0 where
+  pub built : {n : ℕ} → rows ≡ Some n → Indexed b work n
+  pub edges : {n : ℕ} → rows ≡ Some n → Table b work n
 
-pub record Filled (b work work' : List ℕ) (rows : ℕ) : Type 0 where
+-- accepted bytes with their index
+pub record Finds (x : Finder) : Type 0 where
+  pub ready : Ready x.map.now
+  pub index : Index x.map.now x.work.now x.rows
+
+pub record Filled (b work work' : List ℕ) (rows : Option ℕ) : Type 0 where
   pub index : Index b work' rows
   pub kept : length work' ≡ length work

@@ -1,14 +1,12 @@
 -- Places among a block's distinct destinations. Assumes nothing.
-use Rattle.std.specs.Prelude.{◌≡◌, ℕ, Bool, false, List, ◌∷◌, ◌++◌, length, take}
-use Rattle.spec.specs.Lists.{if, mem}
-use Rattle.follow.specs.Blocks.{named_by}
+use Rattle.std.specs.Prelude.{◌≡◌, ℕ, ◌*◌, ◌+◌, ◌≤◌, false, List, ◌∷◌, ◌++◌, length, take, drop, Option, Some, None}
+use Rattle.std.specs.Borrow.{Bor}
+use Rattle.spec.specs.Lists.{mem}
+use Rattle.spec.specs.Counting.{distinct}
+use Rattle.reader.specs.Walks.{Walking}
+use Rattle.follow.specs.Blocks.{named_by, many_in}
 use Rattle.follow.specs.declared.block.Named.{Named}
-use Rattle.follow.specs.declared.place.Place.{Place}
-use Rattle.follow.specs.declared.place.Place.TheVariants.{At, Not}
-
--- 1 where d is none of the first n
-abbrev pub fresh_in : List ℕ → Named → ℕ → ℕ → ℕ
-fresh_in b c n d = if (mem d (take n (named_by b c))) 0 1
+use Rattle.follow.specs.declared.place.Distinct.{Distinct}
 
 -- q is one of them, with so many before it
 pub record PlaceOf (q : ℕ) (ds : List ℕ) (n : ℕ) : Type 0 where
@@ -18,15 +16,26 @@ pub record PlaceOf (q : ℕ) (ds : List ℕ) (n : ℕ) : Type 0 where
   pub first : mem q before ≡ false
   pub place : n ≡ length before
 
--- it is none of them, if one is asked for; and so many they are
-pub record NoPlace (all : Bool) (q : ℕ) (ds : List ℕ) (n : ℕ) : Type 0 where
-  pub none : all ≡ false → mem q ds ≡ false
-  pub long : n ≡ length ds
+-- the place of one that is asked for; or it is none of them
+abbrev pub place_in : ℕ → List ℕ → Option ℕ → Type 0
+place_in q ds (Some n) = PlaceOf q ds n
+place_in q ds None = mem q ds ≡ false
 
-pub record Asked (all : Bool) (q : ℕ) (ds : List ℕ) (n : ℕ) : Type 0 where
-  pub asked : all ≡ false
-  pub there : PlaceOf q ds n
+-- as an iterator: so many are passed, and a walk goes on behind them
+pub record CanChoose (s : Distinct) : Type 0 where
+  pub prefix : List ℕ
+  pub is : named_by s.map.now s.named ≡ prefix ++ named_by s.map.now s.rest
+  pub long : length prefix ≡ s.passed
+  pub start : Walking s.map.now s.named.at
+  pub walking : Walking s.map.now s.rest.at
+  pub bound : 6 * (s.passed + many_in s.rest.sides) ≤ s.rest.at + 12
 
-abbrev pub sought : Bool → ℕ → List ℕ → Place → Type 0
-sought all q ds (At n) = Asked all q ds n
-sought all q ds (Not n) = NoPlace all q ds n
+abbrev pub none_passed : Bor (List ℕ) → Named → Distinct
+none_passed map c = record { map = map; named = c; passed = 0; rest = c }
+
+-- those that are left: behind as many as the passed ones have
+unfoldable pub left_of : List ℕ → ℕ → List ℕ
+left_of ds passed = drop (length (distinct (take passed ds))) (distinct ds)
+
+abbrev pub distinct_left : Distinct → List ℕ
+distinct_left s = left_of (named_by s.map.now s.named) s.passed

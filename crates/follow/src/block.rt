@@ -2,16 +2,22 @@
 // "takes an answer, the code and such a log"
 ghost use Rattle.std.specs.Prelude.{◌≡◌};
 ghost use Rattle.reader.specs.Walks.{Walking};
-ghost use Rattle.follow.specs.Blocks.{seen_of, next_block};
+ghost use Rattle.follow.specs.Blocks.{block_of, next_block, CanGo, GivesBlock, blocks_left};
 
-use reader::{Entry, Walk, next};
+use reader::{Entry, Fault, Step, next};
 
-// Where a block's destinations stand: so many static sides, the first of them and the second, then the 7s from an offset on.
+// A block's static sides: none, one, or two, of which both may be the same.
+#[derive(Clone, Copy)]
+pub enum Sides {
+    Zero,
+    One(usize),
+    Two(usize, usize),
+}
+
+// Where a block's destinations stand: its static sides, then the 7s from an offset on.
 #[derive(Clone, Copy)]
 pub struct Named {
-    pub many: usize,
-    pub first: usize,
-    pub second: usize,
+    pub sides: Sides,
     pub at: usize,
 }
 
@@ -24,73 +30,68 @@ pub struct Block {
     pub own: usize,
 }
 
-// What an entry is to the follower: a block by its start, its end, how many static sides, the first and the second; or another entry.
-#[derive(Clone, Copy)]
-pub enum Seen {
-    Block(usize, usize, usize, usize, usize),
-    Other,
-}
-
-#[derive(Clone, Copy)]
-pub enum Next {
-    Block(Block),
-    Over,
-}
-
-// An entry's block.
-fn seen_in(entry: Entry) -> Seen
-    ensures { result ≡ seen_of entry }
+// The block of an entry that stands at an offset, with the offset behind it; none where the entry is another.
+fn block_in(entry: Result<Entry, Fault>, own: usize, at: usize) -> Option<Block>
+    ensures { result ≡ block_of entry own at }
 {
-    match entry {
-        Entry::Terminate { start, end, .. } => Seen::Block(start, end, 0, 0, 0),
-        Entry::Jump { start, end, to } => Seen::Block(start, end, 1, to, 0),
-        Entry::Jumpi {
-            start,
-            end,
-            yes,
-            no,
-        } => Seen::Block(start, end, 2, yes, no),
-        Entry::DynamicJump { start, end, .. } => Seen::Block(start, end, 0, 0, 0),
-        Entry::DynamicJumpi { start, end, no, .. } => Seen::Block(start, end, 1, no, 0),
-        Entry::Head { .. } => Seen::Other,
-        Entry::Way { .. } => Seen::Other,
-        Entry::Record { .. } => Seen::Other,
-        Entry::Unknown => Seen::Other,
-        Entry::Wrong => Seen::Other,
-        Entry::Cut => Seen::Other,
-    }
+    let (start, end, sides) = match entry {
+        Ok(Entry::Terminate { start, end, .. }) => (start, end, Sides::Zero),
+        Ok(Entry::DynamicJump { start, end, .. }) => (start, end, Sides::Zero),
+        Ok(Entry::Jump { start, end, to }) => (start, end, Sides::One(to)),
+        Ok(
+            Entry::Jumpi {
+                start,
+                end,
+                yes,
+                no,
+            },
+        ) => (start, end, Sides::Two(yes, no)),
+        Ok(Entry::DynamicJumpi { start, end, no, .. }) => (start, end, Sides::One(no)),
+        _ => return None,
+    };
+    let named = Named { sides, at };
+    Some(Block {
+        start,
+        end,
+        named,
+        own,
+    })
 }
 
 // The first block from an offset on.
-pub fn block_from(map: &[u8], from: usize) -> Next
+pub fn block_from(map: &[u8], from: usize) -> Option<Block>
     requires { Walking map.now from }
     ensures { next_block map.now from result }
 {
     let mut at = from;
-    loop {
-        match next(map, at) {
-            Walk::Here { entry, behind } => match seen_in(entry) {
-                Seen::Block(start, end, many, first, second) => {
-                    let named = Named {
-                        many,
-                        first,
-                        second,
-                        at: behind,
-                    };
-                    return Next::Block(Block {
-                        start,
-                        end,
-                        named,
-                        own: at,
-                    });
-                }
-                Seen::Other => {
-                    at = behind;
-                }
-            },
-            Walk::Over => {
-                return Next::Over;
-            }
+    while let Some(Step { entry, behind }) = next(map, at) {
+        if let Some(block) = block_in(entry, at, behind) {
+            return Some(block);
         }
+        at = behind;
+    }
+    None
+}
+
+// The blocks of a map from an offset on.
+#[derive(Clone, Copy)]
+pub struct Blocks<'a> {
+    pub map: &'a [u8],
+    pub at: usize,
+}
+
+impl<'a> Iterator for Blocks<'a> {
+    type Item = Block;
+
+    ghost can_next = { CanGo };
+
+    ghost next_gives = { GivesBlock };
+
+    ghost remaining = { blocks_left };
+
+    fn next(&mut self) -> Option<Block> {
+        let block = block_from(self.map, self.at)?;
+        self.at = block.named.at;
+        Some(block)
     }
 }

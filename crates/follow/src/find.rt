@@ -1,72 +1,64 @@
 // The block that starts at an address.
 // "walks it block by block"
 ghost use Rattle.std.specs.Prelude.{◌<◌};
-ghost use Rattle.follow.specs.Finding.{Ready, Indexed, Index, found_in};
+ghost use Rattle.follow.specs.Finding.{Ready, Indexed, Finds, found_in};
 
-use crate::block::{Block, Next, block_from};
+use crate::block::{Block, Blocks, block_from};
 use crate::place::many;
 use lent::get64;
 
-// The block, with the place of its count among all counts; or no block starts there.
+// A block, with the place of its count among all counts.
 #[derive(Clone, Copy)]
-pub enum Found {
-    At { block: Block, slot: usize },
-    Nowhere,
+pub struct Counted {
+    pub block: Block,
+    pub slot: usize,
+}
+
+// A map, and the index of it that stands in `work`, if it has one: so many rows of blocks, and the edges behind them.
+#[derive(Clone, Copy)]
+pub struct Finder<'a> {
+    pub map: &'a [u8],
+    pub work: &'a [u8],
+    pub rows: Option<usize>,
 }
 
 // Looks for it from the first block on.
-fn scan(map: &[u8], start: usize) -> Found
+fn scan(map: &[u8], start: usize) -> Option<Counted>
     requires { Ready map.now }
     ensures { found_in map.now start result }
 {
-    let mut at = 0;
     let mut slot = 0;
-    loop {
-        match block_from(map, at) {
-            Next::Block(block) => {
-                if block.start == start {
-                    return Found::At { block, slot };
-                }
-                let named = block.named;
-                slot = slot + 1 + many(map, named);
-                at = named.at;
-            }
-            Next::Over => {
-                return Found::Nowhere;
-            }
+    for block in (Blocks { map, at: 0 }) {
+        if block.start == start {
+            return Some(Counted { block, slot });
         }
+        slot += 1 + many(map, block.named);
     }
+    None
 }
 
-// Reads it off the index.
-fn row(map: &[u8], work: &[u8], rows: usize, start: usize) -> Found
-    requires ready { Ready map.now }
-    requires indexed { Indexed map.now work.now rows }
+// Reads its row.
+fn row(finder: Finder, rows: usize, start: usize) -> Option<Counted>
+    requires indexed { Indexed finder.map.now finder.work.now rows }
     requires start_lt_rows { start < rows }
-    ensures { found_in map.now start result }
+    ensures { found_in finder.entry.map.now start result }
 {
-    let at = get64(work, 16 * start);
-    if at == 0 {
-        return Found::Nowhere;
-    }
-    let slot = get64(work, 16 * start + 8);
-    match block_from(map, at - 1) {
-        Next::Block(block) => Found::At { block, slot },
-        Next::Over => Found::Nowhere,
-    }
+    let own = get64(finder.work, 16 * start).checked_sub(1)?;
+    let slot = get64(finder.work, 16 * start + 8);
+    let block = block_from(finder.map, own)?;
+    Some(Counted { block, slot })
 }
 
-// By the index, where it has rows; else by looking for it.
-pub fn find(map: &[u8], work: &[u8], rows: usize, start: usize) -> Found
-    requires ready { Ready map.now }
-    requires index { Index map.now work.now rows }
-    ensures { found_in map.now start result }
+// By the index, where there is one; else by looking for it.
+pub fn find(finder: Finder, start: usize) -> Option<Counted>
+    requires { Finds finder }
+    ensures { found_in finder.entry.map.now start result }
 {
-    if rows == 0 {
-        return scan(map, start);
-    }
+    let Some(rows) = finder.rows else {
+        return scan(finder.map, start);
+    };
     if rows <= start {
-        return Found::Nowhere;
+        return None;
     }
-    row(map, work, rows, start)
+    row(finder, rows, start)
 }

@@ -12,4 +12,4 @@ mod room;
 mod step;
 mod walk;
 
-pub use call::{Followed, follow};
+pub use call::follow;

@@ -1,87 +1,88 @@
 // A destination's place among a block's distinct ones.
 // "one a distinct outgoing destination of it"
-ghost use Rattle.std.specs.Prelude.{◌≡◌, ◌≤◌, not, ◌&&◌, length, ◌==◌};
+ghost use Rattle.std.specs.Prelude.{◌≡◌, not, length, take};
+ghost use Rattle.spec.specs.Lists.{mem};
 ghost use Rattle.spec.specs.Counting.{distinct};
+ghost use Rattle.std.specs.Iterator.{YieldsFirst, item_count};
 ghost use Rattle.reader.specs.Walks.{Walking};
 ghost use Rattle.follow.specs.Blocks.{named_by};
-ghost use Rattle.follow.specs.Places.{fresh_in, sought};
+ghost use Rattle.follow.specs.Places.{place_in, CanChoose, distinct_left};
 
 use crate::block::Named;
-use crate::destination::{Dest, dest_of};
+use crate::destination::{Destinations, Lead, dest_of};
 
-// The place of the one that is asked for; or how many there are.
+// Whether `asked` is none of the first `count` destinations.
+fn fresh(map: &[u8], named: Named, count: usize, asked: usize) -> bool
+    requires { Walking map.now named.at }
+    ensures { result ≡ not (mem asked (take count (named_by map.now named))) }
+{
+    for to in (Destinations { map, named }).take(count) {
+        if to == asked {
+            return false;
+        }
+    }
+    true
+}
+
+// A block's distinct destinations: each where it is named first. So many are passed, and the others are left.
 #[derive(Clone, Copy)]
-pub enum Place {
-    At(usize),
-    Not(usize),
+pub struct Distinct<'a> {
+    pub map: &'a [u8],
+    pub named: Named,
+    pub passed: usize,
+    pub rest: Named,
 }
 
-// 1 where `asked` is none of the first `count` destinations, else 0.
-pub fn fresh(map: &[u8], named: Named, count: usize, asked: usize) -> usize
-    requires { (Walking map.now named.at) × (named.many ≤ 2) }
-    ensures { result ≡ fresh_in map.now named count asked }
-{
-    let mut left = count;
-    let mut rest = named;
-    while left != 0 {
-        match dest_of(map, rest) {
-            Dest::To { to, rest: others } => {
-                if to == asked {
-                    return 0;
-                }
-                left -= 1;
-                rest = others;
-            }
-            Dest::Over => {
-                return 1;
-            }
-        }
-    }
-    1
-}
+impl<'a> Distinct<'a> {
+    ghost use Rattle.follow.specs.Places.{none_passed};
 
-// Whether a destination is the one that is asked for.
-fn hits(all: bool, to: usize, asked: usize) -> bool
-    ensures { result ≡ (not all && to == asked) }
-{
-    if all {
-        return false;
-    }
-    to == asked
-}
-
-// Looks for `asked` among the distinct destinations; with `all` it counts them.
-pub fn seek(map: &[u8], named: Named, all: bool, asked: usize) -> Place
-    requires { (Walking map.now named.at) × (named.many ≤ 2) }
-    ensures { sought all asked (distinct (named_by map.now named)) result }
-{
-    let mut passed = 0;
-    let mut count = 0;
-    let mut rest = named;
-    loop {
-        match dest_of(map, rest) {
-            Dest::To { to, rest: others } => {
-                if hits(all, to, asked) {
-                    return Place::At(count);
-                }
-                count = count + fresh(map, named, passed, to);
-                passed += 1;
-                rest = others;
-            }
-            Dest::Over => {
-                return Place::Not(count);
-            }
+    // All of them.
+    pub fn new(map: &'a [u8], named: Named) -> Distinct<'a>
+        ensures { result ≡ none_passed map.entry named }
+    {
+        Distinct {
+            map,
+            named,
+            passed: 0,
+            rest: named,
         }
     }
 }
 
-// How many distinct destinations there are.
+impl<'a> Iterator for Distinct<'a> {
+    type Item = usize;
+
+    ghost can_next = { CanChoose };
+
+    ghost next_gives = { YieldsFirst distinct_left };
+
+    ghost remaining = { item_count distinct_left };
+
+    fn next(&mut self) -> Option<usize> {
+        while let Some(Lead { to, rest }) = dest_of(self.map, self.rest) {
+            let new = fresh(self.map, self.named, self.passed, to);
+            self.passed += 1;
+            self.rest = rest;
+            if new {
+                return Some(to);
+            }
+        }
+        None
+    }
+}
+
+// The place of one among them.
+pub fn seek(map: &[u8], named: Named, asked: usize) -> Option<usize>
+    requires { Walking map.now named.at }
+    ensures { place_in asked (distinct (named_by map.now named)) result }
+{
+    Distinct::new(map, named).position(|to| to == asked)
+}
+
+// How many they are.
 pub fn many(map: &[u8], named: Named) -> usize
-    requires { (Walking map.now named.at) × (named.many ≤ 2) }
+    requires { Walking map.now named.at }
     ensures { result ≡ length (distinct (named_by map.now named)) }
 {
-    match seek(map, named, true, 0) {
-        Place::At(count) => count,
-        Place::Not(count) => count,
-    }
+    Distinct::new(map, named).count()
 }

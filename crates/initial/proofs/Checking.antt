@@ -1,14 +1,16 @@
 -- The checks afterwards: a destination is looked up in the rows, a row's block is checked, and all blocks one after the other, each listed. Assumes nothing.
 use mathlib.Core.Path.{◌≡◌, refl, sym, ap, ◌∙◌}
 use mathlib.Core.Bool.{Bool, true, false, not, and-true}
-use mathlib.Core.List.{List, [], ◌∷◌, ◌++◌, map, map-append, append-nil}
+use mathlib.Core.List.{List, [], ◌∷◌, ◌++◌, map, map-append, append-nil, nil≢cons}
 use Prim.Native.Nat.{ℕ, zero, suc, ◌+◌, ◌-◌, ◌^◌, ◌≤◌, ◌<◌}
 use native.Mathlib.Nat.{zero-add, suc-add}
 use native.Mathlib.Numerals.{add-one}
 use native.Mathlib.Omega.{arith}
-use lib.Dec.{eqb}
+use lib.Dec.{eqb, leb}
 use lib.ListN.{length, get_or, take, drop, get_or-eq_default}
-use borrow.Author.Tests.{eqb-true, eq-eqb, ne_eqb}
+use borrow.Author.Tests.{lt-leb, eqb-true, eqb-false, not-true, not-false, eq-eqb, ne_eqb}
+use Rattle.std.specs.Option.{is_some, unwrap_or}
+use Rattle.std.specs.Prelude.{Option, Some, None}
 use Rattle.spec.specs.Lists.{mem}
 use Rattle.spec.specs.Blocks.{Kind, jump, jumpi, Block, block, with_kind, starts, lands, checked, check_all}
 use Rattle.lent.specs.Bytes.{num_at, Holds}
@@ -16,23 +18,25 @@ use Rattle.lent.proofs.Parts.{take_less, drop_more, part-prefix, part-suffix}
 use Rattle.lent.proofs.Stored.{kept-take, kept-drop}
 use Rattle.laws.proofs.Branch.{both, if-true, if-false, and-false}
 use Rattle.layout.specs.Parts.{ROW, row_place, rows_end, starts_place, start_place, SameRows}
-use Rattle.layout.specs.Rows.{END, typed, Put, TypeIs, starts_at}
+use Rattle.layout.specs.Rows.{END, tag_at, Put, TypeIs, starts_at}
 use Rattle.layout.specs.declared.row.BlockType.{BlockType}
-use Rattle.initial.specs.Rows.{type_of, kind_of, block_at, row_blocks, blocks_from, blocks_at, Laid}
+use Rattle.layout.specs.declared.row.BlockType.TheVariants.{Terminate, Jump, Jumpi, DynamicJump, DynamicJumpi}
+use Rattle.layout.proofs.Types.{is-jump, is-jumpi, row-none, row-some, row-is_some}
+use Rattle.initial.specs.Rows.{type_of, kind_of, kind_at, block_at, row_blocks, blocks_from, blocks_at, Laid}
 use Rattle.initial.specs.Promises.{Rows, Apart, no_more, one_more, through, rechecked, CheckedRow, Listing, ListedRow, CheckedAll}
-use Rattle.initial.proofs.Types.{Good, kind-type, kind-jump, kind-jumpi, good-terminate, good-jump, good}
+use Rattle.initial.proofs.Types.{Good, kind-type, good-terminate, good-jump, good}
 use Rattle.initial.proofs.Rows.{part_at, here-row, from-prefix, from-part, from-split, blocks-split, here-empty, here-block, by_row, row-changed, start-at, start-past}
 use Rattle.initial.proofs.Writing.{put-here, put-laid, laid-prefix}
-use Rattle.initial.proofs.Listing.{list-suffix}
+use Rattle.initial.proofs.Listing.{list-none, list-suffix}
 
 -- ---- a destination is looked up
 
 module _ (code w : List ℕ) (t : ℕ) where
-  pub starts-past : length code < t → false ≡ mem t (starts (blocks_at w (length code)))
-  starts-past h = sym (start-past w t (length code) h)
+  pub starts-past : length code < t → leb t (length code) ≡ mem t (starts (blocks_at w (length code)))
+  starts-past h = rw (lt-leb t (length code) h) (sym (start-past w t (length code) h))
 
-  pub starts-tag : {k : ℕ} → t ≤ length code → Holds 1 w (row_place t) k → not (eqb k 0) ≡ mem t (starts (blocks_at w (length code)))
-  starts-tag h k = rw k.is (sym (start-at w t (length code) h))
+  pub starts-type : {o : Option BlockType} → t ≤ length code → TypeIs w t o → is_some o ≡ mem t (starts (blocks_at w (length code)))
+  starts-type h y = row-is_some y ∙ sym (start-at w t (length code) h)
 
   pub lands-past : length code ≤ t → false ≡ lands code (starts (blocks_at w (length code))) t
   lands-past h = sym (and-false (mem t (starts (blocks_at w (length code)))) (rw (get_or-eq_default code 0 h)))
@@ -46,22 +50,22 @@ module _ (code w : List ℕ) (t : ℕ) where
 -- ---- a type is checked, where the blocks start so
 
 module _ (code ss : List ℕ) where
-  pub jump_kept : {l : Bool} (to : ℕ) → l ≡ lands code ss to → l ≡ true → typed 3 to 0 ≡ type_of (checked code ss (jump to))
+  pub jump_kept : {l : Bool} (to : ℕ) → l ≡ lands code ss to → l ≡ true → Jump to ≡ type_of (checked code ss (jump to))
   jump_kept to e p = sym (ap type_of (if-true _ _ _ (sym e ∙ p)))
 
-  pub jump-ends : {l : Bool} (to : ℕ) → l ≡ lands code ss to → l ≡ false → typed 1 0 0 ≡ type_of (checked code ss (jump to))
+  pub jump-ends : {l : Bool} (to : ℕ) → l ≡ lands code ss to → l ≡ false → Terminate false ≡ type_of (checked code ss (jump to))
   jump-ends to e p = sym (ap type_of (if-false _ _ _ (sym e ∙ p)))
 
-  pub jumpi-ends : {m : Bool} (to f : ℕ) → m ≡ mem f ss → m ≡ false → typed 1 0 0 ≡ type_of (checked code ss (jumpi to f))
+  pub jumpi-ends : {m : Bool} (to f : ℕ) → m ≡ mem f ss → m ≡ false → Terminate false ≡ type_of (checked code ss (jumpi to f))
   jumpi-ends to f d q = sym (ap type_of (if-false _ _ _ (sym d ∙ q)))
 
   pub side-starts : {m : Bool} (f : ℕ) → m ≡ mem f ss → m ≡ true → mem f ss ≡ true
   side-starts f d q = sym d ∙ q
 
-  pub jumpi-kept : {l : Bool} (to f : ℕ) → mem f ss ≡ true → l ≡ lands code ss to → l ≡ true → typed 4 to f ≡ type_of (checked code ss (jumpi to f))
+  pub jumpi-kept : {l : Bool} (to f : ℕ) → mem f ss ≡ true → l ≡ lands code ss to → l ≡ true → Jumpi to f ≡ type_of (checked code ss (jumpi to f))
   jumpi-kept to f q e p = sym (ap type_of (if-true _ _ _ q ∙ if-true _ _ _ (sym e ∙ p)))
 
-  pub jumpi-falls : {l : Bool} (to f : ℕ) → mem f ss ≡ true → l ≡ lands code ss to → l ≡ false → typed 3 f 0 ≡ type_of (checked code ss (jumpi to f))
+  pub jumpi-falls : {l : Bool} (to f : ℕ) → mem f ss ≡ true → l ≡ lands code ss to → l ≡ false → Jump f ≡ type_of (checked code ss (jumpi to f))
   jumpi-falls to f q e p = sym (ap type_of (if-true _ _ _ q ∙ if-false _ _ _ (sym e ∙ p)))
 
   abbrev Fits : Kind → Type 0
@@ -74,35 +78,33 @@ module _ (code ss : List ℕ) where
   good-checked-jumpi to f h g =
       both Fits (mem f ss) (λ _. both Fits (lands code ss to) (λ _. good (jumpi to f) h g) (λ _. good-jump f g)) (λ _. good-terminate false)
 
-  module _ (t : BlockType) where
-    Same : Kind → Type 0
-    Same k = checked code ss k ≡ k
-
-    kind-same : (t.kind ≡ 3 → ⊥) → (t.kind ≡ 4 → ⊥) → checked code ss (kind_of t) ≡ kind_of t
-    unfolding kind_of Same
-    kind-same h g =
-        both Same (eqb t.kind 1) (λ _. refl)
-        (λ _. both Same (eqb t.kind 2) (λ _. refl)
-        (λ _. both Same (eqb t.kind 3) (λ e. absurd (h (eqb-true _ _ e)))
-        (λ _. both Same (eqb t.kind 4) (λ e. absurd (g (eqb-true _ _ e)))
-        (λ _. both Same (eqb t.kind 5) (λ _. refl) (λ _. refl)))))
+  -- a type that is neither Jump nor Jumpi stays
+  kind-same : (t : BlockType) → ((to : ℕ) → t ≡ Jump to → ⊥) → ((to f : ℕ) → t ≡ Jumpi to f → ⊥) → checked code ss (kind_of t) ≡ kind_of t
+  kind-same (Terminate success) h g = refl
+  kind-same (Jump to) h g = absurd (h to refl)
+  kind-same (Jumpi to f) h g = absurd (g to f refl)
+  kind-same DynamicJump h g = refl
+  kind-same (DynamicJumpi f) h g = refl
 
 -- ---- a row's block is checked
 
-module _ {code w : List ℕ} {a : ℕ} {t : BlockType} (r : Rows code w) (h : a ≤ length code) (y : TypeIs w a t) where
+module _ {code w : List ℕ} {a : ℕ} {o : Option BlockType} (r : Rows code w) (h : a ≤ length code) (y : TypeIs w a o) where
   ss : List ℕ
   ss = starts (blocks_at w (length code))
 
   -- the block that stands there
-  there : (t.kind ≡ 0 → ⊥) → row_blocks w a ≡ block_at w a ∷ []
-  there z = here-block w a (λ n. z (ap (λ (b : BlockType). b.kind) y.is ∙ n))
+  there : {t : BlockType} → o ≡ Some t → row_blocks w a ≡ block_at w a ∷ []
+  there q = here-block w a (row-some y q).0
 
-  row_written : {w' : List ℕ} {end : ℕ} {k : BlockType} → (t.kind ≡ 0 → ⊥) → Holds 2 w (row_place a + END) end → kind_of k ≡ checked code ss (kind_of t) → Good k → Put w a end k w'
+  kind-there : {t : BlockType} → o ≡ Some t → kind_at w a ≡ kind_of t
+  kind-there q = ap kind_of (row-some y q).1
+
+  row_written : {w' : List ℕ} {t : BlockType} {end : ℕ} {k : BlockType} → o ≡ Some t → Holds 2 w (row_place a + END) end → kind_of k ≡ checked code ss (kind_of t) → Good k → Put w a end k w'
       → CheckedRow code w a w' end
   unfolding ss
-  row_written {w'} {end} {k} z e q g p =
+  row_written {w'} {t} {end} {k} z e q g p =
       record {
-        same = put-here p g e.small ∙ rw (q, e.is, y.is) (sym (ap (map (rechecked code (starts (blocks_at w (length code))))) (there z)));
+        same = put-here p g e.small ∙ rw (q, e.is, ← kind-there z) (sym (ap (map (rechecked code (starts (blocks_at w (length code))))) (there z)));
         before = kept-take p.stored (row_place a) (omega arith);
         past = kept-drop p.stored (row_place (a + 1)) (omega arith);
         end = e.is ∙ sym (ap (through a) (there z));
@@ -110,32 +112,43 @@ module _ {code w : List ℕ} {a : ℕ} {t : BlockType} (r : Rows code w) (h : a 
         kept = p.stored.kept;
       }
 
-  pub row-jump : {w' : List ℕ} {end : ℕ} {k : BlockType} → t.kind ≡ 3 → Holds 2 w (row_place a + END) end
-      → k ≡ type_of (checked code (starts (blocks_at w (length code))) (jump t.to)) → Put w a end k w' → CheckedRow code w a w' end
+  pub row-jump : {w' : List ℕ} {t : BlockType} {to end : ℕ} {k : BlockType} → o ≡ Some t → t ≡ Jump to → Holds 2 w (row_place a + END) end
+      → k ≡ type_of (checked code (starts (blocks_at w (length code))) (jump to)) → Put w a end k w' → CheckedRow code w a w' end
   unfolding ss
-  row-jump c e q p =
-      row_written (λ n. omega arith) e (ap kind_of q ∙ kind-type _ ∙ ap (checked code ss) (sym (kind-jump t c)))
-      (rw q (good-checked-jump code ss t.to y.to)) p
+  row-jump {w'} {t} {to} z j e q p =
+      let z : o ≡ Some (Jump to) = rw j at z in
+      let t = row-some y z in
+      let side = is-jump _ _ _ t.0 t.1 in
+      row_written z e (ap kind_of q ∙ kind-type _) (rw q (good-checked-jump code ss to (rw side.1 at y.to))) p
 
-  pub row-jumpi : {w' : List ℕ} {end : ℕ} {k : BlockType} → t.kind ≡ 4 → Holds 2 w (row_place a + END) end
-      → k ≡ type_of (checked code (starts (blocks_at w (length code))) (jumpi t.to t.other)) → Put w a end k w' → CheckedRow code w a w' end
+  pub row-jumpi : {w' : List ℕ} {t : BlockType} {to f end : ℕ} {k : BlockType} → o ≡ Some t → t ≡ Jumpi to f → Holds 2 w (row_place a + END) end
+      → k ≡ type_of (checked code (starts (blocks_at w (length code))) (jumpi to f)) → Put w a end k w' → CheckedRow code w a w' end
   unfolding ss
-  row-jumpi c e q p =
-      row_written (λ n. omega arith) e (ap kind_of q ∙ kind-type _ ∙ ap (checked code ss) (sym (kind-jumpi t c)))
-      (rw q (good-checked-jumpi code ss t.to t.other y.to y.other)) p
+  row-jumpi {w'} {t} {to} {f} z j e q p =
+      let z : o ≡ Some (Jumpi to f) = rw j at z in
+      let t = row-some y z in
+      let sides = is-jumpi _ _ _ t.0 t.1 in
+      row_written z e (ap kind_of q ∙ kind-type _) (rw q (good-checked-jumpi code ss to f (rw sides.1 at y.to) (rw sides.2 at y.other))) p
 
   row_kept : {end : ℕ} → row_blocks w a ≡ map (rechecked code (starts (blocks_at w (length code)))) (row_blocks w a) → end ≡ through a (row_blocks w a) → CheckedRow code w a w end
   row_kept s e = record { same = s; before = refl; past = refl; end = e; laid = r.laid; kept = refl }
 
-  pub row-none : t.kind ≡ 0 → CheckedRow code w a w a
-  row-none c =
-      let none = here-empty w a (ap (λ (b : BlockType). b.kind) (sym y.is) ∙ c) in
+  pub row-empty : o ≡ None → CheckedRow code w a w a
+  row-empty z =
+      let none = here-empty w a (row-none y z) in
       row_kept (rw none) (rw none)
 
-  pub row_same : {end : ℕ} → (t.kind ≡ 0 → ⊥) → (t.kind ≡ 3 → ⊥) → (t.kind ≡ 4 → ⊥) → Holds 2 w (row_place a + END) end → CheckedRow code w a w end
-  row_same z c d e =
+  -- whether a block starts there is said
+  pub empty-starts : o ≡ None → false ≡ not (eqb (tag_at w a) 0)
+  empty-starts z = sym (ap is_some z) ∙ row-is_some y
+
+  pub some-starts : {t : BlockType} → o ≡ Some t → true ≡ not (eqb (tag_at w a) 0)
+  some-starts z = sym (ap is_some z) ∙ row-is_some y
+
+  pub row_same : {t : BlockType} {end : ℕ} → o ≡ Some t → ((to : ℕ) → t ≡ Jump to → ⊥) → ((to f : ℕ) → t ≡ Jumpi to f → ⊥) → Holds 2 w (row_place a + END) end → CheckedRow code w a w end
+  row_same {t} z c d e =
       let s = kind-same code (starts (blocks_at w (length code))) t c d in
-      row_kept (rw (there z) (ap {B = List Block} (λ (k : Kind). block a a (num_at 2 w (row_place a + END)) k ∷ []) (sym (rw y.is at s)))) (e.is ∙ rw (there z))
+      row_kept (rw (there z) (ap {B = List Block} (λ (k : Kind). block a a (num_at 2 w (row_place a + END)) k ∷ []) (sym (rw (← kind-there z) at s)))) (e.is ∙ rw (there z))
 
 -- ---- no block starts behind another's start up to its end
 
@@ -231,11 +244,11 @@ module _ {code w₀ w : List ℕ} {a many : ℕ} (r : Rows code w₀) (g : Check
     pub check-listing : Listing (length code) w₁ a many
     check-listing = record { short = r.lent.short; room = omega (arith, c.kept, g.kept, r.lent.room); inside = h; few = g.few }
 
-    pub check-fits : end + 1 < 2 ^ 64
-    check-fits = omega (arith, passed.inside, r.lent.short)
+    fits : end + 1 < 2 ^ 64
+    fits = omega (arith, passed.inside, r.lent.short)
 
-    pub check-less : length code + 1 - (end + 1) < length code + 1 - a
-    check-less = omega (arith, passed.forward)
+    less : length code + 1 - (end + 1) < length code + 1 - a
+    less = omega (arith, passed.forward)
 
     -- the row's block starts where it did
     same_start : starts (row_blocks w₁ a) ≡ starts (row_blocks w₀ a)
@@ -275,8 +288,8 @@ module _ {code w₀ w : List ℕ} {a many : ℕ} (r : Rows code w₀) (g : Check
           ∙ part-suffix w₁ w (row_place (a + 1)) c.past k (row_place (end + 1)) (omega (arith, passed.forward))
           ∙ part_at w w₀ (starts_place (length code) - row_place a) (row_place a) g.back k (row_place (end + 1)) (omega (arith, passed.forward)) (omega (arith, passed.inside))
 
-      pub check-more : Checking code w₀ w₂ (end + 1) more
-      check-more =
+      more-checked : Checking code w₀ w₂ (end + 1) more
+      more-checked =
           record {
             front = rw add-one checked-front;
             list = rw add-one listed-front;
@@ -290,6 +303,34 @@ module _ {code w₀ w : List ℕ} {a many : ℕ} (r : Rows code w₀) (g : Check
             kept = l.kept ∙ c.kept ∙ g.kept;
             inside = omega (arith, passed.inside);
           }
+
+  -- as the loop has them: the block's end, if one starts there
+  module _ (s : Apart (length code) 0 (blocks_at w₀ (length code))) (h : a ≤ length code) {w₁ : List ℕ} {o : Option ℕ} (c : CheckedRow code w a w₁ (unwrap_or o a))
+      (q : is_some o ≡ not (eqb (tag_at w a) 0)) where
+    module _ {end : ℕ} (e : o ≡ Some end) where
+      is-end : unwrap_or o a ≡ end
+      is-end = ap (λ (r : Option ℕ). unwrap_or r a) e
+
+      pub check-starts : tag_at w₁ a ≡ 0 → ⊥
+      check-starts z =
+          let there = here-block w a (eqb-false _ _ (not-true _ (sym q ∙ ap is_some e))) in
+          let kept : row_blocks w₁ a ≡ rechecked code (starts (blocks_at w (length code))) (block_at w a) ∷ [] = c.same ∙ ap (map (rechecked code (starts (blocks_at w (length code))))) there in
+          nil≢cons (sym (here-empty w₁ a z) ∙ kept)
+
+      pub check-fits : end + 1 < 2 ^ 64
+      check-fits = rw is-end at (fits s h c)
+
+      pub check-less : length code + 1 - (end + 1) < length code + 1 - a
+      check-less = rw is-end at (less s h c)
+
+      pub check-more : {w₂ : List ℕ} → ListedRow (length code) w₁ a many w₂ (many + 1) → Checking code w₀ w₂ (end + 1) (many + 1)
+      check-more l = rw is-end at (more-checked s h c l)
+
+    pub check-past : o ≡ None → Checking code w₀ w₁ (a + 1) many
+    check-past e =
+        let none = here-empty w a (eqb-true _ _ (not-false _ (sym q ∙ ap is_some e))) in
+        let same : unwrap_or o a ≡ a = ap (λ (r : Option ℕ). unwrap_or r a) e in
+        rw same at (more-checked s h c (list-none (check-listing s h c) (c.same ∙ rw none)))
 
   pub check_done : length code < a → CheckedAll code w₀ w many
   check_done h =

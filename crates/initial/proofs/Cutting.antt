@@ -9,26 +9,25 @@ use native.Mathlib.Decide.{dec_le}
 use lib.Dec.{eqb}
 use lib.ListN.{length, get_or, drop, replicate}
 use borrow.Author.Tests.{eqb-true, le-leb, lt-leb}
+use Rattle.std.specs.Prelude as std
 use Rattle.spec.specs.Opcodes.{row}
 use Rattle.spec.specs.Walk.{Ins, walk}
 use Rattle.spec.specs.Blocks as spec
 use Rattle.spec.specs.Blocks.{terminate, Block, block, opened, JUMPDEST, JUMPI, JUMP, UNKNOWN, OTHER, ENDS, cut, closes, cuts}
 use Rattle.lent.specs.Bytes.{Stored}
 use Rattle.evm.specs.Step.{step_at}
-use Rattle.evm.specs.declared.walk.Step.{Step}
-use Rattle.evm.specs.declared.walk.Step.TheVariants as step
+use Rattle.evm.specs.declared.walk.Instruction.{Instruction}
 use Rattle.evm.proofs.Walks.{next, walk-whole, walk_end, instructions-walk}
 use Rattle.evm.proofs.Steps.{Took, took, ended}
 use Rattle.laws.proofs.Branch.{both, if-true, if-false}
 use Rattle.layout.specs.Parts.{rows_end}
 use Rattle.layout.specs.Rows.{Put}
-use Rattle.layout.specs.declared.row.BlockType.{BlockType}
 use Rattle.initial.specs.Rows.{type_of, blocks_at, Laid}
 use Rattle.initial.specs.Turn.{clipped, pushed_at, ahead}
 use Rattle.initial.specs.Promises.{Lent, Beyond, Written, Stands, lowest, Standing, Ready, after, Turned, last, cutting}
 use Rattle.initial.specs.declared.turn.Walking.{Walking}
 use Rattle.initial.specs.declared.turn.Walking.TheVariants.{Opened, Waiting, Ended}
-use Rattle.initial.proofs.Types.{Good, kind-type, good-terminate}
+use Rattle.initial.proofs.Types.{good-terminate}
 use Rattle.initial.proofs.Writing.{put-append, put-laid, put-beyond, less-empty, beyond-same, beyond-more, wiped-blocks, wiped-empty, wiped-laid, wiped-beyond}
 use Rattle.initial.proofs.Jumping.{push-low}
 use Rattle.initial.proofs.Turning.{ahead-ended}
@@ -87,30 +86,30 @@ last-beyond : (start prev : ℕ) → prev < start → last (Opened start) prev �
 unfolding last cuts
 last-beyond start prev h = ap (map clipped) (if-false _ _ _ (lt-leb start prev h))
 
+last-no-block : (m : Walking) (prev : ℕ) → ((start : ℕ) → m ≡ Opened start → ⊥) → last m prev ≡ []
+unfolding last cuts
+last-no-block (Opened start) prev h = absurd (h start refl)
+last-no-block Waiting prev h = refl
+last-no-block Ended prev h = refl
+
 module _ {n : ℕ} {w : List ℕ} {mode : Walking} {prev : ℕ} (r : Standing n w mode prev n) where
   last_none : last mode prev ≡ [] → Written n (blocks_at w n ++ last mode prev) w w
   last_none e = record { blocks = rw e (sym (append-nil (blocks_at w n))); laid = r.laid; beyond = beyond-same n w }
 
-  pub last-waits : mode ≡ Waiting → Written n (blocks_at w n ++ last mode prev) w w
-  unfolding last cuts
-  last-waits o = last_none (rw o)
-
-  pub last-ended : mode ≡ Ended → Written n (blocks_at w n ++ last mode prev) w w
-  unfolding last
-  last-ended o = last_none (rw o)
+  pub last-shut : ((start : ℕ) → mode ≡ Opened start → ⊥) → Written n (blocks_at w n ++ last mode prev) w w
+  last-shut h = last_none (last-no-block mode prev h)
 
   module _ {start : ℕ} (o : mode ≡ Opened start) where
     pub last-past : prev < start → Written n (blocks_at w n ++ last mode prev) w w
     last-past h = last_none (rw o (last-beyond start prev h))
 
-    pub last-kept : {w' : List ℕ} {k : BlockType} → start ≤ prev → k ≡ type_of (terminate false) → Put w start prev k w'
-        → Written n (blocks_at w n ++ last mode prev) w w'
-    last-kept {w'} {k} h q p =
+    pub last-kept : {w' : List ℕ} → start ≤ prev → Put w start prev (type_of (terminate false)) w' → Written n (blocks_at w n ++ last mode prev) w w'
+    last-kept h p =
         let inside : start ≤ n = omega (arith, r.back, r.inside) in
         let small : prev < 65536 = omega (arith, r.back, r.inside, r.short) in
-        let good : Good k = rw q (good-terminate false) in
+        let good = good-terminate false in
         record {
-          blocks = put-append p n (rw o at r.empty) inside good small ∙ rw (o, last-open start prev h, q, kind-type);
+          blocks = put-append p n (rw o at r.empty) inside good small ∙ rw (o, last-open start prev h);
           laid = put-laid p n r.laid inside good small;
           beyond = put-beyond p n inside;
         }
@@ -164,30 +163,30 @@ module _ {code w w₀ : List ℕ} (l : Lent code w) (s : Stored (rows_end (lengt
   cut_all : {v : List ℕ} → Beyond (length code) w₀ v → Laid v (length code) → blocks_at v (length code) ≡ map clipped (cutting code) → Written (length code) (map clipped (cutting code)) w v
   cut_all b d e = record { blocks = e; laid = d; beyond = beyond-more (wiped-beyond (length code) s) b }
 
-  module _ {v : List ℕ} {m : Walking} {prev at : ℕ} {r : Step} (g : Going code w₀ v m prev at) (e : r ≡ step_at code at) where
-    pub cut-last : {v' : List ℕ} → r ≡ step.End → Written (length code) (blocks_at v (length code) ++ last m prev) v v'
+  module _ {v : List ℕ} {m : Walking} {prev at : ℕ} {r : std.Option Instruction} (g : Going code w₀ v m prev at) (e : r ≡ step_at code at) where
+    pub cut-last : {v' : List ℕ} → r ≡ std.None → Written (length code) (blocks_at v (length code) ++ last m prev) v v'
         → Written (length code) (map clipped (cutting code)) w v'
     cut-last q t =
         cut_all (beyond-more g.beyond t.beyond) t.laid
         (t.blocks ∙ ap (λ (bs : List Block). blocks_at v (length code) ++ bs) (sym (ahead-last code at m prev (ended code at e q))) ∙ g.whole)
 
-    module _ {pc op to : ℕ} (q : r ≡ step.Whole pc op to) where
-      taken : Took code at pc op to
+    module _ {i : Instruction} (q : r ≡ std.Some i) where
+      taken : Took code at i.pc i.op i.next
       taken = took code at e q
 
-      pub cut-ready : Ready code v m prev pc
+      pub cut-ready : Ready code v m prev i.pc
       cut-ready = rw taken.here g.ready
 
-      pub cut_stands : Stands code pc op
+      pub cut_stands : Stands code i.pc i.op
       cut_stands = record { byte = rw taken.here taken.byte; whole = omega (arith, taken.here, taken.size, taken.inside) }
 
-      pub cut-less : length code - to < length code - at
+      pub cut-less : length code - i.next < length code - at
       cut-less = omega (arith, taken.size, taken.inside)
 
-      module _ {v' : List ℕ} {m' : Walking} (t : Turned code v m prev pc op v' m') where
-        pub cut-more : Going code w₀ v' m' pc to
+      module _ {v' : List ℕ} {m' : Walking} (t : Turned code v m prev i.pc i.op v' m') where
+        pub cut-more : Going code w₀ v' m' i.pc i.next
         cut-more =
-            let n : to ≡ after pc op = omega (arith, taken.here, taken.size) in
+            let n : i.next ≡ after i.pc i.op = omega (arith, taken.here, taken.size) in
             rw n (record { ready = t.ready; whole = t.same ∙ rw taken.here g.whole; beyond = beyond-more g.beyond t.beyond })
 
         pub cut-stops : m' ≡ Ended → Written (length code) (map clipped (cutting code)) w v'

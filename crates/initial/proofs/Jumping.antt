@@ -1,25 +1,26 @@
 -- Where a jump goes, and what each case of the decision over an instruction gives. Assumes nothing.
 use mathlib.Core.Path.{◌≡◌, refl, sym, ap, ◌∙◌}
-use mathlib.Core.Bool.{Bool, true, false}
+use mathlib.Core.Bool.{Bool, false}
+use mathlib.Core.Logic.{◌⊎◌, inl, inr}
 use mathlib.Core.List.{List}
 use mathlib.Core.Option.{Option, none, some}
 use Prim.Native.Nat.{ℕ, ◌+◌, ◌-◌, ◌≤◌, ◌<◌, min}
 use native.Mathlib.Omega.{arith}
 use lib.ListN.{get_or, take, drop}
 use borrow.Author.Tests.{le-leb, lt-leb, eq-eqb, ne_eqb}
+use Rattle.std.specs.Prelude as std
+use Rattle.std.specs.Prelude.{Some, None}
 use Rattle.spec.specs.Opcodes.{argument}
 use Rattle.spec.specs.Walk.{big}
-use Rattle.spec.specs.Blocks.{terminate, jumping, branching}
+use Rattle.spec.specs.Blocks.{jumping, branching}
 use Rattle.evm.specs.Argument.{Follow, Spelled}
 use Rattle.evm.proofs.Arguments.{argument-push}
 use Rattle.laws.proofs.Branch.{if-true, if-false}
-use Rattle.layout.specs.Rows.{typed}
 use Rattle.layout.specs.declared.row.BlockType.{BlockType}
+use Rattle.layout.specs.declared.row.BlockType.TheVariants as type
 use Rattle.initial.specs.Rows.{type_of}
 use Rattle.initial.specs.Turn.{clip, pushed_at, target_of, turn_of}
 use Rattle.initial.specs.Promises.{Whole}
-use Rattle.initial.specs.declared.jump.Target.{Target}
-use Rattle.initial.specs.declared.jump.Target.TheVariants.{Static, Dynamic}
 use Rattle.initial.specs.declared.turn.Cut.{Cut}
 use Rattle.initial.specs.declared.turn.Cut.TheVariants.{Jumpdest, Jumpi, Jump, Ends, Unknown, Other}
 use Rattle.initial.specs.declared.turn.Walking.TheVariants.{Opened, Waiting, Ended}
@@ -39,13 +40,10 @@ module _ (code : List ℕ) (prev : ℕ) where
       let l : 0x60 ≤ get_or code prev 0 = omega arith in
       if-false _ _ _ (rw (le-leb 0x60 (get_or code prev 0) l, lt-leb (get_or code prev 0) 0x63 h))
 
-  pub static-low : get_or code prev 0 < 0x60 → Dynamic ≡ target_of (pushed_at code prev)
+  pub static-none : (get_or code prev 0 < 0x60) ⊎ ((0x60 ≤ get_or code prev 0) × (0x63 < get_or code prev 0)) → None ≡ target_of (pushed_at code prev)
   unfolding target_of
-  static-low h = rw (push-low h)
-
-  pub static-high : 0x63 < get_or code prev 0 → Dynamic ≡ target_of (pushed_at code prev)
-  unfolding target_of
-  static-high h = rw (push-high h)
+  static-none (inl h) = rw (push-low h)
+  static-none (inr h) = rw (push-high h.1)
 
   module _ (h : 0x60 ≤ get_or code prev 0) (g : get_or code prev 0 ≤ 0x63) where
     size : argument (get_or code prev 0) ≡ get_or code prev 0 - 0x5F
@@ -61,41 +59,31 @@ module _ (code : List ℕ) (prev : ℕ) where
           if-true _ _ _ (rw (le-leb 0x60 (get_or code prev 0) h, le-leb (get_or code prev 0) 0x63 g))
           ∙ ap (λ (n : ℕ). some n) (ap (λ (k : ℕ). big 0 (take k (drop (prev + 1) code))) size ∙ sym s.spelt)
 
-      pub static-near : v < 0xFFFF → Static v ≡ target_of (pushed_at code prev)
+      pub static-some : {m : ℕ} → m ≡ min v 0xFFFF → Some m ≡ target_of (pushed_at code prev)
       unfolding target_of
-      static-near l = let m : min v 0xFFFF ≡ v = omega arith in rw (push-static, m)
-
-      pub static-far : 0xFFFF ≤ v → Static 0xFFFF ≡ target_of (pushed_at code prev)
-      unfolding target_of
-      static-far l = let m : min v 0xFFFF ≡ 0xFFFF = omega arith in rw (push-static, m)
+      static-some e = rw (push-static, e)
 
 -- ---- the types of jumps
 
-pub jumping-static : (push : Option ℕ) {t : Target} {to : ℕ} → t ≡ target_of push → t ≡ Static to → typed 3 to 0 ≡ type_of (clip (jumping push))
+pub jumping-static : (push : Option ℕ) {t : std.Option ℕ} {to : ℕ} → t ≡ target_of push → t ≡ Some to → type.Jump to ≡ type_of (clip (jumping push))
 unfolding target_of
 jumping-static none e d = cc
-jumping-static (some v) e d = ap (λ (n : ℕ). typed 3 n 0) (cc)
+jumping-static (some v) e d = ap (λ (n : ℕ). type.Jump n) (cc)
 
-pub jumping-dynamic : (push : Option ℕ) {t : Target} → t ≡ target_of push → t ≡ Dynamic → typed 5 0 0 ≡ type_of (clip (jumping push))
+pub jumping-dynamic : (push : Option ℕ) {t : std.Option ℕ} → t ≡ target_of push → t ≡ None → type.DynamicJump ≡ type_of (clip (jumping push))
 unfolding target_of
 jumping-dynamic none e d = refl
 jumping-dynamic (some v) e d = cc
 
-pub branching-static : (push : Option ℕ) (f : ℕ) {t : Target} {to : ℕ} → t ≡ target_of push → t ≡ Static to → typed 4 to f ≡ type_of (clip (branching push f))
+pub branching-static : (push : Option ℕ) (f : ℕ) {t : std.Option ℕ} {to : ℕ} → t ≡ target_of push → t ≡ Some to → type.Jumpi to f ≡ type_of (clip (branching push f))
 unfolding target_of
 branching-static none f e d = cc
-branching-static (some v) f e d = ap (λ (n : ℕ). typed 4 n f) (cc)
+branching-static (some v) f e d = ap (λ (n : ℕ). type.Jumpi n f) (cc)
 
-pub branching-dynamic : (push : Option ℕ) (f : ℕ) {t : Target} → t ≡ target_of push → t ≡ Dynamic → typed 6 0 f ≡ type_of (clip (branching push f))
+pub branching-dynamic : (push : Option ℕ) (f : ℕ) {t : std.Option ℕ} → t ≡ target_of push → t ≡ None → type.DynamicJumpi f ≡ type_of (clip (branching push f))
 unfolding target_of
 branching-dynamic none f e d = refl
 branching-dynamic (some v) f e d = cc
-
-pub ends-well : (success : Bool) → success ≡ true → typed 2 0 0 ≡ type_of (terminate success)
-ends-well success e = rw e
-
-pub ends-badly : (success : Bool) → success ≡ false → typed 1 0 0 ≡ type_of (terminate success)
-ends-badly success e = rw e
 
 -- ---- each case of the decision
 
@@ -104,18 +92,17 @@ module _ (start prev : ℕ) (push : Option ℕ) (pc : ℕ) where
   unfolding turn_of
   jumpdest-own e = sym (if-true _ _ _ (eq-eqb start pc e))
 
-  pub jumpdest-past : (start ≡ pc → ⊥) → Closes prev (typed 3 pc 0) (Opened pc) ≡ turn_of start prev push pc Jumpdest
+  pub jumpdest-past : (start ≡ pc → ⊥) → Closes prev (type.Jump pc) (Opened pc) ≡ turn_of start prev push pc Jumpdest
   unfolding turn_of
   jumpdest-past h = sym (if-false _ _ _ (ne_eqb start pc h))
 
-  module _ {t : BlockType} where
-    pub unknown-first : t ≡ type_of (terminate false) → start ≡ 0 → Closes prev t Ended ≡ turn_of start prev push pc Unknown
-    unfolding turn_of
-    unknown-first q e = rw q (sym (if-true _ _ _ (eq-eqb start 0 e)))
+  pub unknown-first : start ≡ 0 → Closes prev (type.Terminate false) Ended ≡ turn_of start prev push pc Unknown
+  unfolding turn_of
+  unknown-first e = sym (if-true _ _ _ (eq-eqb start 0 e))
 
-    pub unknown-past : t ≡ type_of (terminate false) → (start ≡ 0 → ⊥) → (pc ≡ start → ⊥) → Closes prev t Waiting ≡ turn_of start prev push pc Unknown
-    unfolding turn_of
-    unknown-past q h g = rw q (sym (if-false _ _ _ (ne_eqb start 0 h) ∙ if-false _ _ _ (ne_eqb start pc (λ e. g (sym e)))))
+  pub unknown-past : (start ≡ 0 → ⊥) → (pc ≡ start → ⊥) → Closes prev (type.Terminate false) Waiting ≡ turn_of start prev push pc Unknown
+  unfolding turn_of
+  unknown-past h g = sym (if-false _ _ _ (ne_eqb start 0 h) ∙ if-false _ _ _ (ne_eqb start pc (λ e. g (sym e))))
 
   pub unknown-own : (start ≡ 0 → ⊥) → pc ≡ start → Goes Waiting ≡ turn_of start prev push pc Unknown
   unfolding turn_of
@@ -138,9 +125,9 @@ module _ (start prev : ℕ) (push : Option ℕ) (pc : ℕ) where
     unfolding turn_of
     at-jump e q = rw (e, q)
 
-    pub at-ends : {t : BlockType} {success : Bool} → c ≡ Ends success → t ≡ type_of (terminate success) → Closes pc t Waiting ≡ turn_of start prev push pc c
+    pub at-ends : {success : Bool} → c ≡ Ends success → Closes pc (type.Terminate success) Waiting ≡ turn_of start prev push pc c
     unfolding turn_of
-    at-ends e q = rw (e, q)
+    at-ends e = rw e
 
     pub at_other : c ≡ Other → Goes (Opened start) ≡ turn_of start prev push pc c
     unfolding turn_of

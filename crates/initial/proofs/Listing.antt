@@ -7,14 +7,14 @@ use native.Mathlib.Numerals.{add-one}
 use native.Mathlib.Omega.{arith}
 use lib.ListN.{length, get_or, drop}
 use Rattle.spec.specs.Lists.{little}
-use Rattle.lent.specs.Bytes.{num_at, Holds, Stored}
+use Rattle.lent.specs.Bytes.{num_at, Stored}
 use Rattle.lent.proofs.Numbers.{num-suffix}
 use Rattle.lent.proofs.Stored.{kept-take, kept-drop, kept-num, read_back}
-use Rattle.layout.specs.Parts.{row_place, starts_place, start_place}
-use Rattle.layout.specs.Rows.{starts_at}
+use Rattle.layout.specs.Parts.{starts_place, start_place}
+use Rattle.layout.specs.Rows.{tag_at, starts_at}
 use Rattle.initial.specs.Rows.{block_at, row_blocks}
 use Rattle.initial.specs.Promises.{Listing, ListedRow}
-use Rattle.initial.proofs.Rows.{here-empty, here-block}
+use Rattle.initial.proofs.Rows.{here-block}
 
 module _ (n : ℕ) where
   -- ---- what it depends on: the entries' numbers
@@ -56,10 +56,10 @@ module _ (n : ℕ) where
 -- ---- the start of a row's block, if one starts there, is put behind the others
 
 module _ {n : ℕ} {w : List ℕ} {a many : ℕ} (l : Listing n w a many) where
-  pub list-none : {t : ℕ} → Holds 1 w (row_place a) t → t ≡ 0 → ListedRow n w a many w many
-  list-none h z =
+  pub list-none : row_blocks w a ≡ [] → ListedRow n w a many w many
+  list-none e =
       record {
-        list = rw (here-empty w a (sym h.is ∙ z)) (sym (append-nil (starts_at w n 0 many)));
+        list = rw e (sym (append-nil (starts_at w n 0 many)));
         before = refl;
         past = refl;
         low = omega arith;
@@ -67,9 +67,9 @@ module _ {n : ℕ} {w : List ℕ} {a many : ℕ} (l : Listing n w a many) where
         kept = refl;
       }
 
-  pub list-one : {t : ℕ} {w' : List ℕ} → Holds 1 w (row_place a) t → (t ≡ 0 → ⊥) → Stored 2 w (start_place n many) (little 2 a) w' → ListedRow n w a many w' (many + 1)
-  list-one {t} {w'} h z s =
-      let there : row_blocks w a ≡ block_at w a ∷ [] = here-block w a (λ e. z (h.is ∙ e)) in
+  pub list-one : {w' : List ℕ} → (tag_at w a ≡ 0 → ⊥) → Stored 2 w (start_place n many) (little 2 a) w' → ListedRow n w a many w' (many + 1)
+  list-one {w'} z s =
+      let there : row_blocks w a ≡ block_at w a ∷ [] = here-block w a z in
       let old : starts_at w' n 0 many ≡ starts_at w n 0 many = list_same n w' w 0 many (λ x k g. kept-num s 2 (start_place n x) (λ _. omega arith)) in
       let new : num_at 2 w' (start_place n many) ≡ a = read_back s (omega (arith, l.short)) in
       record {

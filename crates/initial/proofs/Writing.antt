@@ -13,31 +13,32 @@ use Rattle.lent.proofs.Parts.{part-of-take, part-prefix}
 use Rattle.lent.proofs.Numbers.{number-little, num-zeros}
 use Rattle.lent.proofs.Stored.{kept-drop, kept-part, read_all, read-part, read-num}
 use Rattle.layout.specs.Parts.{ROW, row_place, rows_end, SameRows}
-use Rattle.layout.specs.Rows.{END, TO, OTHER, BLOCK, REST, tag_at, head_of, Put}
+use Rattle.layout.specs.Rows.{END, TO, OTHER, BLOCK, REST, tag_of, to_of, other_of, tag_at, type_at, head_of, Put}
 use Rattle.layout.specs.declared.row.BlockType.{BlockType}
 use Rattle.initial.specs.Rows.{kind_of, row_blocks, blocks_from, blocks_at, row_of, Laid}
 use Rattle.initial.specs.Promises.{Empty, Beyond}
-use Rattle.initial.proofs.Types.{Good}
+use Rattle.layout.proofs.Types.{typed-back, tag-range}
+use Rattle.initial.proofs.Types.{Good, type-kind}
 use Rattle.initial.proofs.Rows.{here-row, tag-row, here-empty, here-block, from-rows, from_empty, blocks-split}
 
 -- ---- the fields of a row's first eight bytes
 
 module _ (end : ℕ) (t : BlockType) where
-  head-tag : t.kind < 256 → num_at 1 (head_of end t) 0 ≡ t.kind
+  head-tag : num_at 1 (head_of end t) 0 ≡ tag_of t
   unfolding num_at
-  head-tag h = number-little 1 t.kind h
+  head-tag = number-little 1 (tag_of t) (omega (arith, (tag-range t).1))
 
   head-end : end < 65536 → num_at 2 (head_of end t) END ≡ end
   unfolding num_at
   head-end h = number-little 2 end h
 
-  head-to : t.to < 65536 → num_at 2 (head_of end t) TO ≡ t.to
+  head-to : to_of t < 65536 → num_at 2 (head_of end t) TO ≡ to_of t
   unfolding num_at
-  head-to h = number-little 2 t.to h
+  head-to h = number-little 2 (to_of t) h
 
-  head-other : t.other < 65536 → num_at 2 (head_of end t) OTHER ≡ t.other
+  head-other : other_of t < 65536 → num_at 2 (head_of end t) OTHER ≡ other_of t
   unfolding num_at
-  head-other h = number-little 2 t.other h
+  head-other h = number-little 2 (other_of t) h
 
 later-zero : (bs : List Block) → drop BLOCK (row_of bs) ≡ replicate REST 0
 later-zero [] = refl
@@ -54,21 +55,17 @@ laid-prefix {w} {v} {n} l e =
 -- ---- the row that is written
 
 module _ {w w' : List ℕ} {a end : ℕ} {t : BlockType} (p : Put w a end t w') where
-  put-tag : t.kind < 256 → tag_at w' a ≡ t.kind
-  put-tag h = rw add-zero at (read-num p.stored 1 0 (omega arith)) ∙ head-tag end t h
+  put-tag : tag_at w' a ≡ tag_of t
+  put-tag = rw add-zero at (read-num p.stored 1 0 (omega arith)) ∙ head-tag end t
+
+  put-type : Good t → type_at w' a ≡ t
+  put-type g =
+      rw (put-tag, read-num p.stored 2 TO (omega arith), head-to end t g.to, read-num p.stored 2 OTHER (omega arith), head-other end t g.other) (typed-back t)
 
   pub put-here : Good t → end < 65536 → row_blocks w' a ≡ block a a end (kind_of t) ∷ []
   put-here g e =
-      here-block w' a (λ z. omega (arith, put-tag (omega (arith, g.range.1)), g.range.0))
-      ∙ rw (
-        put-tag (omega (arith, g.range.1)),
-        read-num p.stored 2 END (omega arith),
-        head-end end t e,
-        read-num p.stored 2 TO (omega arith),
-        head-to end t g.to,
-        read-num p.stored 2 OTHER (omega arith),
-        head-other end t g.other,
-      )
+      here-block w' a (λ z. omega (arith, put-tag, (tag-range t).0))
+      ∙ rw (put-type g, read-num p.stored 2 END (omega arith), head-end end t e)
 
   -- ---- the other rows
 
@@ -92,7 +89,7 @@ module _ {w w' : List ℕ} {a end : ℕ} {t : BlockType} (p : Put w a end t w') 
   put-laid n l h g e = record { row = λ x k. go x k (ℕ_discrete x a) }
     where
       go : (x : ℕ) → x ≤ n → Dec (x ≡ a) → take ROW (drop (row_place x) w') ≡ row_of (row_blocks w' x)
-      go x k (yes q) = rw (q, put-here g e, g.canon) (put-row ∙ ap (λ (bs : List ℕ). head_of end t ++ bs) (laid-later l a h))
+      go x k (yes q) = rw (q, put-here g e, type-kind t) (put-row ∙ ap (λ (bs : List ℕ). head_of end t ++ bs) (laid-later l a h))
       go x k (no q) = put_other x q ∙ l.row x k ∙ ap row_of (sym (put-here-other x q))
 
   -- ---- the blocks, where none stands at the row or past it

@@ -1,31 +1,28 @@
 -- The blocks that the rows of W hold, one for each address from 0 to the code's length, in address order, which is the blocks' order. Assumes nothing.
-use Rattle.std.specs.Prelude.{◌≡◌, true, false, List, [], ◌∷◌, ◌++◌, ℕ, zero, suc, ◌+◌, ◌≤◌, eqb, take, drop, replicate}
+use Rattle.std.specs.Prelude.{◌≡◌, List, [], ◌∷◌, ◌++◌, ℕ, zero, suc, ◌+◌, ◌≤◌, eqb, take, drop, replicate}
 use Rattle.spec.specs.Lists.{if}
 use Rattle.spec.specs.Blocks.{Kind, terminate, jump, jumpi, dynamic_jump, dynamic_jumpi, Block, block, starts}
 use Rattle.lent.specs.Bytes.{num_at}
 use Rattle.layout.specs.Parts.{ROW, row_place}
-use Rattle.layout.specs.Rows.{END, REST, typed, tag_at, type_at, head_of, starts_at}
+use Rattle.layout.specs.Rows.{END, REST, tag_at, type_at, head_of, starts_at}
 use Rattle.layout.specs.declared.row.BlockType.{BlockType}
+use Rattle.layout.specs.declared.row.BlockType.TheVariants.{Terminate, Jump, Jumpi, DynamicJump, DynamicJumpi}
 
--- ---- kinds, by their byte and the two sides
+-- ---- kinds, as a row's type and back
 
--- the kind that is written so; a side that it does not have is 0
 abbrev pub type_of : Kind → BlockType
-type_of (terminate false) = typed 1 0 0
-type_of (terminate true) = typed 2 0 0
-type_of (jump t) = typed 3 t 0
-type_of (jumpi t f) = typed 4 t f
-type_of dynamic_jump = typed 5 0 0
-type_of (dynamic_jumpi f) = typed 6 0 f
+type_of (terminate success) = Terminate success
+type_of (jump t) = Jump t
+type_of (jumpi t f) = Jumpi t f
+type_of dynamic_jump = DynamicJump
+type_of (dynamic_jumpi f) = DynamicJumpi f
 
--- and read back
-unfoldable pub kind_of : BlockType → Kind
-kind_of t =
-    if (eqb t.kind 1) (terminate false)
-    (if (eqb t.kind 2) (terminate true)
-    (if (eqb t.kind 3) (jump t.to)
-    (if (eqb t.kind 4) (jumpi t.to t.other)
-    (if (eqb t.kind 5) dynamic_jump (dynamic_jumpi t.other)))))
+abbrev pub kind_of : BlockType → Kind
+kind_of (Terminate success) = terminate success
+kind_of (Jump t) = jump t
+kind_of (Jumpi t f) = jumpi t f
+kind_of DynamicJump = dynamic_jump
+kind_of (DynamicJumpi f) = dynamic_jumpi f
 
 -- ---- what stands in the row of an address
 

@@ -1,5 +1,6 @@
 -- One instruction of the cutting, as the code takes it: what it is, the block that it closes, and how the walk goes on. Assumes nothing.
-use Rattle.std.specs.Prelude.{false, List, [], ◌∷◌, map, ℕ, ◌+◌, min, eqb, get_or, drop}
+use Rattle.std.specs.Prelude as std
+use Rattle.std.specs.Prelude.{false, Some, None, List, [], ◌∷◌, map, ℕ, ◌+◌, min, eqb, get_or, drop}
 use Rattle.std.proofs.Math.Option.{Option, none, some}
 use Rattle.spec.specs.Lists.{if}
 use Rattle.spec.specs.Opcodes.{row}
@@ -7,8 +8,6 @@ use Rattle.spec.specs.Walk.{Ins, ins, walk}
 use Rattle.spec.specs.Blocks as spec
 use Rattle.spec.specs.Blocks.{Kind, terminate, jump, jumpi, dynamic_jump, dynamic_jumpi, Block, block, with_kind, opened, waiting, pushed, jumping, branching, JUMPDEST, JUMPI, JUMP, UNKNOWN, OTHER, ENDS, cuts}
 use Rattle.initial.specs.Rows.{type_of, kind_of}
-use Rattle.initial.specs.declared.jump.Target.{Target}
-use Rattle.initial.specs.declared.jump.Target.TheVariants.{Static, Dynamic}
 use Rattle.initial.specs.declared.turn.Cut.{Cut}
 use Rattle.initial.specs.declared.turn.Cut.TheVariants.{Jumpdest, Jumpi, Jump, Ends, Unknown, Other}
 use Rattle.initial.specs.declared.turn.Walking.{Walking}
@@ -31,10 +30,10 @@ clipped b = with_kind (clip b.kind) b
 unfoldable pub pushed_at : List ℕ → ℕ → Option ℕ
 pushed_at code at = pushed (ins at (get_or code at 0) (drop (at + 1) code))
 
--- the destination that it makes static
-unfoldable pub target_of : Option ℕ → Target
-target_of none = Dynamic
-target_of (some v) = Static (min v 0xFFFF)
+-- the destination that it makes static, if it makes one
+unfoldable pub target_of : Option ℕ → std.Option ℕ
+target_of none = None
+target_of (some v) = Some (min v 0xFFFF)
 
 -- what an instruction is to the cutting
 abbrev pub cut_of : spec.Cut → Cut

@@ -1,17 +1,19 @@
 // The checks afterwards, from a block to behind its end, and the list of the blocks' starts.
 // "Afterwards a Jump to no block, or to a block whose first byte isn't 5B, becomes Terminate false. So does a Jumpi whose false side starts no block;
 // otherwise, if its true side starts none or isn't 5B, it becomes a Jump to its false side."
-ghost use Rattle.std.specs.Prelude.{◌≡◌, true, ◌+◌, ◌*◌, ◌≤◌, length};
+ghost use Rattle.std.specs.Prelude.{◌≡◌, true, not, eqb, ◌+◌, ◌*◌, ◌≤◌, length};
+ghost use Rattle.std.specs.Option.{is_some, unwrap_or};
 ghost use Rattle.spec.specs.Lists.{mem};
 ghost use Rattle.spec.specs.Blocks.{jump, jumpi, starts, lands, checked};
 ghost use Rattle.layout.specs.Parts.{rows_end};
+ghost use Rattle.layout.specs.Rows.{tag_at};
 ghost use Rattle.initial.specs.Rows.{type_of, blocks_at};
 ghost use Rattle.initial.specs.Promises.{Rows, Apart, CheckedRow, Listing, ListedRow, CheckedAll};
 
 use evm::op::JUMPDEST;
 use layout::part::{START, STARTS, STARTS_MORE};
-use layout::row::{BlockType, END, JUMP, JUMPI, ROW, TERMINATE, put_block, type_at};
-use lent::{get8, get16, put16};
+use layout::row::{BlockType, END, ROW, put_block, type_at};
+use lent::{get16, put16};
 
 // The checks of every block, and how many blocks there are. Up to a block's end no other starts, so the next turn is behind it.
 pub fn check(code: &[u8], w: &mut [u8]) -> usize
@@ -23,47 +25,50 @@ pub fn check(code: &[u8], w: &mut [u8]) -> usize
     let mut many = 0;
     let mut start = 0;
     while start <= size {
-        let end = check_row(code, w, start);
-        many = list_row(w, size, start, many);
-        start = end + 1;
+        match check_row(code, w, start) {
+            Some(end) => {
+                list_row(w, size, start, many);
+                many += 1;
+                start = end + 1;
+            }
+            None => start += 1,
+        }
     }
     many
 }
 
-// Lists the start of the block that starts at `start`, if one does, behind `many` others; answers how many are listed then.
-fn list_row(w: &mut [u8], size: usize, start: usize, many: usize) -> usize
-    requires { Listing size w.old start many }
-    ensures { ListedRow size w.old start many w.new result }
+// Lists the start of the block that starts at `start` behind `many` others.
+fn list_row(w: &mut [u8], size: usize, start: usize, many: usize)
+    requires listing { Listing size w.old start many }
+    requires starts { tag_at w.old start ≡ 0 → ⊥ }
+    ensures { ListedRow size w.old start many w.new (many + 1) }
 {
-    if get8(w, ROW * start) == 0 {
-        return many;
-    }
     put16(w, STARTS * size + STARTS_MORE + START * many, start);
-    many + 1
 }
 
-// The checks of the block that starts at `start`, and its end; `start` where none does.
-fn check_row(code: &[u8], w: &mut [u8], start: usize) -> usize
+// The checks of the block that starts at `start`, if one does, and its end.
+fn check_row(code: &[u8], w: &mut [u8], start: usize) -> Option<usize>
     requires rows { Rows code.now w.old }
     requires start_in_bounds { start ≤ length code.now }
-    ensures { CheckedRow code.now w.old start w.new result }
+    ensures checked { CheckedRow code.now w.old start w.new (unwrap_or result start) }
+    ensures starts { is_some result ≡ not (eqb (tag_at w.old start) 0) }
 {
-    let block = type_at(w, start);
-    if block.kind == 0 {
-        return start;
-    }
+    let Some(block) = type_at(w, start) else {
+        return None;
+    };
     let end = get16(w, ROW * start + END);
-    if block.kind == JUMP {
-        let to = checked_jump(code, w, block.to);
-        put_block(w, start, end, to);
-        return end;
+    match block {
+        BlockType::Jump { to } => {
+            let checked = checked_jump(code, w, to);
+            put_block(w, start, end, checked);
+        }
+        BlockType::Jumpi { to, other } => {
+            let checked = checked_jumpi(code, w, to, other);
+            put_block(w, start, end, checked);
+        }
+        _ => {}
     }
-    if block.kind == JUMPI {
-        let to = checked_jumpi(code, w, block.to, block.other);
-        put_block(w, start, end, to);
-        return end;
-    }
-    end
+    Some(end)
 }
 
 // A Jump to no block, or to one without a JUMPDEST, becomes Terminate false.
@@ -73,16 +78,9 @@ fn checked_jump(code: &[u8], w: &[u8], to: usize) -> BlockType
         (jump to)) }
 {
     if lands(code, w, to) {
-        return BlockType {
-            kind: JUMP,
-            to,
-            other: 0,
-        };
-    }
-    BlockType {
-        kind: TERMINATE,
-        to: 0,
-        other: 0,
+        BlockType::Jump { to }
+    } else {
+        BlockType::Terminate { success: false }
     }
 }
 
@@ -95,11 +93,7 @@ fn checked_jumpi(code: &[u8], w: &[u8], to: usize, other: usize) -> BlockType
     if starts(code, w, other) {
         return falling(code, w, to, other);
     }
-    BlockType {
-        kind: TERMINATE,
-        to: 0,
-        other: 0,
-    }
+    BlockType::Terminate { success: false }
 }
 
 // A Jumpi whose false side starts a block: "otherwise, if its true side starts none or isn't 5B, it becomes a Jump to its false side."
@@ -110,16 +104,9 @@ fn falling(code: &[u8], w: &[u8], to: usize, other: usize) -> BlockType
         (jumpi to other)) }
 {
     if lands(code, w, to) {
-        return BlockType {
-            kind: JUMPI,
-            to,
-            other,
-        };
-    }
-    BlockType {
-        kind: JUMP,
-        to: other,
-        other: 0,
+        BlockType::Jumpi { to, other }
+    } else {
+        BlockType::Jump { to: other }
     }
 }
 
@@ -128,10 +115,7 @@ fn starts(code: &[u8], w: &[u8], to: usize) -> bool
     requires { rows_end (length code.now) ≤ length w.now }
     ensures { result ≡ mem to (starts (blocks_at w.now (length code.now))) }
 {
-    if code.len() < to {
-        return false;
-    }
-    get8(w, ROW * to) != 0
+    to <= code.len() && type_at(w, to).is_some()
 }
 
 // Does a block start at `to`, with a JUMPDEST?
@@ -139,11 +123,5 @@ fn lands(code: &[u8], w: &[u8], to: usize) -> bool
     requires { rows_end (length code.now) ≤ length w.now }
     ensures { result ≡ lands code.now (starts (blocks_at w.now (length code.now))) to }
 {
-    if code.len() <= to {
-        return false;
-    }
-    if code[to] != JUMPDEST {
-        return false;
-    }
-    starts(code, w, to)
+    to < code.len() && code[to] == JUMPDEST && starts(code, w, to)
 }

@@ -5,11 +5,11 @@ ghost use Rattle.initial.specs.Rows.{blocks_at};
 ghost use Rattle.initial.specs.Turn.{clipped};
 ghost use Rattle.initial.specs.Promises.{Lent, Written, Stands, Standing, Ready, Turned, cutting, last};
 
-use crate::turn::{Effect, Walking, closes, cut_of, terminate};
+use crate::turn::{Effect, Walking, closes, cut_of};
 use evm::op::JUMPDEST;
-use evm::walk::Step;
+use evm::walk::Instruction;
 use evm::walker::step_from;
-use layout::row::{ROW, put_block};
+use layout::row::{BlockType, ROW, put_block};
 use lent::wipe_part;
 
 // The blocks of the code before the checks.
@@ -26,22 +26,15 @@ pub fn cut(code: &[u8], w: &mut [u8])
     let mut walking = Walking::Opened(0);
     let mut prev = 0;
     let mut at = 0;
-    loop {
-        match step_from(code, at) {
-            Step::End => {
-                last(w, size, walking, prev);
-                return;
-            }
-            Step::Whole { pc, op, next } => {
-                walking = turn(code, w, walking, prev, pc, op);
-                if let Walking::Ended = walking {
-                    return;
-                }
-                prev = pc;
-                at = next;
-            }
+    while let Some(Instruction { pc, op, next }) = step_from(code, at) {
+        walking = turn(code, w, walking, prev, pc, op);
+        if let Walking::Ended = walking {
+            return;
         }
+        prev = pc;
+        at = next;
     }
+    last(w, size, walking, prev);
 }
 
 // One instruction, at pc: the block that it closes is written.
@@ -74,13 +67,9 @@ fn last(w: &mut [u8], size: usize, walking: Walking, prev: usize)
     requires { Standing size w.old walking prev size }
     ensures { Written size (blocks_at w.old size ++ last walking prev) w.old w.new }
 {
-    match walking {
-        Walking::Opened(start) => {
-            if start <= prev {
-                put_block(w, start, prev, terminate(false));
-            }
+    if let Walking::Opened(start) = walking {
+        if start <= prev {
+            put_block(w, start, prev, BlockType::Terminate { success: false });
         }
-        Walking::Waiting => {}
-        Walking::Ended => {}
     }
 }

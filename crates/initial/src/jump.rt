@@ -7,33 +7,19 @@ ghost use Rattle.initial.specs.Promises.{Whole};
 
 use evm::op::{PUSH0, PUSH1, PUSH4};
 use evm::walk::argument_at;
-use layout::row::{BlockType, DYNAMIC_JUMP, DYNAMIC_JUMPI, JUMP, JUMPI};
+use layout::row::BlockType;
 
-// Where a jump goes: to a number that was pushed, one over 0xffff kept as 0xffff, or to what only the stack can say.
-#[derive(Clone, Copy)]
-pub enum Target {
-    Static(usize),
-    Dynamic,
-}
-
-// Where a jump goes after the instruction at prev.
-fn is_static_jump(code: &[u8], prev: usize) -> Target
+// Where a jump goes after the instruction at prev: to a number that was pushed, one over 0xffff kept as 0xffff, or to what only the stack can say.
+fn is_static_jump(code: &[u8], prev: usize) -> Option<usize>
     requires { Whole code.now prev }
     ensures { result ≡ target_of (pushed_at code.now prev) }
 {
     let op = code[prev];
-    if op < PUSH1 {
-        return Target::Dynamic;
-    }
-    if PUSH4 < op {
-        return Target::Dynamic;
+    if op < PUSH1 || PUSH4 < op {
+        return None;
     }
     let value = argument_at(code, prev, (op - PUSH0) as usize);
-    if value < 0xffff {
-        Target::Static(value as usize)
-    } else {
-        Target::Static(0xffff)
-    }
+    Some(value.min(0xffff) as usize)
 }
 
 // A JUMP after the instruction at prev.
@@ -42,16 +28,8 @@ pub fn jumping(code: &[u8], prev: usize) -> BlockType
     ensures { result ≡ type_of (clip (jumping (pushed_at code.now prev))) }
 {
     match is_static_jump(code, prev) {
-        Target::Static(to) => BlockType {
-            kind: JUMP,
-            to,
-            other: 0,
-        },
-        Target::Dynamic => BlockType {
-            kind: DYNAMIC_JUMP,
-            to: 0,
-            other: 0,
-        },
+        Some(to) => BlockType::Jump { to },
+        None => BlockType::DynamicJump,
     }
 }
 
@@ -61,15 +39,7 @@ pub fn branching(code: &[u8], prev: usize, other: usize) -> BlockType
     ensures { result ≡ type_of (clip (branching (pushed_at code.now prev) other)) }
 {
     match is_static_jump(code, prev) {
-        Target::Static(to) => BlockType {
-            kind: JUMPI,
-            to,
-            other,
-        },
-        Target::Dynamic => BlockType {
-            kind: DYNAMIC_JUMPI,
-            to: 0,
-            other,
-        },
+        Some(to) => BlockType::Jumpi { to, other },
+        None => BlockType::DynamicJumpi { other },
     }
 }

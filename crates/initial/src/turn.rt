@@ -3,8 +3,7 @@
 // false, unless the block starts at that byte; then no block is kept."
 ghost use Rattle.std.specs.Prelude.{◌≡◌};
 ghost use Rattle.spec.specs.Opcodes.{row};
-ghost use Rattle.spec.specs.Blocks.{cut, terminate};
-ghost use Rattle.initial.specs.Rows.{type_of};
+ghost use Rattle.spec.specs.Blocks.{cut};
 ghost use Rattle.initial.specs.Turn.{pushed_at, cut_of, turn_of};
 ghost use Rattle.initial.specs.Promises.{Behind};
 ghost use Rattle.initial.specs.declared.turn.Cut.TheVariants.{Jumpdest, Unknown};
@@ -13,7 +12,7 @@ ghost use Rattle.std.proofs.Math.Option.{none};
 use crate::jump::{branching, jumping};
 use evm::op;
 use evm::rows::known;
-use layout::row::{BlockType, JUMP, SUCCESS, TERMINATE};
+use layout::row::BlockType;
 
 // What an instruction is to the cutting; what ends a block for good does so with success or without.
 #[derive(Clone, Copy)]
@@ -61,17 +60,6 @@ pub fn cut_of(op: u8) -> Cut
     }
 }
 
-// A block that just ends, with success or without.
-pub fn terminate(success: bool) -> BlockType
-    ensures { result ≡ type_of (terminate success) }
-{
-    BlockType {
-        kind: if success { SUCCESS } else { TERMINATE },
-        to: 0,
-        other: 0,
-    }
-}
-
 // A JUMPDEST past its block's start ends the block before it, as a Jump to it.
 fn at_jumpdest(start: usize, prev: usize, pc: usize) -> Effect
     ensures { result ≡ turn_of start prev none pc Jumpdest }
@@ -81,11 +69,7 @@ fn at_jumpdest(start: usize, prev: usize, pc: usize) -> Effect
     }
     Effect::Closes {
         end: prev,
-        kind: BlockType {
-            kind: JUMP,
-            to: pc,
-            other: 0,
-        },
+        kind: BlockType::Jump { to: pc },
         then: Walking::Opened(pc),
     }
 }
@@ -97,7 +81,7 @@ fn at_unknown(start: usize, prev: usize, pc: usize) -> Effect
     if start == 0 {
         return Effect::Closes {
             end: prev,
-            kind: terminate(false),
+            kind: BlockType::Terminate { success: false },
             then: Walking::Ended,
         };
     }
@@ -106,7 +90,7 @@ fn at_unknown(start: usize, prev: usize, pc: usize) -> Effect
     }
     Effect::Closes {
         end: prev,
-        kind: terminate(false),
+        kind: BlockType::Terminate { success: false },
         then: Walking::Waiting,
     }
 }
@@ -130,7 +114,7 @@ pub fn closes(code: &[u8], start: usize, prev: usize, pc: usize, cut: Cut) -> Ef
         },
         Cut::Ends(success) => Effect::Closes {
             end: pc,
-            kind: terminate(success),
+            kind: BlockType::Terminate { success },
             then: Walking::Waiting,
         },
         Cut::Unknown => at_unknown(start, prev, pc),

@@ -1,3 +1,4 @@
--- Once is what a crate above cites of the rows. The other serves the proofs of this one.
+-- Once and Types are what a crate above cites of the rows. The other serves the proofs of this one.
 pub mod Once
+pub mod Types
 mod Writing

@@ -1,6 +1,7 @@
 -- The contracts leave no choice: two results of one call are the same, byte for byte. Assumes nothing.
 use mathlib.Core.Path.{◌≡◌, refl, sym, ◌∙◌}
 use mathlib.Core.List.{List}
+use Rattle.std.specs.Prelude.{Option}
 use Prim.Native.Nat.{ℕ, ◌+◌, ◌*◌, ◌≤◌}
 use native.Mathlib.Omega.{arith}
 use Rattle.lent.proofs.Once.{Same, same-as, same_then, same_rows, one-stored}
@@ -11,7 +12,7 @@ use Rattle.layout.specs.declared.row.BlockType.{BlockType}
 pub one-put : {w w' w'' : List ℕ} {a end : ℕ} {t : BlockType} → Put w a end t w' → Put w a end t w'' → w' ≡ w''
 one-put p q = (one-stored p.stored q.stored).1
 
-pub one_type : {w : List ℕ} {a : ℕ} {t u : BlockType} → TypeIs w a t → TypeIs w a u → t ≡ u
+pub one_type : {w : List ℕ} {a : ℕ} {t u : Option BlockType} → TypeIs w a t → TypeIs w a u → t ≡ u
 one_type p q = p.is ∙ sym q.is
 
 -- where the blocks' rows are the same, and the fields of every address, all before the worklist is

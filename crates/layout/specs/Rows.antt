@@ -2,11 +2,12 @@
 -- (2), position (4), first parent link (2), next link of each side (2, 2), and the taker (2) that has the row's number, whichever block that is. All from
 -- the position on is 0 until the blocks are prepared.
 -- Assumes nothing.
-use Rattle.std.specs.Prelude.{◌≡◌, List, [], ◌∷◌, ◌++◌, ℕ, zero, suc, ◌+◌, ◌-◌, ◌<◌, eqb}
+use Rattle.std.specs.Prelude.{◌≡◌, true, false, List, [], ◌∷◌, ◌++◌, ℕ, zero, suc, ◌+◌, ◌-◌, ◌<◌, eqb, Option, Some, None}
 use Rattle.spec.specs.Lists.{if, little}
 use Rattle.lent.specs.Bytes.{num_at, Stored}
 use Rattle.layout.specs.Parts.{row_place, start_place}
 use Rattle.layout.specs.declared.row.BlockType.{BlockType}
+use Rattle.layout.specs.declared.row.BlockType.TheVariants.{Terminate, Jump, Jumpi, DynamicJump, DynamicJumpi}
 
 -- ---- where a row has its fields
 
@@ -47,8 +48,40 @@ BLOCK = 8
 abbrev pub REST : ℕ
 REST = 12
 
-abbrev pub typed : ℕ → ℕ → ℕ → BlockType
-typed k to other = record { kind = k; to = to; other = other }
+-- what is written of a type: the kind's byte, and the two sides; one that the kind does not have is 0
+abbrev pub tag_of : BlockType → ℕ
+tag_of (Terminate false) = 1
+tag_of (Terminate true) = 2
+tag_of (Jump to) = 3
+tag_of (Jumpi to other) = 4
+tag_of DynamicJump = 5
+tag_of (DynamicJumpi other) = 6
+
+abbrev pub to_of : BlockType → ℕ
+to_of (Terminate success) = 0
+to_of (Jump to) = to
+to_of (Jumpi to other) = to
+to_of DynamicJump = 0
+to_of (DynamicJumpi other) = 0
+
+abbrev pub other_of : BlockType → ℕ
+other_of (Terminate success) = 0
+other_of (Jump to) = 0
+other_of (Jumpi to other) = other
+other_of DynamicJump = 0
+other_of (DynamicJumpi other) = other
+
+-- and the type that is read back where a block starts
+unfoldable pub typed : ℕ → ℕ → ℕ → BlockType
+typed k to other =
+    if (eqb k 1) (Terminate false)
+    (if (eqb k 2) (Terminate true)
+    (if (eqb k 3) (Jump to)
+    (if (eqb k 4) (Jumpi to other)
+    (if (eqb k 5) DynamicJump (DynamicJumpi other)))))
+
+unfoldable pub read_as : ℕ → ℕ → ℕ → Option BlockType
+read_as k to other = if (eqb k 0) None (Some (typed k to other))
 
 abbrev pub tag_at : List ℕ → ℕ → ℕ
 tag_at w a = num_at 1 w (row_place a)
@@ -56,18 +89,22 @@ tag_at w a = num_at 1 w (row_place a)
 abbrev pub type_at : List ℕ → ℕ → BlockType
 type_at w a = typed (tag_at w a) (num_at 2 w (row_place a + TO)) (num_at 2 w (row_place a + OTHER))
 
+-- the type in the row of a, if a block starts there
+abbrev pub read_at : List ℕ → ℕ → Option BlockType
+read_at w a = read_as (tag_at w a) (num_at 2 w (row_place a + TO)) (num_at 2 w (row_place a + OTHER))
+
 abbrev pub head_of : ℕ → BlockType → List ℕ
-head_of end t = little 2 t.kind ++ (little 2 end ++ (little 2 t.to ++ little 2 t.other))
+head_of end t = little 2 (tag_of t) ++ (little 2 end ++ (little 2 (to_of t) ++ little 2 (other_of t)))
 
 -- the block from a to end was written
 pub record Put (w : List ℕ) (a end : ℕ) (t : BlockType) (w' : List ℕ) : Type 0 where
   pub stored : Stored BLOCK w (row_place a) (head_of end t) w'
 
--- t is the type that stands in the row of a
-pub record TypeIs (w : List ℕ) (a : ℕ) (t : BlockType) : Type 0 where
-  pub is : t ≡ type_at w a
-  pub to : t.to < 65536
-  pub other : t.other < 65536
+-- t is what stands in the row of a
+pub record TypeIs (w : List ℕ) (a : ℕ) (t : Option BlockType) : Type 0 where
+  pub is : t ≡ read_at w a
+  pub to : num_at 2 w (row_place a + TO) < 65536
+  pub other : num_at 2 w (row_place a + OTHER) < 65536
 
 -- ---- the fields past it: turns, and links to direct parents
 

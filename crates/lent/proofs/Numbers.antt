@@ -34,7 +34,7 @@ num-step k (x ∷ b) zero = refl
 num-step k [] (suc at) = simp (drop-nil, take-nil)
 num-step k (x ∷ b) (suc at) = rw suc-add (num-step k b at)
 
-num-none : (b : List ℕ) (at : ℕ) → num_at 0 b at ≡ 0
+pub num-none : (b : List ℕ) (at : ℕ) → num_at 0 b at ≡ 0
 unfolding num_at number
 num-none b at = refl
 

@@ -2,7 +2,9 @@
 -- stores after stores. Assumes nothing.
 use mathlib.Core.Path.{◌≡◌, refl, sym, ap, ◌∙◌}
 use mathlib.Core.List.{List, [], ◌∷◌, ◌++◌}
-use Prim.Native.Nat.{ℕ, ◌+◌, ◌/◌, ◌^◌, ◌≤◌, ◌<◌}
+use Prim.Native.Nat.{ℕ, ◌+◌, ◌/◌, ◌%◌, ◌^◌, ◌≤◌, ◌<◌}
+use native.Mathlib.Nat.{div-one, pow-suc, div-div-eq-div-mul}
+use native.Mathlib.Numerals.{add-one}
 use native.Mathlib.Omega.{arith}
 use lib.ListN.{length, get_or, take, drop, set, length-append}
 use Rattle.spec.specs.Lists.{little}
@@ -87,6 +89,22 @@ stored-over {m} {n} {i} {at} {b} {b₁} {b₂} {xs} {ys} s t h g =
     stored n b at ys b₂ (t.is ∙ rw s.is (patch-over b i xs at ys (fit s) h (omega arith))) t.long (omega arith)
 
 -- a number's bytes in two halves
-pub stored-twice : (k v : ℕ) {at : ℕ} {b b₁ b₂ : List ℕ} → Stored k b at (little k v) b₁ → Stored k b₁ (at + k) (little k (v / 256 ^ k)) b₂
-    → Stored (k + k) b at (little (k + k) v) b₂
-stored-twice k v s t = rw little-add (stored-join s t)
+-- ---- a number, a byte a turn, its lowest first
+
+-- the i lowest bytes of v were stored, and u is what is left of it
+pub record Writing (b : List ℕ) (at v i u : ℕ) (b' : List ℕ) : Type 0 where
+  pub stored : Stored i b at (little i v) b'
+  pub left : u ≡ v / 256 ^ i
+
+pub writing-none : (b : List ℕ) (at v : ℕ) → at ≤ length b → Writing b at v 0 v b
+writing-none b at v h = record { stored = stored-none b at h; left = sym (div-one v) }
+
+pub writing-more : {b b' : List ℕ} {at v i u n : ℕ} → Writing b at v i u b' → i < n → at + n ≤ length b → Writing b at v (i + 1) (u / 256) (set b' (at + i) (u % 256))
+writing-more {b} {b'} {at} {v} {i} {u} w h f =
+    record {
+      stored = rw (little-add i 1 v, ← w.left) (stored-join w.stored (stored-byte b' (at + i) (u % 256) (omega (arith, w.stored.kept))));
+      left = rw (w.left, add-one, pow-suc, ← div-div-eq-div-mul v (256 ^ i) 256);
+    }
+
+pub written : {b b' : List ℕ} {at v i u n : ℕ} → Writing b at v i u b' → i ≤ n → n ≤ i → Stored n b at (little n v) b'
+written {i} {n} w h g = let e : n ≡ i = omega arith in rw e w.stored

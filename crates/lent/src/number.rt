@@ -1,14 +1,31 @@
-// Little-endian numbers. Each width is two of the half: the compiler makes one load or store of it, and one law proves all.
+// Little-endian numbers, by one function over the width: the compiler makes one load or store of it, and one law proves all.
 // "Output entries: ... little-endian."
-ghost use Rattle.std.specs.Prelude.{◌≡◌, ◌+◌, ◌≤◌, ◌<◌, length};
+ghost use Rattle.std.specs.Prelude.{◌+◌, ◌≤◌, length};
 ghost use Rattle.spec.specs.Lists.{little};
 ghost use Rattle.lent.specs.Bytes.{Holds, Stored};
 
-// A byte as a number.
-fn wide(byte: u8) -> usize
-    ensures { (result ≡ byte) × (result < 256) }
+// The number in the N bytes from `at` on, the last one first.
+fn get<const N: usize>(bytes: &[u8], at: usize) -> usize
+    requires { (N ≤ 8) × (at + N ≤ length bytes.now) }
+    ensures { Holds N bytes.now at result }
 {
-    byte as usize
+    let mut value = 0;
+    for i in 0..N {
+        value = value * 256 + bytes[at + (N - 1 - i)] as usize;
+    }
+    value
+}
+
+// Stores the N lowest bytes of `value` from `at` on.
+fn put<const N: usize>(bytes: &mut [u8], at: usize, value: usize)
+    requires { at + N ≤ length bytes.old }
+    ensures { Stored N bytes.old at (little N value) bytes.new }
+{
+    let mut left = value;
+    for i in 0..N {
+        bytes[at + i] = (left % 256) as u8;
+        left /= 256;
+    }
 }
 
 // The byte at `at`.
@@ -16,7 +33,7 @@ pub fn get8(bytes: &[u8], at: usize) -> usize
     requires { at + 1 ≤ length bytes.now }
     ensures { Holds 1 bytes.now at result }
 {
-    wide(bytes[at])
+    get::<1>(bytes, at)
 }
 
 // The number in the two bytes from `at` on.
@@ -24,7 +41,7 @@ pub fn get16(bytes: &[u8], at: usize) -> usize
     requires { at + 2 ≤ length bytes.now }
     ensures { Holds 2 bytes.now at result }
 {
-    get8(bytes, at) + get8(bytes, at + 1) * 256
+    get::<2>(bytes, at)
 }
 
 // The number in the four bytes from `at` on.
@@ -32,7 +49,7 @@ pub fn get32(bytes: &[u8], at: usize) -> usize
     requires { at + 4 ≤ length bytes.now }
     ensures { Holds 4 bytes.now at result }
 {
-    get16(bytes, at) + get16(bytes, at + 2) * 65536
+    get::<4>(bytes, at)
 }
 
 // The number in the eight bytes from `at` on.
@@ -40,7 +57,7 @@ pub fn get64(bytes: &[u8], at: usize) -> usize
     requires { at + 8 ≤ length bytes.now }
     ensures { Holds 8 bytes.now at result }
 {
-    get32(bytes, at) + get32(bytes, at + 4) * 4294967296
+    get::<8>(bytes, at)
 }
 
 // Stores the lowest byte of `value` at `at`.
@@ -48,7 +65,7 @@ pub fn put8(bytes: &mut [u8], at: usize, value: usize)
     requires { at + 1 ≤ length bytes.old }
     ensures { Stored 1 bytes.old at (little 1 value) bytes.new }
 {
-    bytes[at] = (value % 256) as u8;
+    put::<1>(bytes, at, value)
 }
 
 // Stores the two lowest bytes of `value` from `at` on.
@@ -56,8 +73,7 @@ pub fn put16(bytes: &mut [u8], at: usize, value: usize)
     requires { at + 2 ≤ length bytes.old }
     ensures { Stored 2 bytes.old at (little 2 value) bytes.new }
 {
-    put8(bytes, at, value);
-    put8(bytes, at + 1, value / 256);
+    put::<2>(bytes, at, value)
 }
 
 // Stores the four lowest bytes of `value` from `at` on.
@@ -65,8 +81,7 @@ pub fn put32(bytes: &mut [u8], at: usize, value: usize)
     requires { at + 4 ≤ length bytes.old }
     ensures { Stored 4 bytes.old at (little 4 value) bytes.new }
 {
-    put16(bytes, at, value);
-    put16(bytes, at + 2, value / 65536);
+    put::<4>(bytes, at, value)
 }
 
 // Stores the eight bytes of `value` from `at` on.
@@ -74,6 +89,5 @@ pub fn put64(bytes: &mut [u8], at: usize, value: usize)
     requires { at + 8 ≤ length bytes.old }
     ensures { Stored 8 bytes.old at (little 8 value) bytes.new }
 {
-    put32(bytes, at, value);
-    put32(bytes, at + 4, value / 4294967296);
+    put::<8>(bytes, at, value)
 }

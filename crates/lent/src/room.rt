@@ -7,6 +7,5 @@ pub fn units(len: usize, unit: usize) -> usize
     requires { 0 < unit }
     ensures { result ≡ min (len / unit) (2 ^ 30) }
 {
-    let n = len / unit;
-    if n < 0x4000_0000 { n } else { 0x4000_0000 }
+    (len / unit).min(0x4000_0000)
 }

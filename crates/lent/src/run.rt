@@ -1,4 +1,4 @@
-// Runs of bytes, one byte a turn: the compiler makes wide moves, or a call of memset, of each loop.
+// Runs of bytes, by the slices' own methods, for a place and a count.
 // "`Vec` stacks and paths: cells in lent rooms with counts."
 ghost use Rattle.std.specs.Prelude.{◌≡◌, ◌+◌, ◌≤◌, length, take, drop, replicate};
 ghost use Rattle.lent.specs.Bytes.{Stored};
@@ -8,11 +8,7 @@ pub fn copy(dst: &mut [u8], to: usize, src: &[u8], from: usize, count: usize)
     requires { (to + count ≤ length dst.old) × (from + count ≤ length src.now) }
     ensures { Stored count dst.old to (take count (drop from src.now)) dst.new }
 {
-    let mut i = 0;
-    while i < count {
-        dst[to + i] = src[from + i];
-        i += 1;
-    }
+    dst[to..to + count].copy_from_slice(&src[from..from + count]);
 }
 
 // Stores `count` bytes of `bytes`, from `from` on as they were, into `bytes` from `to` on; the two may overlap.
@@ -20,34 +16,7 @@ pub fn copy_within(bytes: &mut [u8], from: usize, to: usize, count: usize)
     requires { (from + count ≤ length bytes.old) × (to + count ≤ length bytes.old) }
     ensures { Stored count bytes.old to (take count (drop from bytes.old)) bytes.new }
 {
-    if from < to {
-        return copy_up(bytes, from, to, count);
-    }
-    copy_down(bytes, from, to, count)
-}
-
-// `copy_within` where the bytes move down: the first goes first, so that none is read after it was overwritten.
-fn copy_down(bytes: &mut [u8], from: usize, to: usize, count: usize)
-    requires { (from + count ≤ length bytes.old) × (to ≤ from) }
-    ensures { Stored count bytes.old to (take count (drop from bytes.old)) bytes.new }
-{
-    let mut i = 0;
-    while i < count {
-        bytes[to + i] = bytes[from + i];
-        i += 1;
-    }
-}
-
-// `copy_within` where they move up: the last goes first, for the same reason.
-fn copy_up(bytes: &mut [u8], from: usize, to: usize, count: usize)
-    requires { (to + count ≤ length bytes.old) × (from ≤ to) }
-    ensures { Stored count bytes.old to (take count (drop from bytes.old)) bytes.new }
-{
-    let mut i = count;
-    while i != 0 {
-        i -= 1;
-        bytes[to + i] = bytes[from + i];
-    }
+    bytes.copy_within(from..from + count, to);
 }
 
 // Makes `count` bytes from `from` on 0.
@@ -55,17 +24,12 @@ pub fn wipe_part(bytes: &mut [u8], from: usize, count: usize)
     requires { from + count ≤ length bytes.old }
     ensures { Stored count bytes.old from (replicate count 0) bytes.new }
 {
-    let mut i = 0;
-    while i < count {
-        bytes[from + i] = 0;
-        i += 1;
-    }
+    bytes[from..from + count].fill(0);
 }
 
 // Makes every byte 0.
 pub fn wipe(bytes: &mut [u8])
     ensures { bytes.new ≡ replicate (length bytes.old) 0 }
 {
-    let count = bytes.len();
-    wipe_part(bytes, 0, count);
+    bytes.fill(0);
 }

@@ -12,13 +12,13 @@ use Rattle.tables.specs.declared.Counts.{Counts}
 use Rattle.tables.proofs.Uses.{tables-kept}
 use Rattle.steps.specs.Paths.{CountsOnly, Counting, Uncounting, OnPath}
 use Rattle.enter.specs.Fits.{Fits, Stands}
-use Rattle.steps.specs.Plans.{Plan}
+use Rattle.steps.specs.declared.plan.Plan.{Plan}
 use Rattle.steps.specs.declared.Level.{Level}
 use Rattle.steps.proofs.Helds.{helds-past}
 use Rattle.levels.proofs.WorkKept.{alike-counts, alike-marks}
 
 module _ {code w p s t r q : List ℕ} {k : Plan} {turn : Turn} {since start : ℕ} {c : Counts} (f : Fits code k turn since start (buffers w p s t r q) c) where
-  pub fits-recounted : {w' : List ℕ} → CountsOnly k.n w w' → Fits code k turn since start (buffers w' p s t r q) c
+  pub fits-recounted : {w' : List ℕ} → CountsOnly k.size w w' → Fits code k turn since start (buffers w' p s t r q) c
   fits-recounted {w'} o =
       let g = f.planned in
       record {
@@ -28,11 +28,10 @@ module _ {code w p s t r q : List ℕ} {k : Plan} {turn : Turn} {since start : �
           lent_w = record { short = g.lent_w.short; room = omega (arith, g.lent_w.room, o.long) };
           ends = omega (arith, g.ends, o.long);
           scratch = g.scratch;
-          helds = helds-past (list_place k.n) (omega arith) o.back o.long g.helds;
+          helds = helds-past (list_place k.size) (omega arith) o.back o.long g.helds;
           lent_p = g.lent_p;
           most_p = g.most_p;
           shelves = g.shelves;
-          moded = g.moded;
         };
         stored = f.stored;
         started = f.started;
@@ -49,7 +48,7 @@ module _ {code w p s t r q : List ℕ} {k : Plan} {turn : Turn} {since start : �
   -- ---- what counting asks, for a level that stands
 
   module _ {from : ℕ} {l : Level} (stands : Stands k (buffers w p s t r q) c l) (order : from ≤ l.np) where
-    pub stands-count : OnPath k.n w (addrs p 0 from) → Counting k.n w p from l.np
+    pub stands-count : OnPath k.size w (addrs p 0 from) → Counting k.size w p from l.np
     stands-count o = record {
       lent = f.planned.lent_w;
       in_p = omega (arith, f.planned.lent_p, stands.room);
@@ -59,7 +58,7 @@ module _ {code w p s t r q : List ℕ} {k : Plan} {turn : Turn} {since start : �
       counts = o;
     }
 
-    pub stands-uncount : OnPath k.n w (addrs p 0 l.np) → Uncounting k.n w p from l.np
+    pub stands-uncount : OnPath k.size w (addrs p 0 l.np) → Uncounting k.size w p from l.np
     stands-uncount o = record {
       lent = f.planned.lent_w;
       in_p = omega (arith, f.planned.lent_p, stands.room);

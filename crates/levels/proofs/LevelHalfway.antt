@@ -24,9 +24,10 @@ use Rattle.steps.specs.Paths.{OnPath}
 use Rattle.steps.specs.Runs.{recs_in, st_of, Did}
 use Rattle.enter.specs.Fits.{Fits, level_of, Stands, held, Stays}
 use Rattle.levels.specs.Levels.{spent_with, Came, Tried}
-use Rattle.steps.specs.Plans.{Plan}
+use Rattle.steps.specs.Plans.{mode_in}
+use Rattle.steps.specs.declared.plan.Plan.{Plan}
 use Rattle.steps.specs.declared.Level.{Level}
-use Rattle.steps.specs.declared.Run.{Run}
+use Rattle.steps.specs.Goings.{Gone}
 use Rattle.steps.proofs.Cursors.{direct-rows}
 use Rattle.steps.proofs.Nexts.{NextLeft, next-left}
 use Rattle.levels.proofs.Sequence.{did-same, did_then, did-stops}
@@ -46,17 +47,17 @@ abbrev pub one : Plan → Turn → Level → Mem → Parent → St → St
 one k t l m = onto k.limit t l.left (level_of m l)
 
 -- "whose path's last block is then reached"
-abbrev pub tried? : Plan → Turn → Mem → Run → Parent → Bool
+abbrev pub tried? : Plan → Turn → Mem → Gone → Parent → Bool
 tried? k t m o = live t.reached (recs_in k m o.counts)
 
 -- ---- what holds at the cursor, in a turn: with the parents that are left, what was done so far ends where the whole level ends
 
-pub record Halfway (code : List ℕ) (k : Plan) (t : Turn) (since start : ℕ) (l : Level) (m₀ : Mem) (o : Run) (b : ℕ) (m : Mem) (cur : Run) (at : ℕ) : Type 0 where
+pub record Halfway (code : List ℕ) (k : Plan) (t : Turn) (since start : ℕ) (l : Level) (m₀ : Mem) (o : Gone) (b : ℕ) (m : Mem) (cur : Gone) (at : ℕ) : Type 0 where
   pub fits : Fits code k t since start m cur.counts
   pub stays : Stays k l.np m₀ o.counts m cur.counts
-  pub counts : OnPath k.n m.w (addrs m₀.p 0 l.np)
+  pub counts : OnPath k.size m.w (addrs m₀.p 0 l.np)
   pub rest : List Parent
-  pub left : Left k.mode code m₀.w k.n b (recs_in k m₀ o.counts) at rest
+  pub left : Left (mode_in k) code m₀.w k.size b (recs_in k m₀ o.counts) at rest
   pub so_far : St → St
   pub did : Did k.rooms so_far (st_of k m₀ o) 0 (st_of k m cur)
   pub same : (mid : St) → clear mid ≡ st_of k m₀ o
@@ -72,8 +73,8 @@ left-rows e (found_left h) = found_left h
 
 -- ---- a direct parent past the highest that is marked was not reached when the level opened
 
-pub unreached : {code : List ℕ} {k : Plan} {t : Turn} {since start : ℕ} {m : Mem} (o : Run) {b high : ℕ} → Fits code k t since start m o.counts
-    → high ≡ high_at m.w k.n b → b ≤ k.n → (a : ℕ) → high ≤ a → DirectParent code m.w k.n b a → tried? k t m o (parent_of k.mode code b a) ≡ false
+pub unreached : {code : List ℕ} {k : Plan} {t : Turn} {since start : ℕ} {m : Mem} (o : Gone) {b high : ℕ} → Fits code k t since start m o.counts
+    → high ≡ high_at m.w k.size b → b ≤ k.size → (a : ℕ) → high ≤ a → DirectParent code m.w k.size b a → tried? k t m o (parent_of (mode_in k) code b a) ≡ false
 unreached {k = k} {t} {m = m} o {b} f top inside a past p =
     rw (take_all o.counts.records (recs_in k m o.counts) (omega (arith, long)))
     at (sym (f.marks.by o.counts.records f.began (omega (arith, long)) a p.inside)) ∙ rw unmarked
@@ -81,29 +82,29 @@ unreached {k = k} {t} {m = m} o {b} f top inside a past p =
     long : length (recs_in k m o.counts) ≡ o.counts.records
     long = recs-length m.r m.q m.s k.rooms.s o.counts.records
 
-    unmarked : mark_at m.w k.n a ≡ 0
-    unmarked = go (ℕ_discrete (mark_at m.w k.n a) 0)
+    unmarked : mark_at m.w k.size a ≡ 0
+    unmarked = go (ℕ_discrete (mark_at m.w k.size a) 0)
       where
-        go : Dec (mark_at m.w k.n a ≡ 0) → mark_at m.w k.n a ≡ 0
+        go : Dec (mark_at m.w k.size a ≡ 0) → mark_at m.w k.size a ≡ 0
         go (yes e) = e
         go (no ne) = absurd (omega (arith, f.marks.high.above a b p.inside inside ne p.side))
 
 -- ---- a unit of energy
 
-did-spend : (k : Plan) (m : Mem) (cur : Run) → Did k.rooms spend (st_of k m cur) 0 (st_of k m (spent_with cur))
+did-spend : (k : Plan) (m : Mem) (cur : Gone) → Did k.rooms spend (st_of k m cur) 0 (st_of k m (spent_with cur))
 did-spend k m cur = record { short = λ l h mid e z. z; made = λ mid e z. rw add-one (ap spend e) }
 
 -- ---- a turn at the cursor
 
-module _ {code : List ℕ} {k : Plan} {t : Turn} {since start : ℕ} {l : Level} {m₀ : Mem} {o : Run} {b : ℕ} {m : Mem} {cur : Run} {at : ℕ}
-    {high : ℕ} (f : Fits code k t since start m₀ o.counts) (stands : Stands k m₀ o.counts l) (inside : b ≤ k.n) (top : high ≡ high_at m₀.w k.n b)
+module _ {code : List ℕ} {k : Plan} {t : Turn} {since start : ℕ} {l : Level} {m₀ : Mem} {o : Gone} {b : ℕ} {m : Mem} {cur : Gone} {at : ℕ}
+    {high : ℕ} (f : Fits code k t since start m₀ o.counts) (stands : Stands k m₀ o.counts l) (inside : b ≤ k.size) (top : high ≡ high_at m₀.w k.size b)
     (h : Halfway code k t since start l m₀ o b m cur at) (d : at ≡ 0 → ⊥) where
-  pub half-next : NextLeft k.mode code m.w m.r m.q m.s k.n b o.counts.records high k.rooms.s cur.counts.records (recs_in k m₀ o.counts) at h.rest
+  pub half-next : NextLeft (mode_in k) code m.w m.r m.q m.s k.size b o.counts.records high k.rooms.s cur.counts.records (recs_in k m₀ o.counts) at h.rest
   half-next =
       next-left o.counts.records high h.fits.planned.lent_w.short inside (omega (arith, h.fits.planned.lent_w.room)) h.fits.tables h.stays.rows
       (sym h.stays.older) h.stays.more f.sound h.left d
 
-  half-left : Left k.mode code m₀.w k.n b (recs_in k m₀ o.counts) (next_cursor m.w m.r k.n b o.counts.records high at) half-next.next.rest
+  half-left : Left (mode_in k) code m₀.w k.size b (recs_in k m₀ o.counts) (next_cursor m.w m.r k.size b o.counts.records high at) half-next.next.rest
   half-left = left-rows h.stays.rows half-next.next.left
 
   -- direct parents past the highest that is marked are not tried
@@ -117,7 +118,7 @@ module _ {code : List ℕ} {k : Plan} {t : Turn} {since start : ℕ} {l : Level}
       h.same mid i ∙ ap (λ (qs : List Parent). those k t l m₀ qs (h.so_far mid)) (ap (keep (tried? k t m₀ o)) half-next.is ∙ e)
 
   -- the mark tells whether the parent is tried
-  pub half-live : marked_by m.w k.n (last_cursor m.r m.q at) (o.counts.records + 1) ≡ tried? k t m₀ o (held code k m b at)
+  pub half-live : marked_by m.w k.size (last_cursor m.r m.q at) (o.counts.records + 1) ≡ tried? k t m₀ o (held code k m b at)
   half-live =
       let x = half-next in
       h.fits.marks.by o.counts.records f.began
@@ -125,7 +126,7 @@ module _ {code : List ℕ} {k : Plan} {t : Turn} {since start : ℕ} {l : Level}
       ∙ rw (h.stays.older, x.last)
 
   -- it is not: what is left is the same
-  pub half-skips : {next : ℕ} → next ≡ next_cursor m.w m.r k.n b o.counts.records high at
+  pub half-skips : {next : ℕ} → next ≡ next_cursor m.w m.r k.size b o.counts.records high at
       → tried? k t m₀ o (held code k m b at) ≡ false → Halfway code k t since start l m₀ o b m cur next
   half-skips e dead =
       let x = half-next in
@@ -167,7 +168,7 @@ module _ {code : List ℕ} {k : Plan} {t : Turn} {since start : ℕ} {l : Level}
     }
 
     -- it is not, and the parent is tried
-    module _ (p : cur.energy + 1 ≤ k.limit) {m' : Mem} {r : Run} (tried : Tried code k start l at m (spent_with cur) m' r) where
+    module _ (p : cur.energy + 1 ≤ k.limit) {m' : Mem} {r : Gone} (tried : Tried code k start l at m (spent_with cur) m' r) where
       came : Came code k t since start (one k t l m₀ (held code k m b at)) l m (spent_with cur) m' r
       came = rw (level-stays l h.stays stands (omega (arith, h.fits.tables.within.fits_s, h.fits.tables.within.lent_s))) at (tried.came t since b h.fits)
 
@@ -185,7 +186,7 @@ module _ {code : List ℕ} {k : Plan} {t : Turn} {since start : ℕ} {l : Level}
         counts = λ e. absurd (bad e);
       }
 
-      pub half-tried : {next : ℕ} → next ≡ next_cursor m.w m.r k.n b o.counts.records high at → r.code ≡ 0 → Halfway code k t since start l m₀ o b m' r next
+      pub half-tried : {next : ℕ} → next ≡ next_cursor m.w m.r k.size b o.counts.records high at → r.code ≡ 0 → Halfway code k t since start l m₀ o b m' r next
       half-tried e z = record {
         fits = came.fits z;
         stays = stays_then h.stays (came.stays z);

@@ -1,5 +1,4 @@
 pub mod Sequence
-pub mod SixLengths
 pub mod WorkKept
 pub mod Once
 pub mod CountsAlone

@@ -7,14 +7,14 @@ use Rattle.spec.specs.Search.{St, Turn, level}
 use Rattle.layout.specs.Buffers.{Mem}
 use Rattle.tables.proofs.Alike.{AllBytes, AllLong}
 use Rattle.steps.specs.Runs.{tabled, st_of}
-use Rattle.steps.specs.Plans.{Plan}
+use Rattle.steps.specs.declared.plan.Plan.{Plan}
 use Rattle.steps.specs.declared.Level.{Level}
-use Rattle.steps.specs.declared.Run.{Run}
+use Rattle.steps.specs.Goings.{Gone}
 use Rattle.enter.specs.Fits.{Fits, level_of}
 use Rattle.enter.proofs.Once.{fits-lends, did-once, made-once, counts-once, OneKept, kept-once}
 use Rattle.levels.specs.Levels.{Came, Leveled}
 
-module _ {code : List ℕ} {k : Plan} {start : ℕ} {l : Level} {m m' m'' : Mem} {o d e : Run} (f : Leveled code k start l m o m' d) (g : Leveled code k start l m o m'' e)
+module _ {code : List ℕ} {k : Plan} {start : ℕ} {l : Level} {m m' m'' : Mem} {o d e : Gone} (f : Leveled code k start l m o m' d) (g : Leveled code k start l m o m'' e)
     {t : Turn} {since : ℕ} (fits : Fits code k t since start m o.counts) where
   left : Came code k t since start (level k.limit t l.left (level_of m l)) l m o m' d
   left = f.came t since fits

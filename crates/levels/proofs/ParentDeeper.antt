@@ -13,15 +13,15 @@ use Rattle.steps.specs.Runs.{st_of, Did}
 use Rattle.enter.specs.Fits.{Fits, level_of, Stands, held, Stays}
 use Rattle.enter.specs.Enters.{Opening, onward, Opens, Outcome, Entering, Entered}
 use Rattle.levels.specs.Levels.{Came, Opened, Leveled, deeper_by, Tried}
-use Rattle.steps.specs.Plans.{Plan}
+use Rattle.steps.specs.declared.plan.Plan.{Plan}
 use Rattle.steps.specs.declared.Level.{Level}
-use Rattle.steps.specs.declared.Run.{Run}
+use Rattle.steps.specs.Goings.{Gone}
 use Rattle.levels.proofs.Sequence.{did-same, did_then}
 use Rattle.levels.proofs.LevelByParents.{deeper-later}
 use Rattle.enter.proofs.LevelKept.{stays-counts, stays_then, stays-less, path-stays, stands-stay, its-counts}
 use Rattle.levels.proofs.CountsAlone.{fits-recounted, stands-count, stands-uncount}
 
-module _ {code : List ℕ} {k : Plan} {start : ℕ} {l : Level} {at : ℕ} {m : Mem} {o : Run} (pre : Entering code k start l at m o)
+module _ {code : List ℕ} {k : Plan} {start : ℕ} {l : Level} {at : ℕ} {m : Mem} {o : Gone} (pre : Entering code k start l at m o)
     {w₁ p₁ s₁ t₁ r₁ q₁ : List ℕ} {e : Opening} (entered : Entered code k start l at m o (buffers w₁ p₁ s₁ t₁ r₁ q₁) e) where
   -- what came of the parent, in a turn; and in the one that there is
   abbrev After : (t : Turn) (since b : ℕ) → Type 0
@@ -47,17 +47,17 @@ module _ {code : List ℕ} {k : Plan} {start : ℕ} {l : Level} {at : ℕ} {m : 
     fits = out.fits opens.code
 
     -- the counts stand before W's part for runs
-    counts-low : list_place k.n ≤ k.end
+    counts-low : list_place k.size ≤ k.end
     counts-low = omega (arith, fits.planned.scratch)
 
     -- a level with less weight left
     pub opens-lighter : 2 * e.level.left + 1 < 2 * l.left
     opens-lighter = omega (arith, opens.lighter)
 
-    pub parent-counts : Counting k.n w₁ p₁ l.np e.level.np
+    pub parent-counts : Counting k.size w₁ p₁ l.np e.level.np
     parent-counts = stands-count fits opens.stands opens.longer (its-counts l (out.stays opens.code) (out.counts opens.code))
 
-    module _ {w₂ : List ℕ} (c : Counted k.n w₁ p₁ e.level.np w₂) where
+    module _ {w₂ : List ℕ} (c : Counted k.size w₁ p₁ e.level.np w₂) where
       stands : Stands k (buffers w₂ p₁ s₁ t₁ r₁ q₁) e.run.counts e.level
       stands =
           stands-stay e.level (stays-counts counts-low c.only) opens.stands
@@ -74,7 +74,7 @@ module _ {code : List ℕ} {k : Plan} {start : ℕ} {l : Level} {at : ℕ} {m : 
         unrefused = opens.code;
       }
 
-      module _ {w₃ p₃ s₃ t₃ r₃ q₃ : List ℕ} {d : Run}
+      module _ {w₃ p₃ s₃ t₃ r₃ q₃ : List ℕ} {d : Gone}
           (leveled : Leveled code k start e.level (buffers w₂ p₁ s₁ t₁ r₁ q₁) e.run (buffers w₃ p₃ s₃ t₃ r₃ q₃) d) where
         -- the level, in a turn
         tried : (t : Turn) (since b : ℕ) → After t since b
@@ -104,7 +104,7 @@ module _ {code : List ℕ} {k : Plan} {start : ℕ} {l : Level} {at : ℕ} {m : 
         }
 
         module _ (z : d.code ≡ 0) where
-          pub parent-uncounts : Uncounting k.n w₃ p₃ l.np e.level.np
+          pub parent-uncounts : Uncounting k.size w₃ p₃ l.np e.level.np
           parent-uncounts =
               let x = tried pre.turn pre.since 0 out in
               let f = x.fits z in
@@ -112,7 +112,7 @@ module _ {code : List ℕ} {k : Plan} {start : ℕ} {l : Level} {at : ℕ} {m : 
               (stands-stay e.level (x.stays z) stands (omega (arith, f.tables.within.fits_s, f.tables.within.lent_s)))
               opens.longer (its-counts e.level (x.stays z) (x.counts z))
 
-          module _ {w₄ : List ℕ} (u : Counted k.n w₃ p₃ l.np w₄) where
+          module _ {w₄ : List ℕ} (u : Counted k.size w₃ p₃ l.np w₄) where
             stays : (t : Turn) (since b : ℕ) → After t since b → Stays k l.np m o.counts (buffers w₄ p₃ s₃ t₃ r₃ q₃) d.counts
             stays t since b x =
                 stays_then (x.stays opens.code)

@@ -1,38 +1,31 @@
 // A level tries the parents of its path's last block; a parent may open a level.
 // "A level tries its parents and each parent may open a level."
 ghost use Rattle.std.specs.Prelude.{◌≡◌, ◌+◌, ◌<◌, ◌^◌};
-ghost use Rattle.layout.specs.Buffers.{buffers};
+ghost use Rattle.layout.specs.Buffers.{held};
 ghost use Rattle.reachable.specs.Promises.{Address};
 ghost use Rattle.reachable.specs.Marks.{marked_by};
 ghost use Rattle.steps.specs.Cursors.{last_cursor, Asks};
+ghost use Rattle.steps.specs.Goings.{under_way, gone};
+ghost use Rattle.enter.specs.Lent.{StillLent};
 ghost use Rattle.enter.specs.Enters.{Entering};
 ghost use Rattle.levels.specs.Levels.{spent_with, Opened, Leveled, Tried};
-ghost use Rattle.steps.specs.Plans.{plan_in};
-ghost use Rattle.steps.specs.Goings.{run_in};
 
 use enter::enter::enter;
+use layout::buffers::Buffers;
 use lent::get16;
 use reachable::{highest, is_marked};
-use steps::Level;
+use refusal::Shortage;
 use steps::cursor::{first_cursor, last_block, next_cursor};
-use steps::going::{ADDRESSES, CODE, ENERGY, KEPT, RECORDS, ROWS, RUN, USED};
 use steps::path::{count, uncount};
-use steps::plan::{LIMIT, PLAN, SIZE};
+use steps::plan::Plan;
+use steps::{Level, Run};
 
 // A unit of energy.
-fn spend(run: &mut [usize; RUN])
-    requires { (run_in run.old).energy + 1 < 2 ^ 64 }
-    ensures { run_in run.new ≡ spent_with (run_in run.old) }
+fn spend(run: &mut Run)
+    requires { run.old.energy + 1 < 2 ^ 64 }
+    ensures { under_way run.new ≡ spent_with (under_way run.old) }
 {
-    *run = [
-        run[CODE],
-        run[ENERGY] + 1,
-        run[RECORDS],
-        run[ADDRESSES],
-        run[KEPT],
-        run[USED],
-        run[ROWS],
-    ];
+    run.energy += 1;
 }
 
 // Is the parent at `at` one "whose path's last block is then reached", when the level opened with `opened` records?
@@ -47,72 +40,63 @@ fn reached_then(w: &[u8], r: &[u8], q: &[u8], size: usize, at: usize, opened: us
 #[cycle(level_parent)]
 pub fn level(
     code: &[u8],
-    w: &mut [u8],
-    p: &mut [u8],
-    s: &mut [u8],
-    t: &mut [u8],
-    r: &mut [u8],
-    q: &mut [u8],
-    plan: &[usize; PLAN],
+    buffers: &mut Buffers<'_>,
+    plan: &Plan,
     start: usize,
     level: Level,
-    run: &mut [usize; RUN],
-)
-    requires { Opened code.now (plan_in plan.now) start level (buffers w.old p.old s.old t.old r.old q.old) (run_in run.old) }
-    ensures { Leveled code.now (plan_in plan.now) start level
-        (buffers w.old p.old s.old t.old r.old q.old) (run_in run.old)
-        (buffers w.new p.new s.new t.new r.new q.new) (run_in run.new) }
+    run: &mut Run,
+) -> Result<(), Shortage>
+    requires { Opened code.now plan.now start level (held buffers.old) (under_way run.old) }
+    ensures lent { StillLent buffers.old buffers.new }
+    ensures leveled { Leveled code.now plan.now start level
+        (held buffers.old) (under_way run.old) (held buffers.new) (gone run.new result) }
 {
-    let opened = run[RECORDS];
-    let last = get16(p, 2 * (level.np - 1));
-    let top = highest(w, plan[SIZE], last);
-    let mut at = first_cursor(w, plan[SIZE], last, opened, top);
+    let opened = run.counts.records;
+    let path = &mut *buffers.p;
+    let last = get16(path, 2 * (level.np - 1));
+    let rows = &mut *buffers.w;
+    let top = highest(rows, plan.size, last);
+    let mut at = first_cursor(rows, plan.size, last, opened, top);
     while at != 0 {
         let here = at;
-        at = next_cursor(w, r, plan[SIZE], last, opened, top, here);
-        if reached_then(w, r, q, plan[SIZE], here, opened) {
+        let rows = &mut *buffers.w;
+        let records = &mut *buffers.r;
+        let paths = &mut *buffers.q;
+        at = next_cursor(rows, records, plan.size, last, opened, top, here);
+        if reached_then(rows, records, paths, plan.size, here, opened) {
             spend(run);
-            if plan[LIMIT] < run[ENERGY] {
-                return;
+            if plan.limit < run.energy {
+                return Ok(());
             }
-            parent(code, w, p, s, t, r, q, plan, start, level, here, run);
-            if run[CODE] != 0 {
-                return;
-            }
+            parent(code, buffers, plan, start, level, here, run)?;
         }
     }
+    Ok(())
 }
 
 // A parent of a level: what is done with it, and the level that it may open.
 #[cycle(level_parent)]
 fn parent(
     code: &[u8],
-    w: &mut [u8],
-    p: &mut [u8],
-    s: &mut [u8],
-    t: &mut [u8],
-    r: &mut [u8],
-    q: &mut [u8],
-    plan: &[usize; PLAN],
+    buffers: &mut Buffers<'_>,
+    plan: &Plan,
     start: usize,
     outer: Level,
     at: usize,
-    run: &mut [usize; RUN],
-)
-    requires { Entering code.now (plan_in plan.now) start outer at (buffers w.old p.old s.old t.old r.old q.old) (run_in run.old) }
-    ensures { Tried code.now (plan_in plan.now) start outer at
-        (buffers w.old p.old s.old t.old r.old q.old) (run_in run.old)
-        (buffers w.new p.new s.new t.new r.new q.new) (run_in run.new) }
+    run: &mut Run,
+) -> Result<(), Shortage>
+    requires { Entering code.now plan.now start outer at (held buffers.old) (under_way run.old) }
+    ensures lent { StillLent buffers.old buffers.new }
+    ensures tried { Tried code.now plan.now start outer at
+        (held buffers.old) (under_way run.old) (held buffers.new) (gone run.new result) }
 {
-    let opening = enter(code, w, p, s, t, r, q, plan, start, outer, at, run);
-    if !opening.opens {
-        return;
-    }
-    let deeper = opening.level;
-    count(w, plan[SIZE], p, outer.np, deeper.np);
-    level(code, w, p, s, t, r, q, plan, start, deeper, run);
-    if run[CODE] != 0 {
-        return;
-    }
-    uncount(w, plan[SIZE], p, outer.np, deeper.np);
+    let Some(deeper) = enter(code, buffers, plan, start, outer, at, run)? else {
+        return Ok(());
+    };
+    let path = &mut *buffers.p;
+    count(buffers.w, plan.size, path, outer.np, deeper.np);
+    level(code, buffers, plan, start, deeper, run)?;
+    let path = &mut *buffers.p;
+    uncount(buffers.w, plan.size, path, outer.np, deeper.np);
+    Ok(())
 }

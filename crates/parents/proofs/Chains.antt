@@ -19,7 +19,7 @@ use Rattle.lent.specs.Bytes.{num_at}
 use Rattle.laws.proofs.Branch.{if-true, if-false}
 use Rattle.lent.proofs.Numbers.{num-within, number-little, num-prefix}
 use Rattle.layout.specs.Parts.{ROW, row_place, rows_end, SameRows}
-use Rattle.layout.specs.Rows.{TO, POSITION, NEXT, NEXT-OTHER, TAKER, LINKS, position_at, taker_at, start_of, next_of, next_at}
+use Rattle.layout.specs.Rows.{TO, POSITION, NEXT, NEXT-OTHER, TAKER, LINKS, to_of, position_at, taker_at, start_of, next_of, next_at}
 use Rattle.initial.specs.Rows.{type_of}
 use Rattle.layout.specs.declared.row.BlockType.{BlockType}
 use Rattle.parents.specs.Links.{Parents, no_parent, next_parent, Turn, turn, turn_of, Takers, no_taker, next_taker, direct_to, from_of}
@@ -200,7 +200,7 @@ module _ (w : List ℕ) (n : ℕ) (short : n ≤ longest) (a : ℕ) (inside : a 
       rw (ne_eqb x f d, ne_eqb t x n, eq-eqb t f q) (hit_other t _ f (rw (ne_eqb x f d) at e) (λ v. n (sym v ∙ z)) q)
   both-sides t x f e z d (no n) (no m) = rw (ne_eqb x f d, ne_eqb t x n, ne_eqb t f m) (more t)
 
-  pub more-parents : (k : Kind) → Within n k → num_at 2 w (row_place a + TO) ≡ (type_of k).to → links w a ≡ link_bytes (to_past k later) (other_past k later) → (t : ℕ)
+  pub more-parents : (k : Kind) → Within n k → num_at 2 w (row_place a + TO) ≡ to_of (type_of k) → links w a ≡ link_bytes (to_past k later) (other_past k later) → (t : ℕ)
       → Parents w n t (edge_to t a k (first_to t later)) (map from_of (keep (λ (p : Parent). eqb t p.to) (map (λ (x : ℕ). parent x (a ∷ []) s) (sides k) ++ direct later)))
   unfolding Goal
   more-parents (terminate success) h z e t = more t

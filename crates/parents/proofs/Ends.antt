@@ -18,8 +18,9 @@ use Rattle.spec.specs.Rooms.{longest}
 use Rattle.theorems.proofs.Counts.{lawful}
 use Rattle.theorems.proofs.Cutting.{made}
 use Rattle.layout.specs.Parts.{ROW, row_place}
-use Rattle.layout.specs.Rows.{FIRST, NEXT, LINKS, typed, tag_at, type_at}
-use Rattle.layout.specs.declared.row.BlockType.{BlockType}
+use Rattle.layout.specs.Rows.{TO, FIRST, NEXT, LINKS, to_of, tag_at, type_at}
+use Rattle.lent.specs.Bytes.{num_at}
+use Rattle.layout.proofs.Types.{tag-range}
 use Rattle.initial.specs.Rows.{type_of, row_blocks, blocks_from, blocks_at}
 use Rattle.theorems.proofs.Sides.{node-within}
 use Rattle.initial.proofs.Types.{kind-type}
@@ -28,7 +29,7 @@ use Rattle.parents.specs.Links.{turn_of, Parents, no_parent, Takers, no_taker, d
 use Rattle.parents.specs.Rows.{turns_of, first_to, own_of, links_of, nodes_here, nodes_from, row_for}
 use Rattle.parents.specs.Promises.{Lent, LentStarts, Prepared}
 use Rattle.parents.proofs.Goals.{Goes, run-goes}
-use Rattle.parents.proofs.Slots.{own, first, links, entry, slot_is, own-tag, own-end, own-type}
+use Rattle.parents.proofs.Slots.{own, first, links, entry, slot_is, own-tag, own-to, own-end, own-type, none-tag}
 use Rattle.parents.proofs.PrepareLoop.{Pass, Walk, walk_over, node_at, block_of, nodes-split, nodes-end, good-within}
 use Rattle.parents.proofs.Chains.{small-parents, shape, Entered, entered-later, more-takers, more-parents}
 
@@ -78,7 +79,13 @@ module _ {mode : ℕ} {code w₀ : List ℕ} {end : ℕ} (l : Lent code w₀ end
       type-there =
           let k = (node_at mode code w₀ a).block.kind in
           let g = good-within (length code) l.short k (node-within (in_mode mode) lawful code (block_of l a h there)) in
-          own-type w a (type_of k) _ _ own-there (omega (arith, g.range.1)) g.to g.other
+          own-type w a (type_of k) _ _ own-there g.to g.other
+
+      to-there : num_at 2 w (row_place a + TO) ≡ to_of (type_of (node_at mode code w₀ a).block.kind)
+      to-there =
+          let k = (node_at mode code w₀ a).block.kind in
+          let g = good-within (length code) l.short k (node-within (in_mode mode) lawful code (block_of l a h there)) in
+          own-to w a (type_of k) _ _ own-there g.to
 
       block_row : row_blocks w a ≡ (node_at mode code w₀ a).block ∷ []
       block_row =
@@ -87,7 +94,7 @@ module _ {mode : ℕ} {code w₀ : List ℕ} {end : ℕ} (l : Lent code w₀ end
           let g = good-within (length code) l.short k (node-within (in_mode mode) lawful code i) in
           let t = type-there in
           let e = own-end w a (type_of k) _ _ own-there (omega (arith, (made lawful code i).end_inside, l.short)) in
-          here-block w a (λ z. omega (arith, g.range.0, ap (λ (b : BlockType). b.kind) t)) ∙ rw (t, e, kind-type k)
+          here-block w a (λ z. omega (arith, own-tag w a (type_of k) _ _ own-there, (tag-range (type_of k)).0)) ∙ rw (t, e, kind-type k)
 
     rows-block : row_blocks w a ≡ map (λ (x : Node). x.block) (nodes_here mode code w₀ a)
     rows-block = go (ℕ_discrete (tag_at w₀ a) 0)
@@ -95,7 +102,7 @@ module _ {mode : ℕ} {code w₀ : List ℕ} {end : ℕ} (l : Lent code w₀ end
         go : Dec (tag_at w₀ a ≡ 0) → row_blocks w a ≡ map (λ (x : Node). x.block) (nodes_here mode code w₀ a)
         go (yes z) =
             let e = here-empty w₀ a z in
-            rw e (here-empty w a (own-tag w a (typed 0 0 0) 0 0 (own_row ∙ rw e) (omega arith)))
+            rw e (here-empty w a (none-tag w a (own_row ∙ rw e)))
         go (no n) = rw (here-block w₀ a n) (block_row n)
 
   -- ---- all of them
@@ -135,7 +142,7 @@ module _ {mode : ℕ} {code w₀ : List ℕ} {end : ℕ} (l : Lent code w₀ end
             more-takers w (length code) l.short r h later (shape r r.block.kind) (goes_small (length code) _ l.short (run-goes mode code r.block.start))
                 (type_of r.block.kind) _ (own-there a h n) there more.0,
             more-parents w (length code) l.short a h r.own.stack later more.1 r.block.kind (node-within (in_mode mode) lawful code (block_of l a h n))
-                (ap (λ (b : BlockType). b.to) (type-there a h n)) (links-there a h n),
+                (to-there a h n) (links-there a h n),
           )
 
   prepared-rows : Prepared mode code w₀ end w many
@@ -154,5 +161,5 @@ module _ {mode : ℕ} {code w₀ : List ℕ} {end : ℕ} (l : Lent code w₀ end
       }
 
 pub prepared-all : {mode : ℕ} {code w₀ : List ℕ} {end blocks : ℕ} → Lent code w₀ end → LentStarts code w₀ end blocks → {w : List ℕ} {i many : ℕ}
-    → Walk mode code w₀ end blocks w i many → i ≡ 0 → Prepared mode code w₀ end w many
+    → Walk mode code w₀ end blocks w i many → i ≤ 0 → Prepared mode code w₀ end w many
 prepared-all l s k z = prepared-rows l (walk_over l s k z)

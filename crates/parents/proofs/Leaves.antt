@@ -1,11 +1,14 @@
 -- What the small functions write and read. Assumes nothing.
 use mathlib.Core.Path.{◌≡◌, refl, sym, ap, ◌∙◌}
+use mathlib.Core.Bool.{Bool, true, false}
+use mathlib.Core.Logic.{◌⊎◌, inl, inr}
 use mathlib.Core.List.{List}
 use mathlib.Core.Option.{none, some}
 use Prim.Native.Nat.{ℕ, ◌+◌, ◌-◌, ◌*◌, ◌≤◌, ◌<◌}
 use native.Mathlib.Omega.{arith}
-use lib.Dec.{ltb}
-use borrow.Author.Tests.{eq-eqb, ne_eqb, lt-ltb, le-ltb}
+use lib.Dec.{leb, ltb}
+use borrow.Author.Tests.{eq-eqb, ne_eqb, lt-ltb, le-ltb, leb-true, leb-false}
+use Rattle.std.specs.Prelude as Option
 use Rattle.spec.specs.Opcodes.{in_mode}
 use Rattle.spec.specs.Lists.{little}
 use Rattle.spec.specs.Walk.{instructions}
@@ -13,17 +16,18 @@ use Rattle.spec.specs.Stacks.{Ran as Run-of, run}
 use Rattle.lent.specs.Bytes.{num_at, Holds, Stored}
 use Rattle.laws.proofs.Branch.{if-true, if-false}
 use Rattle.layout.specs.Parts.{row_place}
-use Rattle.layout.specs.Rows.{END, TO, POSITION, FIRST, NEXT, NEXT-OTHER, TAKER, next_at, typed, tag_at, type_at, TypeIs, Put}
+use Rattle.layout.specs.Rows.{END, TO, POSITION, FIRST, NEXT, NEXT-OTHER, TAKER, OTHER, next_at, tag_of, tag_at, type_at, read_at, TypeIs, Put}
 use Rattle.layout.specs.declared.row.BlockType.{BlockType}
+use Rattle.layout.specs.declared.row.BlockType.TheVariants.{Terminate, Jump, Jumpi, DynamicJump, DynamicJumpi}
+use Rattle.layout.proofs.Types.{is-jump, is-jumpi, is-dynamic_jumpi, row-none, row-some, tag-dynamic}
 use Rattle.state.specs.Symbols.{sym_of}
-use Rattle.exec.specs.Owns.{goes_of, Runs, Owned}
+use Rattle.exec.specs.Owns.{goes_of, Owned}
 use Rattle.state.specs.declared.sym.StackSym.{StackSym}
 use Rattle.state.specs.declared.sym.StackSym.TheVariants.{Before, Constant, Jumpdest, Other}
-use Rattle.exec.specs.declared.run.Goes.TheVariants.{To, Nowhere}
 use Rattle.exec.specs.declared.run.Own.{Own}
 use Rattle.parents.specs.Writes.{link, link_sides, take_turn, static_type, make_static, place, goes_at}
 use Rattle.state.proofs.States.{own-walked}
-use Rattle.parents.specs.Promises.{Sides, LinkRoom, Wrote, Settles, TurnRoom, Ran, Settled, Placed, Number}
+use Rattle.parents.specs.Promises.{Sides, LinkRoom, Wrote, Settles, Ran, Settled, Placed, Number}
 
 pub number_is : {k at r : ℕ} {w : List ℕ} → Holds k w at r → Number r (num_at k w at) k
 number_is h = record { is = h.is; small = h.small }
@@ -37,55 +41,68 @@ link-wrote a side t h p q = record { is = q.is ∙ rw (p.is, h.is); kept = q.kep
 
 -- ---- every side
 
-module _ {w : List ℕ} {a : ℕ} {t : BlockType} (y : TypeIs w a t) (s : Sides w a) where
-  pub room-to : LinkRoom w a 0 t.to
-  room-to = record { own = s.own; to = rw y.is s.to; one = omega arith }
+module _ {w : List ℕ} {a : ℕ} {o : Option.Option BlockType} (y : TypeIs w a o) {t : BlockType} (there : o ≡ Option.Some t) (s : Sides w a) where
+  read : {u : BlockType} → t ≡ u → (tag_at w a ≡ 0 → ⊥) × (type_at w a ≡ u)
+  read e = let h = row-some y there in (h.0, h.1 ∙ e)
 
-  pub room-other : LinkRoom w a 1 t.other
-  room-other = record { own = s.own; to = rw y.is s.other; one = omega arith }
+  pub room-to : {to : ℕ} → t ≡ Jump to → LinkRoom w a 0 to
+  room-to e = let h = read e in record { own = s.own; to = rw (is-jump _ _ _ h.0 h.1).1 at s.to; one = omega arith }
 
-  pub room-then : {w₁ v : List ℕ} → Wrote w w₁ v → LinkRoom w₁ a 0 t.to
-  room-then p = record { own = omega (arith, s.own, p.kept); to = rw (p.kept, y.is) s.to; one = omega arith }
+  module _ {to f : ℕ} (e : t ≡ Jumpi to f) where
+    sides-are : (tag_at w a ≡ 4) × (num_at 2 w (row_place a + TO) ≡ to) × (num_at 2 w (row_place a + OTHER) ≡ f)
+    sides-are = let h = read e in is-jumpi _ _ _ h.0 h.1
 
-module _ {w w' : List ℕ} {a : ℕ} {t : BlockType} (y : TypeIs w a t) where
-  as-type : Wrote w w' (link_sides w a t) → Wrote w w' (link_sides w a (type_at w a))
-  as-type p = rw (← y.is) p
+    pub room-other : LinkRoom w a 1 f
+    room-other = record { own = s.own; to = rw sides-are.2 at s.other; one = omega arith }
 
-  pub sides-jump : t.kind ≡ 3 → Wrote w w' (link w a 0 t.to) → Wrote w w' (link_sides w a (type_at w a))
-  unfolding link_sides
-  sides-jump e p = as-type (record { is = p.is ∙ sym (if-true _ _ _ (eq-eqb _ _ e)); kept = p.kept })
+    pub room-once : LinkRoom w a 0 to
+    room-once = record { own = s.own; to = rw sides-are.1 at s.to; one = omega arith }
 
-  pub sides-once : (t.kind ≡ 3 → ⊥) → t.kind ≡ 4 → t.to ≡ t.other → Wrote w w' (link w a 0 t.to) → Wrote w w' (link_sides w a (type_at w a))
-  unfolding link_sides
-  sides-once n e q p =
-      as-type (record {
-        is = p.is ∙ sym (if-false _ _ _ (ne_eqb _ _ n) ∙ if-true _ _ _ (eq-eqb _ _ e) ∙ if-true _ _ _ (eq-eqb _ _ q));
-        kept = p.kept;
-      })
+    pub room-then : {w₁ v : List ℕ} → Wrote w w₁ v → LinkRoom w₁ a 0 to
+    room-then p = record { own = omega (arith, s.own, p.kept); to = rw p.kept (rw sides-are.1 at s.to); one = omega arith }
 
-  pub sides-both : {w₁ : List ℕ} → (t.kind ≡ 3 → ⊥) → t.kind ≡ 4 → (t.to ≡ t.other → ⊥) → Wrote w w₁ (link w a 1 t.other) → Wrote w₁ w' (link w₁ a 0 t.to)
-      → Wrote w w' (link_sides w a (type_at w a))
-  unfolding link_sides
-  sides-both n e q p r =
-      as-type (record {
-        is =
-            r.is ∙ ap (λ (v : List ℕ). link v a 0 t.to) p.is
-            ∙ sym (if-false _ _ _ (ne_eqb _ _ n) ∙ if-true _ _ _ (eq-eqb _ _ e) ∙ if-false _ _ _ (ne_eqb _ _ q));
-        kept = r.kept ∙ p.kept;
-      })
+  pub room-false : {f : ℕ} → t ≡ DynamicJumpi f → LinkRoom w a 1 f
+  room-false e = let h = read e in record { own = s.own; to = rw (is-dynamic_jumpi _ _ _ h.0 h.1).1 at s.other; one = omega arith }
 
-  pub sides-other : (t.kind ≡ 3 → ⊥) → (t.kind ≡ 4 → ⊥) → t.kind ≡ 6 → Wrote w w' (link w a 1 t.other) → Wrote w w' (link_sides w a (type_at w a))
-  unfolding link_sides
-  sides-other n m e p =
-      as-type (record {
-        is = p.is ∙ sym (if-false _ _ _ (ne_eqb _ _ n) ∙ if-false _ _ _ (ne_eqb _ _ m) ∙ if-true _ _ _ (eq-eqb _ _ e));
-        kept = p.kept;
-      })
+module _ {w w' : List ℕ} {a : ℕ} {o : Option.Option BlockType} (y : TypeIs w a o) where
+  as-read : Wrote w w' (link_sides w a o) → Wrote w w' (link_sides w a (read_at w a))
+  as-read p = rw (← y.is) p
 
-pub sides-none : {w : List ℕ} {a : ℕ} {t : BlockType} → TypeIs w a t → (t.kind ≡ 3 → ⊥) → (t.kind ≡ 4 → ⊥) → (t.kind ≡ 6 → ⊥) → Wrote w w (link_sides w a (type_at w a))
+  module _ {t : BlockType} (there : o ≡ Option.Some t) where
+    pub sides-jump : {to : ℕ} → t ≡ Jump to → Wrote w w' (link w a 0 to) → Wrote w w' (link_sides w a (read_at w a))
+    unfolding link_sides
+    sides-jump e p = as-read (rw (there, e) p)
+
+    pub sides-once : {to f : ℕ} → t ≡ Jumpi to f → to ≡ f → Wrote w w' (link w a 0 to) → Wrote w w' (link_sides w a (read_at w a))
+    unfolding link_sides
+    sides-once e q p = as-read (rw (there, e) (record { is = p.is ∙ sym (if-true _ _ _ (eq-eqb _ _ q)); kept = p.kept }))
+
+    pub sides-both : {to f : ℕ} {w₁ : List ℕ} → t ≡ Jumpi to f → (to ≡ f → ⊥) → Wrote w w₁ (link w a 1 f) → Wrote w₁ w' (link w₁ a 0 to)
+        → Wrote w w' (link_sides w a (read_at w a))
+    unfolding link_sides
+    sides-both {to} e q p r =
+        as-read (rw (there, e) (record { is = r.is ∙ ap (λ (v : List ℕ). link v a 0 to) p.is ∙ sym (if-false _ _ _ (ne_eqb _ _ q)); kept = r.kept ∙ p.kept }))
+
+    pub sides-false : {f : ℕ} → t ≡ DynamicJumpi f → Wrote w w' (link w a 1 f) → Wrote w w' (link_sides w a (read_at w a))
+    unfolding link_sides
+    sides-false e p = as-read (rw (there, e) p)
+
+pub sides-empty : {w : List ℕ} {a : ℕ} {o : Option.Option BlockType} → TypeIs w a o → o ≡ Option.None → Wrote w w (link_sides w a (read_at w a))
 unfolding link_sides
-sides-none y n m e =
-    as-type y (record { is = sym (if-false _ _ _ (ne_eqb _ _ n) ∙ if-false _ _ _ (ne_eqb _ _ m) ∙ if-false _ _ _ (ne_eqb _ _ e)); kept = refl })
+sides-empty y e = as-read y (rw e (record { is = refl; kept = refl }))
+
+no-sides : (w : List ℕ) (a : ℕ) (t : BlockType) → ((to : ℕ) → t ≡ Jump to → ⊥) → ((to f : ℕ) → t ≡ Jumpi to f → ⊥) → ((f : ℕ) → t ≡ DynamicJumpi f → ⊥)
+    → link_sides w a (Option.Some t) ≡ w
+unfolding link_sides
+no-sides w a (Terminate success) h g k = refl
+no-sides w a (Jump to) h g k = absurd (h to refl)
+no-sides w a (Jumpi to f) h g k = absurd (g to f refl)
+no-sides w a DynamicJump h g k = refl
+no-sides w a (DynamicJumpi f) h g k = absurd (k f refl)
+
+pub sides-none : {w : List ℕ} {a : ℕ} {o : Option.Option BlockType} {t : BlockType} → TypeIs w a o → o ≡ Option.Some t → ((to : ℕ) → t ≡ Jump to → ⊥) → ((to f : ℕ) → t ≡ Jumpi to f → ⊥)
+    → ((f : ℕ) → t ≡ DynamicJumpi f → ⊥) → Wrote w w (link_sides w a (read_at w a))
+sides-none {w} {a} {o} {t} y e h g k = as-read y (rw e (record { is = sym (no-sides w a t h g k); kept = refl }))
 
 -- ---- the next parent
 
@@ -105,11 +122,12 @@ turn-wrote a x many p q = record { is = q.is ∙ rw p.is; kept = q.kept ∙ p.ke
 
 -- ---- a static type
 
-pub static-jump : (t : BlockType) (to : ℕ) → t.kind ≡ 5 → typed 3 to 0 ≡ static_type t to
-static-jump t to e = sym (if-true _ _ _ (eq-eqb _ _ e))
-
-pub static-jumpi : (t : BlockType) (to : ℕ) → (t.kind ≡ 5 → ⊥) → typed 4 to t.other ≡ static_type t to
-static-jumpi t to e = sym (if-false _ _ _ (ne_eqb _ _ e))
+pub static_kept : (t : BlockType) (to : ℕ) → (t ≡ DynamicJump → ⊥) → ((f : ℕ) → t ≡ DynamicJumpi f → ⊥) → t ≡ static_type t to
+static_kept (Terminate success) to h g = refl
+static_kept (Jump t) to h g = refl
+static_kept (Jumpi t f) to h g = refl
+static_kept DynamicJump to h g = absurd (h refl)
+static_kept (DynamicJumpi f) to h g = absurd (g f refl)
 
 pub static-wrote : (a : ℕ) (t : BlockType) (to : ℕ) {last : ℕ} {k : BlockType} {w w' : List ℕ} → Holds 2 w (row_place a + END) last → k ≡ static_type t to → Put w a last k w'
     → Wrote w w' (make_static w a t to)
@@ -126,54 +144,53 @@ module _ {w : List ℕ} {a : ℕ} {t : BlockType} (many : ℕ) where
   unfolding place
   place-before x e p = rw e (record { is = p.is; count = refl; kept = p.kept })
 
-  pub place-constant : (x : StackSym) {v : ℕ} → x ≡ Constant v → Placed w a t (some (sym_of x)) many w many
+  pub place-stays : (x : StackSym) → ((v : ℕ) × (x ≡ Constant v)) ⊎ ((pc : ℕ) × (x ≡ Other pc)) → Placed w a t (some (sym_of x)) many w many
   unfolding place
-  place-constant x e = rw e (record { is = refl; count = refl; kept = refl })
+  place-stays x (inl e) = rw e.1 (record { is = refl; count = refl; kept = refl })
+  place-stays x (inr e) = rw e.1 (record { is = refl; count = refl; kept = refl })
 
-  pub place_other : (x : StackSym) {pc : ℕ} → x ≡ Other pc → Placed w a t (some (sym_of x)) many w many
-  unfolding place
-  place_other x e = rw e (record { is = refl; count = refl; kept = refl })
-
-module _ {code w : List ℕ} {end a many : ℕ} (s : Settles code w end a many) {t : BlockType} (y : TypeIs w a t) where
-  tag_is : t.kind ≡ tag_at w a
-  tag_is = ap (λ (b : BlockType). b.kind) y.is
-
-  pub settle-static : {mode : ℕ} → t.kind < 5 → Settled mode code w end a many w many
+module _ {code w : List ℕ} {end a many : ℕ} (s : Settles code w end a many) {o : Option.Option BlockType} (y : TypeIs w a o) where
+  stays : {mode : ℕ} → tag_at w a < 5 → Settled mode code w end a many w many
   unfolding goes_at place
-  settle-static {mode} h =
-      let e = if-true (ltb (tag_at w a) 5) none (run (in_mode mode) code (instructions code) a).goes (lt-ltb (tag_at w a) 5 (omega (arith, tag_is))) in
+  stays {mode} h =
+      let e = if-true (ltb (tag_at w a) 5) none (run (in_mode mode) code (instructions code) a).goes (lt-ltb (tag_at w a) 5 h) in
       record { after = w; ran = record { front = refl; back = refl; kept = refl }; is = rw e; count = rw e; kept = refl }
 
-  pub settle-runs : 5 ≤ t.kind → Runs code w end
-  settle-runs h = record { short = s.short; inside = s.inside; room = omega (arith, s.room) }
+  pub settle-none : {mode : ℕ} → o ≡ Option.None → Settled mode code w end a many w many
+  settle-none e = stays (omega (arith, row-none y e))
 
-  module _ {mode : ℕ} {w₁ : List ℕ} {o : Own} (h : 5 ≤ t.kind) (d : Owned mode code a w end w₁ o) where
-    ran-in : Ran code w end w₁
-    ran-in =
-        record {
-          front = d.inside.front;
-          back = d.inside.back;
-          kept = d.inside.kept;
-        }
+  module _ {t : BlockType} (there : o ≡ Option.Some t) where
+    -- a block is dynamic by its byte
+    tag_is : {b : Bool} → b ≡ leb 5 (tag_of t) → b ≡ leb 5 (tag_at w a)
+    tag_is e = let h = row-some y there in e ∙ ap (λ (u : BlockType). leb 5 (tag_of u)) (sym h.1) ∙ tag-dynamic _ _ _ h.0
 
-    pub settle-room : TurnRoom w₁ a many
-    settle-room =
-        record {
-          own = omega (arith, s.row, s.room, s.inside, d.inside.kept);
-          next = omega (arith, s.few, s.room, s.inside, d.inside.kept);
-        }
+    pub settle-static : {mode : ℕ} {b : Bool} → b ≡ leb 5 (tag_of t) → b ≡ false → Settled mode code w end a many w many
+    settle-static e f = stays (omega (arith, leb-false 5 (tag_at w a) (sym (tag_is e) ∙ f)))
 
-    goes-is : goes_at mode code w a ≡ goes_of o.goes
-    unfolding goes_at
-    goes-is = if-false _ _ _ (le-ltb (tag_at w a) 5 (omega (arith, tag_is))) ∙ sym (ap (λ (r : Run-of). r.goes) (own-walked mode code a (s.stands (omega (arith, tag_is))))) ∙ sym d.goes
+    module _ {mode : ℕ} {w₁ : List ℕ} {own : Own} {b : Bool} (dynamic : b ≡ leb 5 (tag_of t)) (is : b ≡ true) (d : Owned mode code a w end w₁ own) where
+      high : 5 ≤ tag_at w a
+      high = leb-true 5 (tag_at w a) (sym (tag_is dynamic) ∙ is)
 
-    pub settle-nowhere : o.goes ≡ Nowhere → Settled mode code w end a many w₁ many
-    unfolding place
-    settle-nowhere e =
-        let g : goes_at mode code w a ≡ none = goes-is ∙ ap goes_of e in
-        record { after = w₁; ran = ran-in; is = rw g; count = rw g; kept = d.inside.kept }
+      ran-in : Ran code w end w₁
+      ran-in =
+          record {
+            front = d.inside.front;
+            back = d.inside.back;
+            kept = d.inside.kept;
+          }
 
-    pub settle-placed : {x : StackSym} {w₂ : List ℕ} {r : ℕ} → o.goes ≡ To x → Placed w₁ a t (some (sym_of x)) many w₂ r → Settled mode code w end a many w₂ r
-    settle-placed {x} e p =
-        let g : goes_at mode code w a ≡ some (sym_of x) = goes-is ∙ ap goes_of e in
-        record { after = w₁; ran = ran-in; is = rw (g, ← y.is) p.is; count = rw g p.count; kept = p.kept ∙ d.inside.kept }
+      goes-is : goes_at mode code w a ≡ goes_of own.goes
+      unfolding goes_at
+      goes-is = if-false _ _ _ (le-ltb (tag_at w a) 5 high) ∙ sym (ap (λ (r : Run-of). r.goes) (own-walked mode code a (s.stands high))) ∙ sym d.goes
+
+      pub settle-nowhere : own.goes ≡ Option.None → Settled mode code w end a many w₁ many
+      unfolding place
+      settle-nowhere e =
+          let g : goes_at mode code w a ≡ none = goes-is ∙ ap goes_of e in
+          record { after = w₁; ran = ran-in; is = rw g; count = rw g; kept = d.inside.kept }
+
+      pub settle-placed : {x : StackSym} {w₂ : List ℕ} {r : ℕ} → own.goes ≡ Option.Some x → Placed w₁ a t (some (sym_of x)) many w₂ r → Settled mode code w end a many w₂ r
+      settle-placed {x} e p =
+          let g : goes_at mode code w a ≡ some (sym_of x) = goes-is ∙ ap goes_of e in
+          let q : type_at w a ≡ t = (row-some y there).1 in
+          record { after = w₁; ran = ran-in; is = rw (g, q) p.is; count = rw g p.count; kept = p.kept ∙ d.inside.kept }

@@ -1,7 +1,6 @@
 -- The pass over the rows, from the last to the first: those from an address on are prepared, and the others hold their blocks as they did. The list of
 -- the blocks' starts leads it, past the rows without a block. Assumes nothing.
 use mathlib.Core.Path.{◌≡◌, refl, sym, ap, ◌∙◌, subst}
-use mathlib.Core.Bool.{true, false}
 use mathlib.Core.Option.{Option, none, some}
 use mathlib.Core.List.{List, [], ◌∷◌, ◌++◌, map-append}
 use Prim.Native.Nat.{ℕ, zero, suc, ◌+◌, ◌-◌, ◌≤◌, ◌<◌}
@@ -10,6 +9,7 @@ use native.Mathlib.Decide.{ℕ_discrete}
 use native.Mathlib.Nat.{add-zero, zero-add, sub_self}
 use lib.Dec.{eqb}
 use lib.ListN.{length, replicate}
+use Rattle.std.specs.Prelude as Option
 use Rattle.spec.specs.Opcodes.{row, in_mode}
 use Rattle.spec.specs.Lists.{if, little}
 use Rattle.spec.specs.Walk.{instructions}
@@ -24,8 +24,9 @@ use Rattle.laws.proofs.Members.{In}
 use Rattle.theorems.proofs.Counts.{lawful}
 use Rattle.theorems.proofs.Cutting.{made, block-afresh}
 use Rattle.layout.specs.Parts.{row_place, start_place}
-use Rattle.layout.specs.Rows.{END, FIRST, TAKER, typed, tag_at, type_at, starts_at}
+use Rattle.layout.specs.Rows.{END, TO, OTHER, FIRST, TAKER, to_of, other_of, tag_at, type_at, read_at, starts_at}
 use Rattle.layout.specs.declared.row.BlockType.{BlockType}
+use Rattle.layout.proofs.Types.{read-none}
 use Rattle.initial.specs.Rows.{type_of, kind_at, block_at, row_blocks, blocks_from}
 use Rattle.theorems.proofs.Sides.{Within, block_within, node-within}
 use Rattle.initial.proofs.Types.{Good, good}
@@ -34,7 +35,7 @@ use Rattle.initial.proofs.Listing.{list-more}
 use Rattle.parents.specs.Rows.{own_bytes, link_bytes, taker_in, edge_to, first_to, own_of, links_of, nodes_here, nodes_from}
 use Rattle.parents.specs.Writes.{link_sides, place, many_past, goes_at}
 use Rattle.parents.specs.Promises.{Lent, LentStarts, Number, Beside, Sides, Wrote, Settles, Settled, PreparesRow, PreparedRow}
-use Rattle.parents.proofs.Slots.{own, first, links, entry, own-type, Rows, rows-ran, rows_as, rows-sides, rows-placed}
+use Rattle.parents.proofs.Slots.{own, first, links, entry, own-tag, own-to, own-side, own-type, own-read, none-tag, none-to, none-side, Rows, rows-ran, rows_as, rows-sides, rows-placed}
 use Rattle.parents.proofs.Starts.{Last, last-start, no_start, starts_none}
 use Rattle.parents.proofs.Settling.{none-own, none-links, slot-zero, no-first, no-entry, block-own, block-links, looks, settles}
 
@@ -83,17 +84,15 @@ module _ (mode : ℕ) (code w : List ℕ) where
 -- ---- kinds whose sides lie in the code
 
 module _ (n : ℕ) where
-  type-to : (k : Kind) → Within n k → (type_of k).to ≤ n
-  type-to (terminate false) h = omega arith
-  type-to (terminate true) h = omega arith
+  type-to : (k : Kind) → Within n k → to_of (type_of k) ≤ n
+  type-to (terminate success) h = omega arith
   type-to (jump t) h = omega arith
   type-to (jumpi t f) h = omega (arith, h.0)
   type-to dynamic_jump h = omega arith
   type-to (dynamic_jumpi f) h = omega arith
 
-  type-other : (k : Kind) → Within n k → (type_of k).other ≤ n
-  type-other (terminate false) h = omega arith
-  type-other (terminate true) h = omega arith
+  type-other : (k : Kind) → Within n k → other_of (type_of k) ≤ n
+  type-other (terminate success) h = omega arith
   type-other (jump t) h = omega arith
   type-other (jumpi t f) h = h.1
   type-other dynamic_jump h = omega arith
@@ -173,23 +172,23 @@ module _ {mode : ℕ} {code w₀ : List ℕ} {end : ℕ} (l : Lent code w₀ end
     ran = rows-ran l.room l.inside here p.beside p.firsts p.entries s.ran
 
     -- after the first stage, with these blocks at a: the row's type, whose sides lie in the code
-    record Half (hs : List Node) (t : BlockType) : Type 0 where
+    record Half (hs : List Node) (o : Option.Option BlockType) : Type 0 where
       rows : Rows code w₀ end a w w₁ (own_of hs) (link_bytes 0 0) (λ x. first_to x (nodes_from mode code w₀ (suc a))) (λ x. taker_in x (takers (hs ++ nodes_from mode code w₀ (suc a))))
-      type : type_at w₁ a ≡ t
-      to : t.to ≤ length code
-      other : t.other ≤ length code
+      type : read_at w₁ a ≡ o
+      to : num_at 2 w₁ (row_place a + TO) ≤ length code
+      other : num_at 2 w₁ (row_place a + OTHER) ≤ length code
 
-    half-sides : {hs : List Node} {t : BlockType} → Half hs t → Sides w₁ a
+    half-sides : {hs : List Node} {o : Option.Option BlockType} → Half hs o → Sides w₁ a
     half-sides h =
         record {
           own = omega (arith, here, l.inside, l.room, h.rows.beside.kept);
-          to = omega (arith, l.inside, l.room, h.rows.beside.kept, h.to, ap (λ (t : BlockType). t.to) h.type);
-          other = omega (arith, l.inside, l.room, h.rows.beside.kept, h.other, ap (λ (t : BlockType). t.other) h.type);
+          to = omega (arith, l.inside, l.room, h.rows.beside.kept, h.to);
+          other = omega (arith, l.inside, l.room, h.rows.beside.kept, h.other);
         }
 
     -- where no block starts
     module _ (none-there : tag_at w₀ a ≡ 0) where
-      half-none : Half [] (typed 0 0 0)
+      half-none : Half [] Option.None
       unfolding place goes_at if
       half-none =
           let e : row_blocks w₀ a ≡ [] = here-empty w₀ a none-there in
@@ -197,7 +196,12 @@ module _ {mode : ℕ} {code w₀ : List ℕ} {end : ℕ} (l : Lent code w₀ end
           let k : links w a ≡ link_bytes 0 0 = p.links_ahead a (omega arith) ∙ none-links l.laid a here e in
           let q : w₁ ≡ s.after = s.is ∙ rw (tag_same, none-there) in
           let d : Rows code w₀ end a w w₁ (replicate FIRST 0) (link_bytes 0 0) (λ x. first_to x (nodes_from mode code w₀ (suc a))) (λ x. taker_in x (takers (nodes_from mode code w₀ (suc a)))) = rw (q, ← o, ← k) ran in
-          record { rows = d; type = own-type w₁ a (typed 0 0 0) 0 0 d.own_here (omega arith) (omega arith) (omega arith); to = omega arith; other = omega arith }
+          record {
+            rows = d;
+            type = sym (read-none _ _ (none-tag w₁ a d.own_here));
+            to = omega (arith, none-to w₁ a d.own_here);
+            other = omega (arith, none-side w₁ a d.own_here);
+          }
 
       count_none : r ≡ length (takers (nodes_from mode code w₀ (suc a)))
       unfolding goes_at if
@@ -220,13 +224,13 @@ module _ {mode : ℕ} {code w₀ : List ℕ} {end : ℕ} (l : Lent code w₀ end
       row_type : type_at w a ≡ type_of (kind_at w₀ a)
       row_type =
           let g = good-within (length code) l.short (kind_at w₀ a) within in
-          own-type w a (type_of (kind_at w₀ a)) (last_at w₀ a) 0 row-own (omega (arith, g.range.1)) g.to g.other
+          own-type w a (type_of (kind_at w₀ a)) (last_at w₀ a) 0 row-own g.to g.other
 
       goes-looks : goes_at mode code w a ≡ looks (kind_at w₀ a) (goes_from mode code a)
       unfolding goes_at
-      goes-looks = rw (ap (λ (t : BlockType). t.kind) row_type)
+      goes-looks = rw (own-tag w a (type_of (kind_at w₀ a)) (last_at w₀ a) 0 row-own)
 
-      half-block : Half (node_at mode code w₀ a ∷ []) (type_of (node_at mode code w₀ a).block.kind)
+      half-block : Half (node_at mode code w₀ a ∷ []) (Option.Some (type_of (node_at mode code w₀ a).block.kind))
       half-block =
           let x = settles a (last_at w₀ a) (run (in_mode mode) code (instructions code) a).stack (nodes_from mode code w₀ (suc a)) (kind_at w₀ a) (goes_from mode code a) in
           let q : w₁ ≡ place s.after a (type_of (kind_at w₀ a)) (looks (kind_at w₀ a) (goes_from mode code a)) (length (takers (nodes_from mode code w₀ (suc a)))) = s.is ∙ rw (row_type, goes-looks, p.counts) in
@@ -238,9 +242,10 @@ module _ {mode : ℕ} {code w₀ : List ℕ} {end : ℕ} (l : Lent code w₀ end
           let g = good-within (length code) l.short (node_at mode code w₀ a).block.kind v in
           record {
             rows = f;
-            type = own-type w₁ a (type_of (node_at mode code w₀ a).block.kind) (last_at w₀ a) _ f.own_here (omega (arith, g.range.1)) g.to g.other;
-            to = type-to (length code) (node_at mode code w₀ a).block.kind v;
-            other = type-other (length code) (node_at mode code w₀ a).block.kind v;
+            type = own-read w₁ a (type_of (node_at mode code w₀ a).block.kind) (last_at w₀ a) _ f.own_here g.to g.other;
+            to = rw (own-to w₁ a (type_of (node_at mode code w₀ a).block.kind) (last_at w₀ a) _ f.own_here g.to) (type-to (length code) (node_at mode code w₀ a).block.kind v);
+            other =
+                rw (own-side w₁ a (type_of (node_at mode code w₀ a).block.kind) (last_at w₀ a) _ f.own_here g.other) (type-other (length code) (node_at mode code w₀ a).block.kind v);
           }
 
       count-block : r ≡ length (takers (node_at mode code w₀ a ∷ nodes_from mode code w₀ (suc a)))
@@ -256,7 +261,7 @@ module _ {mode : ℕ} {code w₀ : List ℕ} {end : ℕ} (l : Lent code w₀ end
         go (no n) = half-sides (half-block n)
 
     -- after both: the row is prepared
-    module _ {w₂ : List ℕ} (d : Wrote w₁ w₂ (link_sides w₁ a (type_at w₁ a))) where
+    module _ {w₂ : List ℕ} (d : Wrote w₁ w₂ (link_sides w₁ a (read_at w₁ a))) where
       record Turned (hs : List Node) : Type 0 where
         rows : Rows code w₀ end a w w₂ (own_of hs) (links_of hs (nodes_from mode code w₀ (suc a))) (λ x. first_to x (hs ++ nodes_from mode code w₀ (suc a)))
             (λ x. taker_in x (takers (hs ++ nodes_from mode code w₀ (suc a))))
@@ -322,7 +327,7 @@ module _ {mode : ℕ} {code w₀ : List ℕ} {end : ℕ} (l : Lent code w₀ end
       let e : tag_at w a ≡ 0 = tag_same l p ∙ z in
       let s : Settled mode code w end a many w many =
       record { after = w; ran = record { front = refl; back = refl; kept = refl }; is = rw e; count = rw e; kept = refl } in
-      passed l p s (record { is = rw e; kept = refl })
+      passed l p s (record { is = ap (link_sides w a) (read-none _ _ e); kept = refl })
 
   pass-down : (b a : ℕ) → Pass mode code w₀ end w a many → b ≤ a → ((x : ℕ) → b ≤ x → x < a → tag_at w₀ x ≡ 0) → Pass mode code w₀ end w b many
   pass-down b zero p h none-there = let e : zero ≡ b = omega arith in subst (λ (j : ℕ). Pass mode code w₀ end w j many) e p
@@ -348,7 +353,7 @@ walk_none {code = code} l s =
 
 module _ {mode : ℕ} {code w₀ : List ℕ} {end blocks : ℕ} (l : Lent code w₀ end) (ls : LentStarts code w₀ end blocks) {w : List ℕ} {i many : ℕ}
     (k : Walk mode code w₀ end blocks w i many) where
-  module _ (some_left : i ≡ 0 → ⊥) where
+  module _ (some_left : 0 < i) where
     pub walk-read : start_place (length code) (i - 1) + 2 ≤ length w
     walk-read = omega (arith, k.few, ls.lent, k.pass.beside.kept)
 
@@ -371,5 +376,5 @@ module _ {mode : ℕ} {code w₀ : List ℕ} {end blocks : ℕ} (l : Lent code w
       pub walk_more : {w₂ : List ℕ} {r : ℕ} → PreparedRow mode code w end b many w₂ r → Walk mode code w₀ end blocks w₂ (i - 1) r
       walk_more d = record { at = b; pass = passed l back d.settled d.linked; ahead = sym found.before; few = omega (arith, k.few) }
 
-  pub walk_over : i ≡ 0 → Pass mode code w₀ end w 0 many
-  walk_over z = pass-down l 0 k.at k.pass (omega arith) (λ x g h. no_start w₀ k.at (sym k.ahead ∙ rw z (starts_none w₀ (length code) 0)) x h)
+  pub walk_over : i ≤ 0 → Pass mode code w₀ end w 0 many
+  walk_over h = let z : i ≡ 0 = omega arith in pass-down l 0 k.at k.pass (omega arith) (λ x g h. no_start w₀ k.at (sym k.ahead ∙ rw z (starts_none w₀ (length code) 0)) x h)

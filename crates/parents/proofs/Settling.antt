@@ -15,7 +15,7 @@ use Rattle.spec.specs.Stacks.{Sym, before, constant, jumpdest, other, Stack}
 use Rattle.spec.specs.Search.{Node, settled, node, takers}
 use Rattle.lent.proofs.Parts.{part-within}
 use Rattle.layout.specs.Parts.{ROW, row_place}
-use Rattle.layout.specs.Rows.{FIRST, NEXT, TAKER, LINKS}
+use Rattle.layout.specs.Rows.{FIRST, NEXT, TAKER, LINKS, tag_of}
 use Rattle.initial.specs.Rows.{type_of, row_blocks, row_of, Laid}
 use Rattle.parents.specs.Rows.{own_bytes, link_bytes, taker_in, own_of}
 use Rattle.parents.specs.Writes.{many_past}
@@ -63,7 +63,7 @@ node_of a e k s g = node (block a a e k) (record { stack = s; goes = g })
 
 -- what settles the block: a run is looked at where the kind is dynamic
 abbrev pub looks : Kind → Option Sym → Option Sym
-looks k g = if (ltb (type_of k).kind 5) none g
+looks k g = if (ltb (tag_of (type_of k)) 5) none g
 
 pub record Settles (a e : ℕ) (k : Kind) (s : Stack) (g : Option Sym) (rs : List Node) : Type 0 where
   pub own_is : own_placed (type_of k) e (looks k g) ≡ own_of (node_of a e k s g ∷ [])
@@ -71,7 +71,7 @@ pub record Settles (a e : ℕ) (k : Kind) (s : Stack) (g : Option Sym) (rs : Lis
   pub count_is : many_past (looks k g) (length (takers rs)) ≡ length (takers (node_of a e k s g ∷ rs))
 
 -- a static kind stays
-static_stays : (g : Option Sym) (k : Kind) → (type_of k).kind < 5 → settled g k ≡ k
+static_stays : (g : Option Sym) (k : Kind) → tag_of (type_of k) < 5 → settled g k ≡ k
 static_stays none k h = refl
 static_stays (some (before p)) k h = refl
 static_stays (some (constant v)) k h = refl

@@ -1,6 +1,5 @@
 -- The four parts of a row, and what each write does to them: own (12 bytes), first (2), links (4) and entry (2). Assumes nothing.
 use mathlib.Core.Path.{◌≡◌, refl, sym, ap, ◌∙◌}
-use mathlib.Core.Bool.{true, false}
 use mathlib.Core.Option.{Option, none, some}
 use mathlib.Core.List.{List}
 use Prim.Native.Nat.{ℕ, ◌+◌, ◌-◌, ◌*◌, ◌≤◌, ◌<◌}
@@ -8,20 +7,22 @@ use native.Mathlib.Nat.{add-zero, zero-add, le_of_lt}
 use native.Mathlib.Omega.{arith}
 use native.Mathlib.Decide.{ℕ_discrete}
 use lib.Dec.{eqb}
-use lib.ListN.{length, take, drop}
+use lib.ListN.{length, take, drop, replicate}
 use borrow.Author.Tests.{eq-eqb, ne_eqb}
+use Rattle.std.specs.Prelude as Option
 use Rattle.spec.specs.Lists.{if, little}
 use Rattle.spec.specs.Blocks.{Kind, terminate, jump, jumpi, dynamic_jump, dynamic_jumpi}
 use Rattle.spec.specs.Stacks.{Sym, before, constant, jumpdest, other}
 use Rattle.spec.specs.Search.{Node}
 use Rattle.lent.specs.Bytes.{number, num_at, patch, Stored}
 use Rattle.lent.proofs.Parts.{part-prefix}
-use Rattle.lent.proofs.Numbers.{num-within, number-little}
+use Rattle.lent.proofs.Numbers.{num-within, num-zeros, number-little}
 use Rattle.lent.proofs.Stored.{stored, kept-drop, kept-part, read_all}
 use Rattle.laws.proofs.Branch.{if-true, if-false}
 use Rattle.layout.specs.Parts.{row_place, rows_end}
-use Rattle.layout.specs.Rows.{END, TO, OTHER, POSITION, FIRST, NEXT, TAKER, LINKS, BLOCK, tag_at, type_at, head_of, first_at}
+use Rattle.layout.specs.Rows.{END, TO, OTHER, POSITION, FIRST, NEXT, TAKER, LINKS, BLOCK, tag_of, to_of, other_of, tag_at, type_at, read_at, head_of, first_at}
 use Rattle.layout.specs.declared.row.BlockType.{BlockType}
+use Rattle.layout.proofs.Types.{typed-back, read-back, tag-range}
 use Rattle.initial.specs.Rows.{type_of}
 use Rattle.theorems.proofs.Sides.{Within}
 use Rattle.parents.specs.Rows.{own_bytes, link_bytes, edge_to, first_to, to_past, other_past}
@@ -66,21 +67,45 @@ module _ (w : List ℕ) (a : ℕ) where
     at : (k o : ℕ) → o + k ≤ FIRST → num_at k w (row_place a + o) ≡ num_at k (own_bytes e t p) o
     at k o h = rw zero-add at (num-within w (own_bytes e t p) FIRST (row_place a) 0 q k o h)
 
-    pub own-tag : t.kind < 256 → tag_at w a ≡ t.kind
+    pub own-tag : tag_at w a ≡ tag_of t
     unfolding num_at
-    own-tag h = rw add-zero at (at 1 0 (omega arith)) ∙ number-little 1 t.kind h
+    own-tag = rw add-zero at (at 1 0 (omega arith)) ∙ number-little 1 (tag_of t) (omega (arith, (tag-range t).1))
+
+    pub own-to : to_of t < 65536 → num_at 2 w (row_place a + TO) ≡ to_of t
+    unfolding num_at
+    own-to h = at 2 TO (omega arith) ∙ number-little 2 (to_of t) h
+
+    pub own-side : other_of t < 65536 → num_at 2 w (row_place a + OTHER) ≡ other_of t
+    unfolding num_at
+    own-side h = at 2 OTHER (omega arith) ∙ number-little 2 (other_of t) h
 
     pub own-end : e < 65536 → num_at 2 w (row_place a + END) ≡ e
     unfolding num_at
     own-end h = at 2 END (omega arith) ∙ number-little 2 e h
 
-    pub own-type : t.kind < 256 → t.to < 65536 → t.other < 65536 → type_at w a ≡ t
-    unfolding num_at
-    own-type h i j = rw (own-tag h, at 2 TO (omega arith) ∙ number-little 2 t.to i, at 2 OTHER (omega arith) ∙ number-little 2 t.other j)
+    pub own-type : to_of t < 65536 → other_of t < 65536 → type_at w a ≡ t
+    own-type i j = rw (own-tag, own-to i, own-side j) (typed-back t)
+
+    pub own-read : to_of t < 65536 → other_of t < 65536 → read_at w a ≡ Option.Some t
+    own-read i j = rw (own-tag, own-to i, own-side j) (read-back t)
 
     pub own-position : p < 4294967296 → num_at 4 w (row_place a + POSITION) ≡ p
     unfolding num_at
     own-position h = at 4 POSITION (omega arith) ∙ number-little 4 p h
+
+-- a row that holds no block
+module _ (w : List ℕ) (a : ℕ) (q : own w a ≡ replicate FIRST 0) where
+  none-at : (k o : ℕ) → o + k ≤ FIRST → num_at k w (row_place a + o) ≡ num_at k (replicate FIRST 0) o
+  none-at k o h = rw zero-add at (num-within w (replicate FIRST 0) FIRST (row_place a) 0 q k o h)
+
+  pub none-tag : tag_at w a ≡ 0
+  none-tag = rw add-zero at (none-at 1 0 (omega arith)) ∙ num-zeros 1 FIRST 0
+
+  pub none-to : num_at 2 w (row_place a + TO) ≡ 0
+  none-to = none-at 2 TO (omega arith) ∙ num-zeros 2 FIRST TO
+
+  pub none-side : num_at 2 w (row_place a + OTHER) ≡ 0
+  none-side = none-at 2 OTHER (omega arith) ∙ num-zeros 2 FIRST OTHER
 
 -- ---- the rows while that of a is written: the other rows are as they were in w, F says which links are first, and G which entries there are
 
@@ -221,11 +246,10 @@ module _ {code w₀ : List ℕ} {end : ℕ} (room : rows_end (length code) + roo
 
   -- the sides of a kind: the links past the block, and in front of it
   pub rows-sides : (rs : List Node) → ((x : ℕ) → first_to x rs < 65536) → (k : Kind) → Within (length code) k → {w₁ o w₂ : List ℕ} {G : ℕ → ℕ}
-      → Rows code w₀ end a w w₁ o (link_bytes 0 0) (λ x. first_to x rs) G → w₂ ≡ link_sides w₁ a (type_of k)
+      → Rows code w₀ end a w w₁ o (link_bytes 0 0) (λ x. first_to x rs) G → w₂ ≡ link_sides w₁ a (Option.Some (type_of k))
       → Rows code w₀ end a w w₂ o (link_bytes (to_past k rs) (other_past k rs)) (λ x. edge_to x a k (first_to x rs)) G
   unfolding link_sides if
-  rows-sides rs small (terminate false) h r e = rw e r
-  rows-sides rs small (terminate true) h r e = rw e r
+  rows-sides rs small (terminate success) h r e = rw e r
   rows-sides rs small (jump t) h r e = to-sided rs small 0 t r (le_of_lt h) refl e
   rows-sides rs small (jumpi t f) h {w₁} {o} {w₂} {G} r e = go (ℕ_discrete t f)
     where

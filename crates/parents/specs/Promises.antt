@@ -8,8 +8,9 @@ use Rattle.spec.specs.Stacks.{Sym}
 use Rattle.spec.specs.Search.{Node, takers}
 use Rattle.spec.specs.Answer.{prepared}
 use Rattle.spec.specs.Rooms.{longest}
+use Rattle.lent.specs.Bytes.{num_at}
 use Rattle.layout.specs.Parts.{ROW, row_place, rows_end, starts_place, start_place}
-use Rattle.layout.specs.Rows.{tag_at, type_at, first_at, start_of}
+use Rattle.layout.specs.Rows.{TO, OTHER, tag_at, type_at, read_at, first_at, start_of}
 use Rattle.layout.specs.declared.row.BlockType.{BlockType}
 use Rattle.initial.specs.Rows.{blocks_at, Laid, Listed}
 use Rattle.exec.specs.Owns.{room_of}
@@ -47,8 +48,8 @@ pub record LinkRoom (w : List ℕ) (a side t : ℕ) : Type 0 where
 
 pub record Sides (w : List ℕ) (a : ℕ) : Type 0 where
   pub own : row_place a + ROW ≤ length w
-  pub to : row_place (type_at w a).to + ROW ≤ length w
-  pub other : row_place (type_at w a).other + ROW ≤ length w
+  pub to : row_place (num_at 2 w (row_place a + TO)) + ROW ≤ length w
+  pub other : row_place (num_at 2 w (row_place a + OTHER)) + ROW ≤ length w
 
 -- w became w', which is v
 pub record Wrote (w w' v : List ℕ) : Type 0 where
@@ -99,7 +100,7 @@ pub record PreparesRow (mode : ℕ) (code w : List ℕ) (end a many : ℕ) : Typ
 pub record PreparedRow (mode : ℕ) (code w : List ℕ) (end a many : ℕ) (w' : List ℕ) (r : ℕ) : Type 0 where
   pub between : List ℕ
   pub settled : Settled mode code w end a many between r
-  pub linked : Wrote between w' (link_sides between a (type_at between a))
+  pub linked : Wrote between w' (link_sides between a (read_at between a))
   pub kept : length w' ≡ length w
 
 -- ---- the whole

@@ -1,4 +1,5 @@
 -- What the functions write into W. Assumes nothing.
+use Rattle.std.specs.Prelude as Option
 use Rattle.std.specs.Prelude.{List, ℕ, ◌+◌, ◌*◌, eqb, ltb}
 use Rattle.std.proofs.Math.Option.{Option, none, some}
 use Rattle.spec.specs.Opcodes.{in_mode}
@@ -7,8 +8,9 @@ use Rattle.spec.specs.Walk.{instructions}
 use Rattle.spec.specs.Stacks.{Sym, before, constant, jumpdest, other, run}
 use Rattle.lent.specs.Bytes.{num_at, patch}
 use Rattle.layout.specs.Parts.{row_place}
-use Rattle.layout.specs.Rows.{END, POSITION, FIRST, NEXT, TAKER, typed, tag_at, head_of, first_at}
+use Rattle.layout.specs.Rows.{END, POSITION, FIRST, NEXT, TAKER, tag_at, head_of, first_at}
 use Rattle.layout.specs.declared.row.BlockType.{BlockType}
+use Rattle.layout.specs.declared.row.BlockType.TheVariants.{Terminate, Jump, Jumpi, DynamicJump, DynamicJumpi}
 
 -- ---- links
 
@@ -16,12 +18,14 @@ use Rattle.layout.specs.declared.row.BlockType.{BlockType}
 unfoldable pub link : List ℕ → ℕ → ℕ → ℕ → List ℕ
 link w a side t = patch (patch w (row_place a + NEXT + 2 * side) (little 2 (first_at w t))) (row_place t + FIRST) (little 2 (a + 1))
 
--- the sides of a block type: "equal sides once", "of a DynamicJumpi the false side only"
-unfoldable pub link_sides : List ℕ → ℕ → BlockType → List ℕ
-link_sides w a t =
-    if (eqb t.kind 3) (link w a 0 t.to)
-    (if (eqb t.kind 4) (if (eqb t.to t.other) (link w a 0 t.to) (link (link w a 1 t.other) a 0 t.to))
-    (if (eqb t.kind 6) (link w a 1 t.other) w))
+-- the sides of a block type, if there is a block: "equal sides once", "of a DynamicJumpi the false side only"
+unfoldable pub link_sides : List ℕ → ℕ → Option.Option BlockType → List ℕ
+link_sides w a Option.None = w
+link_sides w a (Option.Some (Terminate success)) = w
+link_sides w a (Option.Some (Jump to)) = link w a 0 to
+link_sides w a (Option.Some (Jumpi to f)) = if (eqb to f) (link w a 0 to) (link (link w a 1 f) a 0 to)
+link_sides w a (Option.Some DynamicJump) = w
+link_sides w a (Option.Some (DynamicJumpi f)) = link w a 1 f
 
 -- ---- the first stage
 
@@ -29,9 +33,13 @@ link_sides w a t =
 unfoldable pub take_turn : List ℕ → ℕ → ℕ → ℕ → List ℕ
 take_turn w a p many = patch (patch w (row_place a + POSITION) (little 4 p)) (row_place many + TAKER) (little 2 a)
 
--- the static type of a dynamic block
+-- the static type of a dynamic block; a static one stays
 abbrev pub static_type : BlockType → ℕ → BlockType
-static_type t to = if (eqb t.kind 5) (typed 3 to 0) (typed 4 to t.other)
+static_type (Terminate success) to = Terminate success
+static_type (Jump t) to = Jump t
+static_type (Jumpi t f) to = Jumpi t f
+static_type DynamicJump to = Jump to
+static_type (DynamicJumpi f) to = Jumpi to f
 
 -- "each dynamic block whose own run ends in Jumpdest becomes static, with no test that a block starts there"
 abbrev pub make_static : List ℕ → ℕ → BlockType → ℕ → List ℕ

@@ -22,11 +22,9 @@ pub fn prepare(mode: Mode, code: &[u8], w: &mut [u8], end: usize, blocks: usize)
     ensures { Prepared (mode_of mode) code.now w.old end w.new result }
 {
     let size = code.len();
-    let mut left = blocks;
     let mut many = 0;
-    while left != 0 {
-        left -= 1;
-        let start = start_at(w, size, left);
+    for place in (0..blocks).rev() {
+        let start = start_at(w, size, place);
         many = prepare_row(mode, code, w, end, start, many);
     }
     many

@@ -2,11 +2,11 @@
 // "each block with its own stack, for every static side (equal sides once), of a DynamicJumpi the false side only"
 ghost use Rattle.std.specs.Prelude.{◌≡◌, ◌+◌, ◌*◌, ◌≤◌, length};
 ghost use Rattle.layout.specs.Parts.{ROW, row_place};
-ghost use Rattle.layout.specs.Rows.{type_at, first_at, start_of, next_at};
+ghost use Rattle.layout.specs.Rows.{read_at, first_at, start_of, next_at};
 ghost use Rattle.parents.specs.Writes.{link, link_sides};
 ghost use Rattle.parents.specs.Promises.{LinkRoom, Sides, Wrote, Number, Link};
 
-use layout::row::{DYNAMIC_JUMPI, FIRST, JUMP, JUMPI, NEXT, NEXT_OTHER, ROW, TO, type_at};
+use layout::row::{BlockType, FIRST, NEXT, NEXT_OTHER, ROW, TO, type_at};
 use lent::{get16, put16};
 
 // Puts a side of the block at `start` in front of the parents of `to`.
@@ -22,24 +22,22 @@ fn link(w: &mut [u8], start: usize, side: usize, to: usize)
 // Puts every static side of the block at `start` in front of its parents: equal sides once, of a DynamicJumpi the false side only.
 pub fn link_sides(w: &mut [u8], start: usize)
     requires { Sides w.old start }
-    ensures { Wrote w.old w.new (link_sides w.old start (type_at w.old start)) }
+    ensures { Wrote w.old w.new (link_sides w.old start (read_at w.old start)) }
 {
-    let block = type_at(w, start);
-    if block.kind == JUMP {
-        link(w, start, 0, block.to);
+    let Some(block) = type_at(w, start) else {
         return;
-    }
-    if block.kind == JUMPI {
-        if block.to == block.other {
-            link(w, start, 0, block.to);
-            return;
+    };
+    match block {
+        BlockType::Jump { to } => link(w, start, 0, to),
+        BlockType::Jumpi { to, other } => {
+            if to == other {
+                return link(w, start, 0, to);
+            }
+            link(w, start, 1, other);
+            link(w, start, 0, to);
         }
-        link(w, start, 1, block.other);
-        link(w, start, 0, block.to);
-        return;
-    }
-    if block.kind == DYNAMIC_JUMPI {
-        link(w, start, 1, block.other);
+        BlockType::DynamicJumpi { other } => link(w, start, 1, other),
+        _ => {}
     }
 }
 

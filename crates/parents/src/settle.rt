@@ -10,8 +10,8 @@ ghost use Rattle.parents.specs.Promises.{Settles, TurnRoom, Settled, Placed, Wro
 
 use crate::taker::take_turn;
 use exec::mode::Mode;
-use exec::run::{Goes, run};
-use layout::row::{BlockType, DYNAMIC_JUMP, END, JUMP, JUMPI, ROW, put_block, type_at};
+use exec::run::run;
+use layout::row::{BlockType, END, ROW, put_block, type_at};
 use lent::get16;
 use state::sym::StackSym;
 
@@ -20,15 +20,15 @@ pub fn settle(mode: Mode, code: &[u8], w: &mut [u8], end: usize, start: usize, m
     requires { Settles code.now w.old end start many }
     ensures { Settled (mode_of mode) code.now w.old end start many w.new result }
 {
-    let block = type_at(w, start);
-    if block.kind < DYNAMIC_JUMP {
+    let Some(block) = type_at(w, start) else {
+        return many;
+    };
+    if !block.is_dynamic() {
         return many;
     }
-    let own = run(mode, code, start, w, end);
-    let goes = own.goes;
-    match goes {
-        Goes::Nowhere => many,
-        Goes::To(symbol) => place(w, start, block, symbol, many),
+    match run(mode, code, start, w, end).goes {
+        None => many,
+        Some(symbol) => place(w, start, block, symbol, many),
     }
 }
 
@@ -46,8 +46,7 @@ fn place(w: &mut [u8], start: usize, block: BlockType, symbol: StackSym, many: u
             take_turn(w, start, position, many);
             many + 1
         }
-        StackSym::Constant(_) => many,
-        StackSym::Other(_) => many,
+        StackSym::Constant(_) | StackSym::Other(_) => many,
     }
 }
 
@@ -60,20 +59,13 @@ fn make_static(w: &mut [u8], start: usize, block: BlockType, to: usize)
     put_block(w, start, last, static_type(block, to));
 }
 
-// The static type of a dynamic block.
+// The static type of a dynamic block; a static one stays.
 fn static_type(block: BlockType, to: usize) -> BlockType
     ensures { result ≡ static_type block to }
 {
-    if block.kind == DYNAMIC_JUMP {
-        return BlockType {
-            kind: JUMP,
-            to,
-            other: 0,
-        };
-    }
-    BlockType {
-        kind: JUMPI,
-        to,
-        other: block.other,
+    match block {
+        BlockType::DynamicJump => BlockType::Jump { to },
+        BlockType::DynamicJumpi { other } => BlockType::Jumpi { to, other },
+        _ => block,
     }
 }

@@ -18,22 +18,27 @@ use Rattle.layout.specs.Parts.{rows_end, fields_place, list_place}
 use Rattle.layout.specs.Records.{record_place}
 use Rattle.reachable.specs.Links.{first_from}
 use Rattle.reachable.specs.Promises.{Room, Address}
-use Rattle.reachable.specs.Pruning.{EdgeRow, EdgeRows, Key, LinkedRow, HeadsOnly, LinksOnly, Chains, Links, Linked}
+use Rattle.reachable.specs.Pruning.{EdgeRow, EdgeRows, LinkedRow, HeadsOnly, LinksOnly, Chains, Links, Linked}
 use Rattle.reachable.proofs.Frames.{num-in}
-use Rattle.reachable.proofs.EdgeRows.{key-within, first_of, first-kept, SameRow, row_kept}
+use Rattle.reachable.specs.Keys.{offset_of}
+use Rattle.reachable.specs.declared.link.By.{By}
+use Rattle.reachable.proofs.EdgeRows.{by-key, key-within, first_of, first-kept, SameRow, row_kept}
 
 -- ---- one row
 
-module _ {n by i x : ℕ} {w r : List ℕ} (l : Room n w) (e : EdgeRow n r i) (k : Key by) (h : Holds 2 r (record_place i + by) x) where
+module _ {n i x o : ℕ} (by : By) {w r : List ℕ} (l : Room n w) (e : EdgeRow n r i) (q : o ≡ offset_of by) (h : Holds 2 r (record_place i + o) x) where
+  key-held : Holds 2 r (record_place i + offset_of by) x
+  key-held = rw q at h
+
   pub row-address : Address n w x
-  row-address = record { lent = l; inside = rw h.is (key-within e k) }
+  row-address = record { lent = l; inside = rw key-held.is (key-within e (by-key by)) }
 
-  pub head-room : fields_place n x + (HEADS + by) + 4 ≤ length w
-  head-room = omega (arith, l.room, k.small, row-address.inside)
+  pub head-room : fields_place n x + (HEADS + o) + 4 ≤ length w
+  head-room = omega (arith, l.room, q, (by-key by).small, row-address.inside)
 
-  pub linked-row : {next : ℕ} {w' r' : List ℕ} → next ≡ head_at w n by x → Stored 4 r (record_place i + (E-LINKS + by)) (little 4 next) r'
-      → Stored 4 w (fields_place n x + (HEADS + by)) (little 4 (i + 1)) w' → LinkedRow n by w r i w' r'
-  linked-row g s t = record { head = rw (← h.is) t; link = rw (← h.is, ← g) s }
+  pub linked-row : {next : ℕ} {w' r' : List ℕ} → next ≡ head_at w n (offset_of by) x → Stored 4 r (record_place i + (E-LINKS + o)) (little 4 next) r'
+      → Stored 4 w (fields_place n x + (HEADS + o)) (little 4 (i + 1)) w' → LinkedRow n (offset_of by) w r i w' r'
+  linked-row g s t = record { head = rw (← key-held.is) (rw q at t); link = rw (← key-held.is, ← g) (rw q at s) }
 
 -- ---- what stays
 
@@ -120,7 +125,7 @@ first_step r by x m i nz h =
     let back : i - 1 + 1 ≡ i = omega arith in
     rw (one, back)
 
-module _ {n m by i : ℕ} {w₀ r₀ w r : List ℕ} (a : Links n m by w₀ r₀) (l : Linking n m by w₀ r₀ w r i) (nz : i ≡ 0 → ⊥) where
+module _ {n m by i : ℕ} {w₀ r₀ w r : List ℕ} (a : Links n m by w₀ r₀) (l : Linking n m by w₀ r₀ w r i) (some : 0 < i) where
   pub link-room : Room n w
   link-room = record { short = a.lent.short; room = omega (arith, a.lent.room, l.heads.long) }
 
@@ -149,10 +154,10 @@ module _ {n m by i : ℕ} {w₀ r₀ w r : List ℕ} (a : Links n m by w₀ r₀
         split : Dec (key_at r₀ by (i - 1) ≡ x) → head_at w' n by x ≡ first_from r₀ by x (i - 1) (m - (i - 1))
         split (yes q) =
             let back : i - 1 + 1 ≡ i = omega arith in
-            rw (first_step r₀ by x m i nz l.inside, if-true (eqb (key_at r₀ by (i - 1)) x) i (first_from r₀ by x i (m - i)) (eq-eqb _ _ q), ← q)
+            rw (first_step r₀ by x m i (λ z. omega arith) l.inside, if-true (eqb (key_at r₀ by (i - 1)) x) i (first_from r₀ by x i (m - i)) (eq-eqb _ _ q), ← q)
             (read_back head-stored (omega (arith, link-few)) ∙ back)
         split (no q) =
-            rw (first_step r₀ by x m i nz l.inside, if-false (eqb (key_at r₀ by (i - 1)) x) i (first_from r₀ by x i (m - i)) (ne_eqb _ _ q), ← l.chains.heads x h)
+            rw (first_step r₀ by x m i (λ z. omega arith) l.inside, if-false (eqb (key_at r₀ by (i - 1)) x) i (first_from r₀ by x i (m - i)) (ne_eqb _ _ q), ← l.chains.heads x h)
             (kept-num head-stored 4 (fields_place n x + (HEADS + by)) (λ g. omega arith))
 
     new-link : (j : ℕ) → i - 1 ≤ j → j < m → link_at r' by j ≡ first_from r₀ by (key_at r₀ by j) (j + 1) (m - (j + 1))
@@ -173,8 +178,8 @@ module _ {n m by i : ℕ} {w₀ r₀ w r : List ℕ} (a : Links n m by w₀ r₀
       links = links-after l.links (link-only a.key.small inside t.link);
     }
 
-pub link-done : {n m by i : ℕ} {w₀ r₀ w r : List ℕ} → Linking n m by w₀ r₀ w r i → i ≡ 0 → Linked n m by w₀ r₀ w r
-link-done l z = record { chains = rw z at l.chains; heads = l.heads; links = l.links }
+pub link-done : {n m by i : ℕ} {w₀ r₀ w r : List ℕ} → Linking n m by w₀ r₀ w r i → i ≤ 0 → Linked n m by w₀ r₀ w r
+link-done {i = i} l h = let z : i ≡ 0 = omega arith in record { chains = rw z at l.chains; heads = l.heads; links = l.links }
 
 -- chains over keys, first rows and links that stay
 pub chains-kept : {n m by : ℕ} {keys w r : List ℕ} (keys' w' r' : List ℕ) → Chains n m by keys w r 0 → ((i : ℕ) → i < m → key_at keys' by i ≡ key_at keys by i)

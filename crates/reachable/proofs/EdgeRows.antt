@@ -13,6 +13,9 @@ use Rattle.laws.proofs.Branch.{both, if-false}
 use Rattle.laws.proofs.Members.{In, here, in_left, in_right, in-cases, in-only}
 use Rattle.layout.specs.Edges.{key_at, to_at}
 use Rattle.layout.specs.Marks.{NOWHERE}
+use Rattle.reachable.specs.Keys.{offset_of}
+use Rattle.reachable.specs.declared.link.By.{By}
+use Rattle.reachable.specs.declared.link.By.TheVariants.{Place, Witness}
 use Rattle.reachable.specs.Links.{first_from, edge_at, edges_at}
 use Rattle.reachable.specs.Pruning.{EdgeRow, Key}
 
@@ -23,6 +26,10 @@ place-key = record { is = inl refl; small = omega arith }
 
 pub witness-key : Key 4
 witness-key = record { is = inr refl; small = omega arith }
+
+pub by-key : (by : By) → Key (offset_of by)
+by-key Place = place-key
+by-key Witness = witness-key
 
 module _ {n by i : ℕ} {r : List ℕ} (e : EdgeRow n r i) (k : Key by) where
   pub key-within : key_at r by i ≤ n

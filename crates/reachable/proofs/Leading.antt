@@ -1,5 +1,5 @@
 -- The laws of following rows of edges: one row, and all rows of a key. Assumes nothing.
-use mathlib.Core.Path.{◌≡◌, refl, sym, ◌∙◌}
+use mathlib.Core.Path.{◌≡◌, refl, sym, ap, ◌∙◌}
 use mathlib.Core.Logic.{◌⊎◌, inl, inr, ⊎_elim}
 use mathlib.Core.Bool.{Bool, true, false, ◌||◌, or_assoc, or_self}
 use mathlib.Core.List.{List, [], ◌∷◌}
@@ -9,18 +9,21 @@ use native.Mathlib.Omega.{arith}
 use lib.Dec.{eqb}
 use lib.ListN.{length}
 use borrow.Author.Tests.{eqb-true, eq-eqb, ne_eqb}
+use Rattle.std.specs.Prelude.{Option, Some, None, SomeIff}
 use Rattle.spec.specs.Lists.{if, mem}
 use Rattle.spec.specs.Reach.{Edge, edge}
 use Rattle.laws.proofs.Branch.{if-true, if-false}
 use Rattle.laws.proofs.Members.{In, or_cases}
 use Rattle.theorems.proofs.Reached.{Reached, seed, along}
 use Rattle.lent.specs.Bytes.{Holds}
-use Rattle.layout.specs.Edges.{E-TO, key_at, to_at, link_at}
+use Rattle.layout.specs.Edges.{E-TO, E-LINKS, key_at, to_at, link_at}
 use Rattle.layout.specs.Fields.{head_at}
 use Rattle.layout.specs.Marks.{NOWHERE}
 use Rattle.layout.specs.Records.{RECORD, record_place}
+use Rattle.reachable.specs.Keys.{offset_of}
+use Rattle.reachable.specs.declared.link.By.{By}
 use Rattle.reachable.specs.Marks.{flagged}
-use Rattle.reachable.specs.Links.{first_from, edge_at, edges_at}
+use Rattle.reachable.specs.Links.{link_of, first_from, edge_at, edges_at}
 use Rattle.reachable.specs.Promises.{Address, Going, Took}
 use Rattle.reachable.specs.Pruning.{Spread, RowGoing, FollowedRow, RowsGoing, FollowedRows}
 use Rattle.reachable.proofs.Tests.{not-both, mem-one}
@@ -56,8 +59,9 @@ module _ {n by i count : ℕ} {w r : List ℕ} (g : RowGoing n by w r i count) w
   pub row-nowhere : {to : ℕ} → Holds 2 r (record_place i + E-TO) to → to ≡ NOWHERE → FollowedRow n by r i w count w count
   row-nowhere h e = record { spread = spread_none; led = λ ne. absurd (ne (sym h.is ∙ e)) }
 
-  pub row_other : {other : ℕ} → Holds 2 r (record_place i + (4 - by)) other → Address n w other
-  row_other h = record { lent = g.lent; inside = rw h.is (other-within g.row g.key) }
+  -- the other key, which stands where its own offset says
+  pub row_other : (b : By) {other k : ℕ} → k ≡ offset_of b → offset_of b ≡ 4 - by → Holds 2 r (record_place i + k) other → Address n w other
+  row_other b {other} s q held = let h : Holds 2 r (record_place i + (4 - by)) other = rw (s ∙ q) at held in record { lent = g.lent; inside = rw h.is (other-within g.row g.key) }
 
   pub row-going : {to : ℕ} → Holds 2 r (record_place i + E-TO) to → (to ≡ NOWHERE → ⊥) → Going n w to 1 count
   row-going h ne = record {
@@ -66,7 +70,10 @@ module _ {n by i count : ℕ} {w r : List ℕ} (g : RowGoing n by w r i count) w
     few = g.few;
   }
 
-  module _ {other : ℕ} {is : Bool} (o : Holds 2 r (record_place i + (4 - by)) other) (f : is ≡ mem other (flagged w n)) where
+  module _ (b : By) {other k : ℕ} {is : Bool} (s : k ≡ offset_of b) (q : offset_of b ≡ 4 - by) (held : Holds 2 r (record_place i + k) other) (f : is ≡ mem other (flagged w n)) where
+    o : Holds 2 r (record_place i + (4 - by)) other
+    o = rw (s ∙ q) at held
+
     pub row-not-led : is ≡ false → FollowedRow n by r i w count w count
     row-not-led z = record { spread = spread_none; led = λ _ q. not-both q (rw (← o.is, ← f) z) }
 
@@ -103,12 +110,20 @@ pub record Walking (n m by x : ℕ) (r w₀ : List ℕ) (count₀ : ℕ) (w : Li
 abbrev pub steps : ℕ → ℕ → ℕ
 steps m k = if (eqb k 0) 0 (m + 1 - k)
 
+-- a link that is read leads to the row that it says
+pub link-row : {h : ℕ} (o : Option ℕ) → SomeIff o (1 ≤ h) (h - 1) → link_of o ≡ h
+link-row None s = omega arith
+link-row (Some i) s = omega (arith, s.0, s.1)
+
+pub next-link : (i : ℕ) (row : Option ℕ) {o v k : ℕ} {r : List ℕ} → o ≡ k → Holds 4 r (record_place i + (E-LINKS + o)) v → SomeIff row (1 ≤ v) (v - 1) → link_of row ≡ link_at r k i
+next-link i row q h s = link-row row s ∙ h.is ∙ rw q
+
 module _ {n m by x count₀ : ℕ} {r w₀ : List ℕ} (g : RowsGoing n m by w₀ r x count₀) where
   pub walk-address : Address n w₀ x
   walk-address = record { lent = g.lent; inside = flagged-within w₀ n x g.got }
 
-  pub walk_start : {k : ℕ} → k ≡ head_at w₀ n by x → Walking n m by x r w₀ count₀ w₀ count₀ k
-  walk_start e = record {
+  walk-first : {k : ℕ} → k ≡ head_at w₀ n by x → Walking n m by x r w₀ count₀ w₀ count₀ k
+  walk-first e = record {
     from = 0;
     inside = omega arith;
     is = e ∙ g.chains.heads x (flagged-within w₀ n x g.got);
@@ -123,8 +138,8 @@ module _ {n m by x count₀ : ℕ} {r w₀ : List ℕ} (g : RowsGoing n m by w�
     keeps : (y : ℕ) → mem y (flagged w₀ n) ≡ true → mem y (flagged w n) ≡ true
     keeps = more-keeps s.spread.grew.more
 
-    pub walk-done : k ≡ 0 → FollowedRows n m by r x w₀ count₀ w count
-    walk-done z = record { spread = s.spread; led = λ i h q. split i h q (dec_lt i s.from) }
+    walk-ended : k ≡ 0 → FollowedRows n m by r x w₀ count₀ w count
+    walk-ended z = record { spread = s.spread; led = λ i h q. split i h q (dec_lt i s.from) }
       where
         split : (i : ℕ) → i < m → key_at r by i ≡ x → Dec (i < s.from) → (to_at r i ≡ NOWHERE → ⊥) → mem (key_at r (4 - by) i) (flagged w₀ n) ≡ true
             → mem (to_at r i) (flagged w n) ≡ true
@@ -135,8 +150,8 @@ module _ {n m by x count₀ : ℕ} {r w₀ : List ℕ} (g : RowsGoing n m by w�
       high : k ≤ m
       high = omega (arith, first.high, s.inside)
 
-      pub walk-going : RowGoing n by w r (k - 1) count
-      walk-going = record {
+      link-going : RowGoing n by w r (k - 1) count
+      link-going = record {
         lent = room-kept s.spread.grew.kept g.lent;
         row = g.rows.each (k - 1) (omega (arith, high));
         key = g.key;
@@ -144,17 +159,14 @@ module _ {n m by x count₀ : ℕ} {r w₀ : List ℕ} (g : RowsGoing n m by w�
         few = omega (arith, g.few, s.spread.grew.number);
       }
 
-      pub walk-room : record_place (k - 1) + RECORD ≤ length r
-      walk-room = walk-going.row.room
-
       module _ {count' k' : ℕ} {w' : List ℕ} (f : FollowedRow n by r (k - 1) w count w' count') (e : k' ≡ link_at r by (k - 1)) where
         next : k' ≡ first_from r by x k (m - k)
         next =
             let back : k - 1 + 1 ≡ k = omega arith in
             e ∙ g.chains.links (k - 1) (omega arith) (omega (arith, high)) ∙ rw (first.has nz, back)
 
-        pub walk_turn : Walking n m by x r w₀ count₀ w' count' k'
-        walk_turn = record {
+        link-turn : Walking n m by x r w₀ count₀ w' count' k'
+        link-turn = record {
           from = k;
           inside = high;
           is = next;
@@ -168,8 +180,8 @@ module _ {n m by x count₀ : ℕ} {r w₀ : List ℕ} (g : RowsGoing n m by w�
             split i h q (no l) (yes d) ne o = rw d (f.led (rw d at ne) (keeps _ (rw d at o)))
             split i h q (no l) (no d) ne o = absurd (first.skips nz i (omega arith) (omega arith) q)
 
-        pub walk-less : steps m k' < steps m k
-        walk-less = rw (if-false (eqb k 0) 0 (m + 1 - k) (ne_eqb k 0 nz)) (split (ℕ_discrete k' 0))
+        link-less : steps m k' < steps m k
+        link-less = rw (if-false (eqb k 0) 0 (m + 1 - k) (ne_eqb k 0 nz)) (split (ℕ_discrete k' 0))
           where
             after : FirstOf r by x k (m - k) k'
             after = rw next (first_of r by x (m - k) k)
@@ -177,3 +189,32 @@ module _ {n m by x count₀ : ℕ} {r w₀ : List ℕ} (g : RowsGoing n m by w�
             split : Dec (k' ≡ 0) → steps m k' < m + 1 - k
             split (yes z) = rw (if-true (eqb k' 0) 0 (m + 1 - k') (eq-eqb k' 0 z)) (omega (arith, high))
             split (no z) = rw (if-false (eqb k' 0) 0 (m + 1 - k') (ne_eqb k' 0 z)) (omega (arith, high, after.low z, after.high))
+
+  -- ---- as the loop has them: the next row, if there is one
+
+  pub walk_start : (o : Option ℕ) → link_of o ≡ head_at w₀ n by x → Walking n m by x r w₀ count₀ w₀ count₀ (link_of o)
+  walk_start o e = walk-first e
+
+  module _ {count : ℕ} {o : Option ℕ} {w : List ℕ} (s : Walking n m by x r w₀ count₀ w count (link_of o)) where
+    pub walk-done : o ≡ None → FollowedRows n m by r x w₀ count₀ w count
+    walk-done e = walk-ended s (ap link_of e)
+
+    module _ {row : ℕ} (e : o ≡ Some row) where
+      some-left : link_of o ≡ 0 → ⊥
+      some-left z = omega (arith, ap link_of e)
+
+      back : link_of o - 1 ≡ row
+      back = omega (arith, ap link_of e)
+
+      pub walk-going : RowGoing n by w r row count
+      walk-going = rw back at (link-going s some-left)
+
+      pub walk-room : record_place row + RECORD ≤ length r
+      walk-room = walk-going.row.room
+
+      module _ {count' : ℕ} (o' : Option ℕ) {w' : List ℕ} (f : FollowedRow n by r row w count w' count') (q : link_of o' ≡ link_at r by row) where
+        pub walk_turn : Walking n m by x r w₀ count₀ w' count' (link_of o')
+        walk_turn = link-turn s some-left {count' = count'} {w' = w'} (rw back f) (rw back q)
+
+        pub walk-less : steps m (link_of o') < steps m (link_of o)
+        walk-less = link-less s some-left {count' = count'} {w' = w'} (rw back f) (rw back q)

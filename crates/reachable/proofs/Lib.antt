@@ -6,6 +6,7 @@ pub mod Rows
 pub mod Worklist
 pub mod Marks
 pub mod Entering
+pub mod Pairs
 pub mod Following
 pub mod Raising
 pub mod Spreading

@@ -8,6 +8,7 @@ use native.Mathlib.Decide.{ℕ_discrete}
 use native.Mathlib.Omega.{arith}
 use lib.Dec.{eqb, leb}
 use borrow.Author.Tests.{le-leb, lt-leb, eqb-true, eqb-false, eq-eqb, ne_eqb, leb-true, leb-false}
+use Rattle.std.specs.Prelude.{Option, Some, None, option_to_list}
 use Rattle.spec.specs.Lists.{if, mem, little}
 use Rattle.laws.proofs.Branch.{both, if-true, if-false, and_right, and-false}
 use Rattle.laws.proofs.Members.{mem-append, and_both, or_cases}
@@ -17,17 +18,15 @@ use Rattle.lent.proofs.Numbers.{num-suffix}
 use Rattle.lent.proofs.Stored.{kept-take, kept-drop, kept-part, kept-num, read_back}
 use Rattle.layout.specs.Fields.{HIGHEST, FLAG, LAST, HEADS, mark_at, high_at, flag_at, entry_at}
 use Rattle.layout.specs.Parts.{rows_end, fields_place, list_place, entry_place, buckets_place, SameRows}
-use Rattle.layout.specs.Rows.{type_at, TypeIs}
-use Rattle.layout.specs.declared.row.BlockType.{BlockType}
 use Rattle.reachable.specs.Marks.{flagged, entries, remark}
-use Rattle.reachable.specs.Edges.{sides_at}
-use Rattle.reachable.specs.Promises.{Address, SidesWithin, Kept, KeptBut, Marked, Top, Highest, raised, Raised, Took}
+use Rattle.reachable.specs.Edges.{sides_at, SidesOf}
+use Rattle.reachable.specs.Promises.{Room, Address, SideWithin, Kept, KeptBut, Marked, Top, Highest, raised, Raised, Took}
 use Rattle.reachable.proofs.Tests.{not-both, decided, mem-one}
 use Rattle.reachable.proofs.Flags.{flagged-same}
 use Rattle.reachable.proofs.Frames.{num-in, part_in, entries-same}
 use Rattle.reachable.proofs.Rows.{sides-kept}
 use Rattle.reachable.proofs.Marks.{marked-kept, marked-others, marked-one}
-use Rattle.reachable.proofs.Following.{sides-none, sides-jump, sides-dynamic_jump, sides-dynamic_jumpi, jumpi-sides}
+use Rattle.reachable.proofs.Pairs.{within-some}
 
 -- ---- one number
 
@@ -137,47 +136,24 @@ module _ {n t a h : ℕ} {w : List ℕ} (g : Address n w t) (i : a ≤ n) (x : H
           ∙ sym (if-true _ _ _ (rw (mem-one t t, eq-eqb t t refl) (le-leb (high_at w n t) a (omega (arith, x.is))))))
       one y (no ne) = kept-num s 2 (fields_place n y + HIGHEST) (λ q. omega arith) ∙ sym (if-false _ _ _ (rw (mem-one y t, ne_eqb y t ne)))
 
--- ---- `raise_sides`: the sides, kind by kind
+-- ---- `raise_sides`: one side, if there is one, and both
 
-module _ {n a : ℕ} {w : List ℕ} {t : BlockType} (g : Address n w a) (s : SidesWithin w n) (r : TypeIs w a t) where
-  e : t ≡ type_at w a
-  e = r.is
+pub raises-side : {n t : ℕ} {w : List ℕ} {side : Option ℕ} → Room n w → SideWithin n side → side ≡ Some t → Address n w t
+raises-side l s e = record { lent = l; inside = within-some s e }
 
-  side-at : (x : ℕ) → mem x (sides_at w a) ≡ true → Address n w x
-  side-at x h = record { lent = g.lent; inside = s.within a x g.inside h }
+module _ {n a : ℕ} {w : List ℕ} {side : Option ℕ} where
+  pub raised-side : {t : ℕ} {w' : List ℕ} → side ≡ Some t → Raised n (t ∷ []) w a w' → Raised n (option_to_list side) w a w'
+  raised-side e p = rw e p
 
-  pub raises-jump : t.kind ≡ 3 → Address n w t.to
-  raises-jump q = side-at t.to (rw (sides-jump w a t e q, eq-eqb t.to t.to refl))
+  pub raised-no-side : side ≡ None → Raised n (option_to_list side) w a w
+  raised-no-side e = rw e raised-none
 
-  pub raises-jumpi : t.kind ≡ 4 → Address n w t.to
-  raises-jumpi q = side-at t.to (rw (jumpi-sides w a t e q t.to, eq-eqb t.to t.to refl))
+pub raised-room : {n a : ℕ} {ts w w₁ : List ℕ} → Address n w a → Raised n ts w a w₁ → Room n w₁
+raised-room g t = record { short = g.lent.short; room = omega (arith, g.lent.room, t.long) }
 
-  pub raises-dynamic_jumpi : 3 ≤ t.kind → (t.kind ≡ 3 → ⊥) → (t.kind ≡ 4 → ⊥) → (t.kind ≡ 5 → ⊥) → Address n w t.other
-  raises-dynamic_jumpi h x y z = side-at t.other (rw (sides-dynamic_jumpi w a t e h x y z, eq-eqb t.other t.other refl))
-
-  pub raised-by-none : t.kind < 3 → Raised n (sides_at w a) w a w
-  raised-by-none h = rw (sides-none w a t e h) raised-none
-
-  pub raised-by-dynamic_jump : t.kind ≡ 5 → Raised n (sides_at w a) w a w
-  raised-by-dynamic_jump q = rw (sides-dynamic_jump w a t e q) raised-none
-
-  module _ {w₁ : List ℕ} where
-    pub raised-by-jump : t.kind ≡ 3 → Raised n (t.to ∷ []) w a w₁ → Raised n (sides_at w a) w a w₁
-    raised-by-jump q p = rw (sides-jump w a t e q) p
-
-    pub raised-by-dynamic_jumpi : 3 ≤ t.kind → (t.kind ≡ 3 → ⊥) → (t.kind ≡ 4 → ⊥) → (t.kind ≡ 5 → ⊥) → Raised n (t.other ∷ []) w a w₁
-        → Raised n (sides_at w a) w a w₁
-    raised-by-dynamic_jumpi h x y z p = rw (sides-dynamic_jumpi w a t e h x y z) p
-
-    module _ (q : t.kind ≡ 4) (p : Raised n (t.to ∷ []) w a w₁) where
-      pub raises-false : Address n w₁ t.other
-      raises-false = record {
-        lent = record { short = g.lent.short; room = omega (arith, g.lent.room, p.long) };
-        inside = s.within a t.other g.inside (rw (jumpi-sides w a t e q t.other, eq-eqb t.other t.other refl) (or-true (eqb t.other t.to)));
-      }
-
-      pub raised-by-jumpi : {w₂ : List ℕ} → Raised n (t.other ∷ []) w₁ a w₂ → Raised n (sides_at w a) w a w₂
-      raised-by-jumpi o = raised-same (sides_at w a) (raised-after p o) (λ y. jumpi-sides w a t e q y)
+module _ {n a : ℕ} {w : List ℕ} {to other : Option ℕ} (p : SidesOf w a to other) {w₁ : List ℕ} (t : Raised n (option_to_list to) w a w₁) where
+  pub raised-both : {w₂ : List ℕ} → Raised n (option_to_list other) w₁ a w₂ → Raised n (sides_at w a) w a w₂
+  raised-both o = raised-same (sides_at w a) (raised-after t o) p.same
 
 -- ---- they are right
 

@@ -3,3 +3,4 @@ pub mod Edges
 pub mod Links
 pub mod Promises
 pub mod Pruning
+pub mod Keys

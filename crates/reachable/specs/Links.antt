@@ -1,9 +1,14 @@
 -- The edges that rows of R hold, and the rows of a key: those of a place, or of a witness. Assumes nothing.
-use Rattle.std.specs.Prelude.{List, [], ◌∷◌, ◌++◌, ℕ, zero, suc, ◌+◌, eqb}
+use Rattle.std.specs.Prelude.{List, [], ◌∷◌, ◌++◌, ℕ, zero, suc, ◌+◌, eqb, Option, Some, None}
 use Rattle.spec.specs.Lists.{if}
 use Rattle.spec.specs.Reach.{Edge, edge}
 use Rattle.layout.specs.Edges.{key_at, to_at}
 use Rattle.layout.specs.Marks.{NOWHERE}
+
+-- the link to a row: its number and 1 more, or 0 for none
+abbrev pub link_of : Option ℕ → ℕ
+link_of None = 0
+link_of (Some i) = i + 1
 
 -- the first, of the k rows from i on, that has the key x
 unfoldable pub first_from : List ℕ → ℕ → ℕ → ℕ → ℕ → ℕ

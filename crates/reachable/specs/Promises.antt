@@ -1,5 +1,5 @@
 -- What each function asks and promises, a record each. Assumes nothing.
-use Rattle.std.specs.Prelude.{◌≡◌, Bool, true, not, ◌&&◌, ◌||◌, List, [], ◌∷◌, ◌++◌, ℕ, ◌+◌, ◌≤◌, ◌<◌, eqb, leb, length, replicate}
+use Rattle.std.specs.Prelude.{◌≡◌, Bool, true, not, ◌&&◌, ◌||◌, List, [], ◌∷◌, ◌++◌, ℕ, ◌+◌, ◌≤◌, ◌<◌, eqb, leb, length, replicate, Option, option_to_list}
 use Rattle.spec.specs.Lists.{if, mem, little}
 use Rattle.spec.specs.Reach.{closure}
 use Rattle.spec.specs.Rooms.{longest, work_need}
@@ -102,6 +102,17 @@ pub record Fresh (n : ℕ) (w : List ℕ) : Type 0 where
 -- what following asks: the worklist has no more entries than there are flagged addresses
 pub record Going (n : ℕ) (w : List ℕ) (x when count : ℕ) : Type 0 where
   pub at : Address n w x
+  pub small : when < 4294967296
+  pub few : count ≤ length (flagged w n)
+
+-- a side is an address, if there is one
+pub record SideWithin (n : ℕ) (side : Option ℕ) : Type 0 where
+  pub within : (t : ℕ) → mem t (option_to_list side) ≡ true → t ≤ n
+
+-- what following a side asks
+pub record GoingSide (n : ℕ) (w : List ℕ) (side : Option ℕ) (when count : ℕ) : Type 0 where
+  pub lent : Room n w
+  pub inside : SideWithin n side
   pub small : when < 4294967296
   pub few : count ≤ length (flagged w n)
 

@@ -12,10 +12,8 @@ fn enter_all(w: &mut [u8], size: usize, seeds: &[usize], when: usize) -> usize
     ensures { Took size when seeds.now w.old 0 w.new result }
 {
     let mut count = 0;
-    let mut i = 0;
-    while i < seeds.len() {
-        count = enter(w, size, seeds[i], when, count);
-        i += 1;
+    for seed in seeds {
+        count = enter(w, size, *seed, when, count);
     }
     count
 }

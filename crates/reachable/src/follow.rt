@@ -1,17 +1,18 @@
 // The worklist, and what is followed from one address.
 // "`HashSet` of addresses: marks in W."
-ghost use Rattle.std.specs.Prelude.{◌≡◌, [], ◌∷◌, ◌+◌, ◌*◌, ◌-◌, ◌≤◌, ◌<◌};
+ghost use Rattle.std.specs.Prelude.{◌≡◌, [], ◌∷◌, ◌+◌, ◌*◌, ◌-◌, ◌≤◌, ◌<◌, option_to_list};
 ghost use Rattle.spec.specs.Lists.{little};
 ghost use Rattle.lent.specs.Bytes.{Stored};
 ghost use Rattle.layout.specs.Fields.{entry_at};
 ghost use Rattle.layout.specs.Parts.{entry_place};
 ghost use Rattle.reachable.specs.Edges.{sides_at};
-ghost use Rattle.reachable.specs.Promises.{Room, Going, SidesWithin, Took};
+ghost use Rattle.reachable.specs.Promises.{Room, Going, GoingSide, SidesWithin, Took};
 
 use crate::fields::mark;
+use crate::sides::sides;
 use layout::field::FLAG;
 use layout::part::{ENTRY, LIST};
-use layout::row::{DYNAMIC_JUMP, JUMP, JUMPI, ROW, type_at};
+use layout::row::ROW;
 use lent::{get8, get16, put8, put16};
 
 // The last entry of the worklist.
@@ -47,25 +48,24 @@ pub fn enter(w: &mut [u8], size: usize, address: usize, when: usize, count: usiz
     count + 1
 }
 
-// Takes the static sides of the block at `address`; a kind that is none of the others is DynamicJumpi, of which only the false side is taken.
+// Takes a side, if there is one.
+fn enter_side(w: &mut [u8], size: usize, side: Option<usize>, when: usize, count: usize) -> usize
+    requires { GoingSide size w.old side when count }
+    ensures { Took size when (option_to_list side) w.old count w.new result }
+{
+    match side {
+        Some(to) => enter(w, size, to, when, count),
+        None => count,
+    }
+}
+
+// Takes the static sides of the block at `address`.
 pub fn follow(w: &mut [u8], size: usize, address: usize, when: usize, count: usize) -> usize
     requires going { Going size w.old address when count }
     requires sides_within { SidesWithin w.old size }
     ensures { Took size when (sides_at w.old address) w.old count w.new result }
 {
-    let block = type_at(w, address);
-    if block.kind < JUMP {
-        return count;
-    }
-    if block.kind == JUMP {
-        return enter(w, size, block.to, when, count);
-    }
-    if block.kind == JUMPI {
-        let more = enter(w, size, block.to, when, count);
-        return enter(w, size, block.other, when, more);
-    }
-    if block.kind == DYNAMIC_JUMP {
-        return count;
-    }
-    enter(w, size, block.other, when, count)
+    let (to, other) = sides(w, address);
+    let more = enter_side(w, size, to, when, count);
+    enter_side(w, size, other, when, more)
 }

@@ -1,12 +1,13 @@
 // The highest direct parent of each address that is marked, as a link: no direct parent past it is.
 // "for every static side (equal sides once), of a DynamicJumpi the false side only."
-ghost use Rattle.std.specs.Prelude.{◌≡◌, [], ◌∷◌, ◌≤◌};
+ghost use Rattle.std.specs.Prelude.{◌≡◌, [], ◌∷◌, ◌≤◌, option_to_list};
 ghost use Rattle.layout.specs.Fields.{high_at};
 ghost use Rattle.reachable.specs.Edges.{sides_at};
-ghost use Rattle.reachable.specs.Promises.{Address, SidesWithin, Raised};
+ghost use Rattle.reachable.specs.Promises.{Room, Address, SideWithin, SidesWithin, Raised};
 
+use crate::sides::sides;
 use layout::field::HIGHEST;
-use layout::row::{DYNAMIC_JUMP, JUMP, JUMPI, ROW, type_at};
+use layout::row::ROW;
 use lent::{get16, put16};
 
 // The highest direct parent of `address` that is marked.
@@ -30,25 +31,25 @@ fn raise(w: &mut [u8], size: usize, to: usize, start: usize)
     put16(w, at, start + 1);
 }
 
-// Raises that of each static side of the block at `start`, which got its mark; of DynamicJumpi, the kind that is none of the others, only the false side.
+// Raises that of a side, if there is one.
+fn raise_side(w: &mut [u8], size: usize, side: Option<usize>, start: usize)
+    requires room { Room size w.old }
+    requires side_within { SideWithin size side }
+    requires start_le_size { start ≤ size }
+    ensures { Raised size (option_to_list side) w.old start w.new }
+{
+    if let Some(to) = side {
+        raise(w, size, to, start);
+    }
+}
+
+// Raises that of each static side of the block at `start`, which got its mark.
 pub fn raise_sides(w: &mut [u8], size: usize, start: usize)
     requires address { Address size w.old start }
     requires sides_within { SidesWithin w.old size }
     ensures { Raised size (sides_at w.old start) w.old start w.new }
 {
-    let block = type_at(w, start);
-    if block.kind < JUMP {
-        return;
-    }
-    if block.kind == JUMP {
-        return raise(w, size, block.to, start);
-    }
-    if block.kind == JUMPI {
-        raise(w, size, block.to, start);
-        return raise(w, size, block.other, start);
-    }
-    if block.kind == DYNAMIC_JUMP {
-        return;
-    }
-    raise(w, size, block.other, start);
+    let (to, other) = sides(w, start);
+    raise_side(w, size, to, start);
+    raise_side(w, size, other, start);
 }

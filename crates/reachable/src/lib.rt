@@ -8,6 +8,7 @@ mod follow;
 mod high;
 mod link;
 mod pruning;
+mod sides;
 
 pub use closure::{expand, reach};
 pub use fields::{is_flagged, is_marked, mark};

@@ -1,27 +1,28 @@
 // Pruning's closure: static sides, and rows of edges that lead on only when their place and their witness are both reached.
 // "Pruning follows a dynamic entry only if its path's last block is reached too, and never follows the true side of DynamicJumpi."
 ghost use Rattle.std.specs.Prelude.{◌≡◌, []};
+ghost use Rattle.reachable.specs.Keys.{offset_of};
 ghost use Rattle.reachable.specs.Marks.{flagged};
 ghost use Rattle.reachable.specs.Pruning.{RowGoing, FollowedRow, RowsGoing, FollowedRows, Pruning, AllGoing, FollowedEdges, FollowedAll, PrunedFrom, Prunes, LinkedBoth, Pruned};
 
 use crate::fields::{begin, is_flagged};
 use crate::follow::{enter, follow, last};
-use crate::link::{first_row, link, next_row};
+use crate::link::{By, first_row, link, next_row};
 use layout::NOWHERE;
-use layout::edge::{PLACE, TO, WITNESS};
+use layout::edge::TO;
 use layout::record::RECORD;
 use lent::get16;
 
 // Takes the destination of a row, whose one key is flagged, if it has one and the other key is flagged too.
-fn follow_row(w: &mut [u8], size: usize, r: &[u8], row: usize, by: usize, count: usize) -> usize
-    requires { RowGoing size by w.old r.now row count }
-    ensures { FollowedRow size by r.now row w.old count w.new result }
+fn follow_row(w: &mut [u8], size: usize, r: &[u8], row: usize, by: By, count: usize) -> usize
+    requires { RowGoing size (offset_of by) w.old r.now row count }
+    ensures { FollowedRow size (offset_of by) r.now row w.old count w.new result }
 {
     let to = get16(r, RECORD * row + TO);
     if to == NOWHERE {
         return count;
     }
-    let other = get16(r, RECORD * row + (WITNESS - by));
+    let other = get16(r, RECORD * row + by.other().offset());
     if is_flagged(w, size, other) {
         return enter(w, size, to, 1, count);
     }
@@ -35,17 +36,17 @@ fn follow_rows(
     r: &[u8],
     rows: usize,
     key: usize,
-    by: usize,
+    by: By,
     count: usize,
 ) -> usize
-    requires { RowsGoing size rows by w.old r.now key count }
-    ensures { FollowedRows size rows by r.now key w.old count w.new result }
+    requires { RowsGoing size rows (offset_of by) w.old r.now key count }
+    ensures { FollowedRows size rows (offset_of by) r.now key w.old count w.new result }
 {
     let mut more = count;
-    let mut link = first_row(w, size, key, by);
-    while link != 0 {
-        more = follow_row(w, size, r, link - 1, by, more);
-        link = next_row(r, link - 1, by);
+    let mut next = first_row(w, size, key, by);
+    while let Some(row) = next {
+        more = follow_row(w, size, r, row, by, more);
+        next = next_row(r, row, by);
     }
     more
 }
@@ -62,8 +63,8 @@ fn follow_edges(
     requires { AllGoing size rows w.old r.now address count }
     ensures { FollowedEdges size rows r.now address w.old count w.new result }
 {
-    let more = follow_rows(w, size, r, rows, address, PLACE, count);
-    follow_rows(w, size, r, rows, address, WITNESS, more)
+    let more = follow_rows(w, size, r, rows, address, By::Place, count);
+    follow_rows(w, size, r, rows, address, By::Witness, more)
 }
 
 // Follows `address`: its static sides, and its rows.
@@ -104,8 +105,8 @@ fn link_both(w: &mut [u8], size: usize, r: &mut [u8], rows: usize)
     ensures { LinkedBoth size rows w.old r.old w.new r.new }
 {
     begin(w, size);
-    link(w, size, r, rows, PLACE);
-    link(w, size, r, rows, WITNESS);
+    link(w, size, r, rows, By::Place);
+    link(w, size, r, rows, By::Witness);
 }
 
 // Flags what pruning keeps: what is reached from 0 over static sides and over the rows of edges in r. The answer is how many addresses are flagged.

@@ -1,42 +1,64 @@
 -- The ways out of the functions on kinds, and what is no 7. Assumes nothing.
-use mathlib.Core.Path.{◌≡◌, refl, sym, ap, subst, ◌∙◌}
+use mathlib.Core.Path.{◌≡◌, refl, sym, ap, ◌∙◌}
 use mathlib.Core.Bool.{Bool, true, false}
 use mathlib.Core.List.{List, [], ◌∷◌}
 use Prim.Native.Nat.{ℕ, ◌≤◌, ◌<◌}
 use native.Mathlib.Omega.{arith}
+use lib.Dec.{eqb}
 use lib.ListN.{length, take, drop, length-drop}
-use types.Run.{OneOf, miss}
-use denote.Enum.Declared.{tag_of}
-use borrow.Author.Tests.{ne_eqb, le-ltb}
+use Rattle.std.specs.Prelude.{Option, Some, None}
+use borrow.Author.Tests.{eq-eqb, ne_eqb, le-ltb}
 use Rattle.spec.specs.Lists.{number}
-use Rattle.spec.specs.Entries.{wide_code, way_kind, record_kind, numbered_kind}
-use Rattle.spec.specs.Forms.{wide_in, field, sort, UNKNOWN}
+use Rattle.spec.specs.Entries.{wide_code, way_kind, record_kind, numbered_kind, absent}
+use Rattle.spec.specs.Forms.{wide_in, field, sort, Sort as Means, HEAD, BLOCK, WAY, RECORD, UNKNOWN}
+use Rattle.theorems.proofs.ReaderPlaces.{never}
 use Rattle.spec.specs.Reader.{goes_on}
-use Rattle.laws.proofs.Branch.{if-false}
+use Rattle.laws.proofs.Branch.{if-true, if-false}
 use Rattle.theorems.proofs.Bytes.{Bytes, bytes_drop}
 use Rattle.lent.specs.Bytes.{num_at, Holds}
-use Rattle.reader.specs.Sorts.{sort_of, path_sort}
+use Rattle.reader.specs.Sorts.{sort_of, path_kinds, path_sort}
 use Rattle.reader.specs.Shapes.{way?}
+use Rattle.reader.specs.declared.kind.Kinds.{Kinds}
 use Rattle.reader.specs.declared.kind.Sort.{Sort}
-use Rattle.reader.specs.declared.kind.Sort.TheVariants.{Head, Terminate, Jump, Jumpi, DynamicJump, DynamicJumpi, Way, Record, Numbered, Unknown}
-use Rattle.reader.specs.contracts.kind.Sort.{the_type}
+use Rattle.reader.specs.declared.kind.Sort.TheVariants.{Head, Terminate, Jump, Jumpi, DynamicJump, DynamicJumpi, Way, Record, Numbered}
+
+-- ---- path_sort
+
+module _ (k : ℕ) (wide : Bool) {f : Kinds} (q : f ≡ path_kinds wide) where
+  way-is : f.way ≡ way_kind wide
+  way-is = ap (λ (x : Kinds). x.way) q
+
+  plain-is : f.plain ≡ record_kind wide
+  plain-is = ap (λ (x : Kinds). x.plain) q
+
+  numbered-is : f.numbered ≡ numbered_kind wide
+  numbered-is = ap (λ (x : Kinds). x.numbered) q
+
+  pub path-way : k ≡ f.way → WAY (absent wide) ≡ path_sort wide k
+  unfolding path_sort
+  path-way e = sym (if-true _ _ _ (eq-eqb k (way_kind wide) (e ∙ way-is)))
+
+  module _ (n7 : k ≡ f.way → ⊥) where
+    off-way : eqb k (way_kind wide) ≡ false
+    off-way = ne_eqb k (way_kind wide) (λ e. n7 (e ∙ sym way-is))
+
+    pub path-record : k ≡ f.plain → RECORD 4 (absent wide) ≡ path_sort wide k
+    unfolding path_sort
+    path-record e = sym (if-false _ _ _ off-way ∙ if-true _ _ _ (eq-eqb k (record_kind wide) (e ∙ plain-is)))
+
+    module _ (n8 : k ≡ f.plain → ⊥) where
+      off-plain : eqb k (record_kind wide) ≡ false
+      off-plain = ne_eqb k (record_kind wide) (λ e. n8 (e ∙ sym plain-is))
+
+      pub path-numbered : k ≡ f.numbered → RECORD 8 (absent wide) ≡ path_sort wide k
+      unfolding path_sort
+      path-numbered e = sym (if-false _ _ _ off-way ∙ if-false _ _ _ off-plain ∙ if-true _ _ _ (eq-eqb k (numbered_kind wide) (e ∙ numbered-is)))
+
+      pub path-none : (k ≡ f.numbered → ⊥) → UNKNOWN ≡ path_sort wide k
+      unfolding path_sort
+      path-none n9 = sym (if-false _ _ _ off-way ∙ if-false _ _ _ off-plain ∙ if-false _ _ _ (ne_eqb k (numbered_kind wide) (λ e. n9 (e ∙ sym numbered-is))))
 
 module _ (k : ℕ) where
-  -- ---- narrow and wide
-
-  pub path-none : (wide : Bool) → (k ≡ way_kind wide → ⊥) → (k ≡ record_kind wide → ⊥) → (k ≡ numbered_kind wide → ⊥) → UNKNOWN ≡ path_sort wide k
-  unfolding path_sort
-  path-none wide n7 n8 n9 =
-      sym (if-false _ _ _ (ne_eqb k (way_kind wide) n7) ∙ if-false _ _ _ (ne_eqb k (record_kind wide) n8) ∙ if-false _ _ _ (ne_eqb k (numbered_kind wide) n9))
-
-  -- ---- path_sort
-
-  pub path-wide : {second : Bool} (s : Sort) → second ≡ true → sort_of true s ≡ path_sort true k → sort_of second s ≡ path_sort second k
-  path-wide s e h = rw e h
-
-  pub path-narrow : {second : Bool} (s : Sort) → second ≡ false → sort_of false s ≡ path_sort false k → sort_of second s ≡ path_sort second k
-  path-narrow s e h = rw e h
-
   -- ---- sort_of
 
   module _ (n1 : k ≡ 1 → ⊥) (n2 : k ≡ 2 → ⊥) (n3 : k ≡ 3 → ⊥) (n4 : k ≡ 4 → ⊥) (n5 : k ≡ 5 → ⊥) (n6 : k ≡ 6 → ⊥) where
@@ -47,7 +69,7 @@ module _ (k : ℕ) where
         (if-false _ _ _ (ne_eqb k 1 n1) ∙ if-false _ _ _ (ne_eqb k 2 n2) ∙ if-false _ _ _ (ne_eqb k 3 n3) ∙ if-false _ _ _ (ne_eqb k 4 n4)
         ∙ if-false _ _ _ (ne_eqb k 5 n5) ∙ if-false _ _ _ (ne_eqb k 6 n6))
 
-    pub kind-path : (second : Bool) (s : Sort) → sort_of second s ≡ path_sort second k → sort_of second s ≡ sort second k
+    pub kind-path : (second : Bool) (s : Option Sort) → sort_of second s ≡ path_sort second k → sort_of second s ≡ sort second k
     kind-path second s h = h ∙ path-kind second
 
 -- ---- wide_in
@@ -67,35 +89,43 @@ module _ (b : List ℕ) where
   unfolding num_at
   wide-there h q = q ∙ ap wide_code h.is
 
--- ---- the run of 7s ends at anything else
+-- ---- what is no 7
 
-pub no_way : (wide : Bool) (s : Sort) → (s ≡ Way → ⊥) → (n : ℕ) → goes_on (sort_of wide s) n ≡ 0
-no_way wide Head h n = refl
-no_way wide Terminate h n = refl
-no_way wide Jump h n = refl
-no_way wide Jumpi h n = refl
-no_way wide DynamicJump h n = refl
-no_way wide DynamicJumpi h n = refl
-no_way wide Way h n = absurd (h refl)
-no_way wide Record h n = refl
-no_way wide Numbered h n = refl
-no_way wide Unknown h n = refl
+not-way : (wide : Bool) (s : Option Sort) → (s ≡ Some Way → ⊥) → way? (sort_of wide s) ≡ false
+not-way wide (Some Head) h = refl
+not-way wide (Some Terminate) h = refl
+not-way wide (Some Jump) h = refl
+not-way wide (Some Jumpi) h = refl
+not-way wide (Some DynamicJump) h = refl
+not-way wide (Some DynamicJumpi) h = refl
+not-way wide (Some Way) h = absurd (h refl)
+not-way wide (Some Record) h = refl
+not-way wide (Some Numbered) h = refl
+not-way wide None h = refl
 
-pub not-way : (wide : Bool) (s : Sort) → (s ≡ Way → ⊥) → way? (sort_of wide s) ≡ false
-not-way wide Head h = refl
-not-way wide Terminate h = refl
-not-way wide Jump h = refl
-not-way wide Jumpi h = refl
-not-way wide DynamicJump h = refl
-not-way wide DynamicJumpi h = refl
-not-way wide Way h = absurd (h refl)
-not-way wide Record h = refl
-not-way wide Numbered h = refl
-not-way wide Unknown h = refl
+-- ---- is_way
 
--- the arm of every other kind
-abbrev others : List ℕ
-others = 0 ∷ 1 ∷ 2 ∷ 3 ∷ 4 ∷ 5 ∷ 7 ∷ 8 ∷ 9 ∷ []
+module _ (wide : Bool) (k : ℕ) {r : Option Sort} (e : sort_of wide r ≡ sort wide k) where
+  pub a-way : {s : Sort} → r ≡ Some s → s ≡ Way → true ≡ way? (sort wide k)
+  a-way q m = rw (← e, q, m)
 
-pub no_seven : (s : Sort) → OneOf others (tag_of the_type s) → s ≡ Way → ⊥
-no_seven s o q = miss others 6 tt (subst (λ (x : Sort). OneOf others (tag_of the_type x)) q o)
+  pub other-way : {s : Sort} → r ≡ Some s → (s ≡ Way → ⊥) → false ≡ way? (sort wide k)
+  other-way {s} q o = rw (← e, q) (sym (not-way wide (Some s) (λ z. o (cc))))
+
+  pub no-way : r ≡ None → false ≡ way? (sort wide k)
+  no-way q = rw (← e, q)
+
+-- what is no 7 ends the run
+pub other-ends : (s : Means) → way? s ≡ false → (n : ℕ) → goes_on s n ≡ 0
+other-ends HEAD h n = refl
+other-ends (BLOCK x) h n = refl
+other-ends (WAY missing) h n = never (cc)
+other-ends (RECORD to missing) h n = refl
+other-ends UNKNOWN h n = refl
+
+pub way-goes : (s : Means) → way? s ≡ true → (n : ℕ) → goes_on s n ≡ n
+way-goes HEAD h n = never (cc)
+way-goes (BLOCK x) h n = never (cc)
+way-goes (WAY missing) h n = refl
+way-goes (RECORD to missing) h n = never (cc)
+way-goes UNKNOWN h n = never (cc)

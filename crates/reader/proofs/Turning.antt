@@ -6,6 +6,7 @@ use native.Mathlib.Omega.{arith}
 use native.Mathlib.Decide.{dec_le}
 use mir.Syntax.{w64}
 use mir.Val.{Fits}
+use Rattle.std.specs.Prelude.{Option, Some, None, Result, Ok, Err}
 use lib.Dec.{eqb, leb}
 use lib.ListN.{length, drop, length-drop}
 use borrow.Author.Tests.{leb-true}
@@ -17,16 +18,14 @@ use Rattle.laws.proofs.Branch.{both}
 use Rattle.theorems.proofs.Bytes.{Bytes, bytes_drop, bytes_take}
 use Rattle.reader.specs.Shapes.{from, behind_at, numbers, known, shape, entry_at}
 use Rattle.reader.specs.Classes.{class_of, start_of, step_of, stopped_of, block_inside, record_inside}
-use Rattle.reader.specs.Scanning.{Within, turned, turn_to, turn_of}
+use Rattle.reader.specs.Scanning.{Within, turned, scan_behind, pass_to, pass_of, turn_to, turn_of}
 use Rattle.reader.specs.declared.entry.Entry.{Entry}
-use Rattle.reader.specs.declared.entry.Entry.TheVariants.{Wrong}
+use Rattle.reader.specs.declared.entry.Fault.{Fault}
+use Rattle.reader.specs.declared.entry.Fault.TheVariants.{Wrong}
 use Rattle.reader.specs.declared.class.Class.{Class}
-use Rattle.reader.specs.declared.class.Class.TheVariants.{Bad, Head, Block, Dynamic, Way, Record}
+use Rattle.reader.specs.declared.class.Class.TheVariants.{Head, Block, Dynamic, Way, Record}
 use Rattle.reader.specs.declared.class.Order.{Order}
-use Rattle.reader.specs.declared.class.Step.{Step}
-use Rattle.reader.specs.declared.class.Step.TheVariants.{To, Stop}
 use Rattle.reader.specs.declared.scan.Scan.{Scan}
-use Rattle.reader.specs.declared.scan.Passed.TheVariants.{On, Bad as Stops}
 use Rattle.reader.proofs.Judging.{entry_whole, entry-cut, behind-whole, judge, sevens-on, blocks-on, records-on}
 use Rattle.reader.proofs.Moving.{Moves, moves}
 use Rattle.theorems.proofs.ReaderPlaces.{never}
@@ -40,12 +39,12 @@ two_bytes (x ∷ []) h = omega (arith, h 0)
 two_bytes (x ∷ y ∷ l) h = omega (arith, h 0, h 1)
 
 module _ (there : ℕ) (body : List ℕ) (h : start_in body < 65536) where
-  abbrev Low : Class → Type 0
+  abbrev Low : Option Class → Type 0
   Low k = start_of k < 65536
 
   low-right : (s : Sort) → Low (class_of (known s (numbers there s body)))
   low-right HEAD = omega arith
-  low-right (BLOCK TERMINATE) = both Low (leb (field 4 1 body) 1) {x = Block (start_in body)} {y = Bad} (λ _. h) (λ _. omega arith)
+  low-right (BLOCK TERMINATE) = both Low (leb (field 4 1 body) 1) {x = Some (Block (start_in body))} {y = None} (λ _. h) (λ _. omega arith)
   low-right (BLOCK JUMP) = h
   low-right (BLOCK JUMPI) = h
   low-right (BLOCK DYNAMIC-JUMP) = h
@@ -54,7 +53,7 @@ module _ (there : ℕ) (body : List ℕ) (h : start_in body < 65536) where
   low-right (RECORD to missing) = omega arith
   low-right UNKNOWN = omega arith
 
-  low-wrong : (s : Sort) → Low (class_of (known s Wrong))
+  low-wrong : (s : Sort) → Low (class_of (known s (Err Wrong)))
   low-wrong HEAD = omega arith
   low-wrong (BLOCK x) = omega arith
   low-wrong (WAY missing) = omega arith
@@ -63,7 +62,7 @@ module _ (there : ℕ) (body : List ℕ) (h : start_in body < 65536) where
 
   low : (s : Sort) → Low (class_of (shape there s body))
   unfolding shape
-  low s = both (λ (e : Entry). Low (class_of (known s e))) (eqb (length body) (long s body)) (λ _. low-right s) (λ _. low-wrong s)
+  low s = both (λ (e : Result Entry Fault). Low (class_of (known s e))) (eqb (length body) (long s body)) (λ _. low-right s) (λ _. low-wrong s)
 
 module _ (b : List ℕ) (at : ℕ) where
   pub entry-low : Bytes b → start_of (class_of (entry_at b at)) < 65536
@@ -81,34 +80,33 @@ module _ (b : List ℕ) (at : ℕ) where
 
 -- ---- what one asks
 
-module _ (b : List ℕ) (at : ℕ) {e : Entry} (is : e ≡ entry_at b at) where
-  pub one-low : {k : Class} → k ≡ class_of e → Bytes b → start_of k < 65536
-  one-low q h = rw (q, is) (entry-low b at h)
+pub one-low : (b : List ℕ) (at : ℕ) {r : Option Class} → r ≡ class_of (entry_at b at) → {k : Class} → r ≡ Some k → Bytes b → start_of (Some k) < 65536
+one-low b at e q h = subst (λ (x : Option Class). start_of x < 65536) (sym e ∙ q) (entry-low b at h)
 
 pub one_in : (b : List ℕ) (at : ℕ) {to : ℕ} → to ≡ behind_at b at → to ≤ length b
 one_in b at q = rw q (behind-in b at)
 
-one_block : (k : Class) → block_inside k ≤ 1
-one_block Bad = omega arith
-one_block Head = omega arith
-one_block (Block s) = omega arith
-one_block (Dynamic s n) = omega arith
-one_block Way = omega arith
-one_block (Record form) = omega arith
+one_block : (k : Option Class) → block_inside k ≤ 1
+one_block None = omega arith
+one_block (Some Head) = omega arith
+one_block (Some (Block s)) = omega arith
+one_block (Some (Dynamic s n)) = omega arith
+one_block (Some Way) = omega arith
+one_block (Some (Record numbered)) = omega arith
 
-one-record : (k : Class) → record_inside k ≤ 1
-one-record Bad = omega arith
-one-record Head = omega arith
-one-record (Block s) = omega arith
-one-record (Dynamic s n) = omega arith
-one-record Way = omega arith
-one-record (Record form) = omega arith
+one-record : (k : Option Class) → record_inside k ≤ 1
+one-record None = omega arith
+one-record (Some Head) = omega arith
+one-record (Some (Block s)) = omega arith
+one-record (Some (Dynamic s n)) = omega arith
+one-record (Some Way) = omega arith
+one-record (Some (Record numbered)) = omega arith
 
 module _ {b : List ℕ} {s : Scan} (w : Within b s) (h : s.at < length b) (f : length b < 2 ^ 64) where
-  pub sum-blocks : (k : Class) {x : ℕ} → x ≡ block_inside k → Fits w64 (s.blocks + x)
+  pub sum-blocks : (k : Option Class) {x : ℕ} → x ≡ block_inside k → Fits w64 (s.blocks + x)
   sum-blocks k q = omega (arith, one_block k)
 
-  pub sum-records : (k : Class) {x : ℕ} → x ≡ record_inside k → Fits w64 (s.records + x)
+  pub sum-records : (k : Option Class) {x : ℕ} → x ≡ record_inside k → Fits w64 (s.records + x)
   sum-records k q = omega (arith, one-record k)
 
 -- ---- one turn
@@ -117,60 +115,85 @@ module _ (b : List ℕ) (s : Scan) where
   abbrev at : ℕ
   at = s.at
 
-  abbrev kind-of : Class
+  abbrev kind-of : Option Class
   kind-of = class_of (entry_at b at)
 
   -- what is left to judge behind the entry ends where the whole does, or the entry is where the scan stops
   module _ (w : Within b s) (h : s.at < length b) where
-    moved : (st : Step) → step_of kind-of s.place at ≡ st → Moves (wide_in b) at (from b at) (from b (behind_at b at)) s.place st
+    moved : (st : Option Order) → step_of kind-of s.place at ≡ st → Moves (wide_in b) at (from b at) (from b (behind_at b at)) s.place st
     moved st e =
         subst (Moves (wide_in b) at (from b at) (from b (behind_at b at)) s.place) e
         (moves (wide_in b) at (from b at) (from b (behind_at b at)) kind-of (λ p. judge b at p h) (sevens-on b at) s.place)
 
-    not-bad : (p : Order) → step_of kind-of s.place at ≡ To p → kind-of ≡ Bad → ⊥
-    not-bad p e z = let y : To p ≡ step_of Bad s.place at = sym e ∙ ap (λ (x : Class). step_of x s.place at) z in never (cc)
+    not-bad : (p : Order) → step_of kind-of s.place at ≡ Some p → kind-of ≡ None → ⊥
+    not-bad p e z = let y : Some p ≡ step_of None s.place at = sym e ∙ ap (λ (x : Option Class). step_of x s.place at) z in never (cc)
 
-    there : (kind-of ≡ Bad → ⊥) → Whole (drop at b)
+    there : (kind-of ≡ None → ⊥) → Whole (drop at b)
     there m = by_whole (dec_le (6 + announced (drop at b)) (length (drop at b)))
       where
         by_whole : Dec (Whole (drop at b)) → Whole (drop at b)
         by_whole (yes w) = w
         by_whole (no n) = absurd (m (rw (entry-cut b at n)))
 
-    goes_on : (p : Order) → step_of kind-of s.place at ≡ To p → turned b s (turn_to b s kind-of (To p))
+    goes_on : (p : Order) → step_of kind-of s.place at ≡ Some p → turned b s (turn_to b s kind-of (Some p))
     goes_on p e =
         let m = not-bad p e in
         let l : Whole (drop at b) = there m in
         let far : behind_at b at ≡ at + (6 + announced (drop at b)) = behind-whole b at l in
         let d = length-drop at b in
         record {
-          said = moved (To p) e;
+          said = moved (Some p) e;
           blocks_are = omega (arith, blocks-on b at m);
           records_are = omega (arith, records-on b at m);
           on = omega arith;
           within = record { inside = omega arith; few_blocks = omega (arith, one_block kind-of); few_records = omega (arith, one-record kind-of) };
         }
 
-    by-step : (st : Step) → step_of kind-of s.place at ≡ st → turned b s (turn_to b s kind-of st)
-    by-step (To p) e = goes_on p e
-    by-step Stop e = moved Stop e
+    by-step : (st : Option Order) → step_of kind-of s.place at ≡ st → turned b s (turn_to b s kind-of st)
+    by-step (Some p) e = goes_on p e
+    by-step None e = moved None e
 
     pub turns : turned b s (turn_of b s)
     unfolding turn_of
     turns = by-step (step_of kind-of s.place at) refl
 
-  -- ---- the ways out of one
+  -- ---- the ways out of passed, and of one
 
-  module _ {e : Entry} (is : e ≡ entry_at b s.at) {k : Class} (c : k ≡ class_of e) {r : Step} (o : r ≡ step_of k s.place s.at) where
-    turns-to : {st : Step} → r ≡ st → turn_to b s k st ≡ turn_of b s
-    unfolding turn_of
-    turns-to {st} q =
-        let same : k ≡ kind-of = c ∙ ap class_of is in
-        ap (turn_to b s k) (sym q ∙ o) ∙ ap (λ (x : Class). turn_to b s x (step_of x s.place at)) same
+  module _ {k : Option Class} (c : k ≡ class_of (entry_at b s.at)) where
+    passes : {st : Option Order} → step_of k s.place s.at ≡ st → pass_to b s k st ≡ pass_of b s
+    unfolding pass_of
+    passes {st} q = ap (pass_to b s k) (sym q) ∙ ap (λ (x : Option Class). pass_to b s x (step_of x s.place at)) c
 
-    pub one-stops : r ≡ Stop → {x : ℕ} → x ≡ stopped_of s.place s.at (sevens (wide_in b) (from b s.at)) → Stops x ≡ turn_of b s
-    one-stops q z = ap Stops z ∙ turns-to q
+    step-so : {j : Option Class} → k ≡ j → step_of k s.place at ≡ step_of j s.place at
+    step-so q = ap (λ (x : Option Class). step_of x s.place at) q
 
-    pub one-goes : {p : Order} → r ≡ To p → {x y to : ℕ} → to ≡ behind_at b s.at → x ≡ block_inside k → y ≡ record_inside k
-        → On (record { at = to; place = p; blocks = s.blocks + x; records = s.records + y }) ≡ turn_of b s
-    one-goes q t bx ry = rw (t, bx, ry) (turns-to q)
+    pub pass-none : k ≡ None → None ≡ pass_of b s
+    pass-none q = passes {st = None} (step-so q)
+
+    module _ {j : Class} (q : k ≡ Some j) {r : Option Order} (o : r ≡ step_of (Some j) s.place s.at) where
+      pub pass-stops : r ≡ None → None ≡ pass_of b s
+      pass-stops z = passes {st = None} (step-so q ∙ sym o ∙ z)
+
+      pub pass-goes : {p : Order} → r ≡ Some p → {x y to : ℕ} → to ≡ behind_at b s.at → x ≡ block_inside (Some j) → y ≡ record_inside (Some j)
+          → Some (record { at = to; place = p; blocks = s.blocks + x; records = s.records + y }) ≡ pass_of b s
+      pass-goes {p} z t bx ry =
+          rw (t, bx, ry) (subst (λ (c : Option Class). Some (scan_behind b s c p) ≡ pass_of b s) q (passes {st = Some p} (step-so q ∙ sym o ∙ z)))
+
+  module _ {r : Option Scan} (e : r ≡ pass_of b s) where
+    turns-to : (st : Option Order) → step_of kind-of s.place at ≡ st → r ≡ pass_to b s kind-of st × turn_of b s ≡ turn_to b s kind-of st
+    unfolding pass_of turn_of
+    turns-to st q = (e ∙ ap (pass_to b s kind-of) q, ap (turn_to b s kind-of) q)
+
+    pub one-goes : {t : Scan} → r ≡ Some t → Ok t ≡ turn_of b s
+    one-goes {t} q = by-step (step_of kind-of s.place at) refl
+      where
+        by-step : (st : Option Order) → step_of kind-of s.place at ≡ st → Ok t ≡ turn_of b s
+        by-step (Some p) f = let k = turns-to (Some p) f in let a = k.0 in let c = k.1 in cc
+        by-step None f = let k = turns-to None f in let a = k.0 in never (cc)
+
+    pub one-stops : r ≡ None → {x : ℕ} → x ≡ stopped_of s.place s.at (sevens (wide_in b) (from b s.at)) → Err (record { offset = x }) ≡ turn_of b s
+    one-stops q {x} z = by-step (step_of kind-of s.place at) refl
+      where
+        by-step : (st : Option Order) → step_of kind-of s.place at ≡ st → Err (record { offset = x }) ≡ turn_of b s
+        by-step (Some p) f = let k = turns-to (Some p) f in let a = k.0 in never (cc)
+        by-step None f = let k = turns-to None f in rw z (sym (k.1))

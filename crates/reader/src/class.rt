@@ -1,22 +1,22 @@
 // What an entry is to the order of the entries.
-ghost use Rattle.std.specs.Prelude.{◌≡◌, ◌<◌};
+ghost use Rattle.std.specs.Prelude.{◌≡◌, ◌<◌, Some, Ok};
+ghost use Rattle.reader.specs.Shapes.{entry_at};
 ghost use Rattle.reader.specs.Classes.{class_of, start_of, block_step, way_step, record_step, step_of, block_inside, record_inside};
 
-use crate::entry::Entry;
+use crate::entry::{Entry, entry_at};
 
-// A block by its start, a dynamic one also by its count; a record by its form; or an entry that is bad wherever it stands.
+// A block by its start, a dynamic one also by its count; a record by whether it has its number.
 #[derive(Clone, Copy)]
 pub enum Class {
-    Bad,
     Head,
     Block { start: usize },
     Dynamic { start: usize, count: usize },
     Way,
-    Record { form: usize },
+    Record { numbered: bool },
 }
 
 // Behind the head: blocks may come, from a start on; or also 7s of the dynamic block at `block`, of whose count so many are left; or records
-// alone, of the form of those before.
+// alone, with or without their numbers as those before.
 #[derive(Clone, Copy)]
 pub enum Order {
     Blocks {
@@ -28,115 +28,113 @@ pub enum Order {
         left: usize,
     },
     Records {
-        form: usize,
+        numbered: bool,
     },
 }
 
-// An entry may come, and then the order goes on so; or it may not.
-#[derive(Clone, Copy)]
-pub enum Step {
-    To(Order),
-    Stop,
-}
-
-// The class of an entry: bad are "unknown kinds", "success bytes over 1", "cut entries, and bodies longer or shorter than their kind says".
+// The class of an entry; none where it is bad wherever it stands: "success bytes over 1".
 #[tactic(auto, using(crate::proofs::Classing::class_fair, crate::proofs::Classing::class_unfair))]
-pub fn class_of(entry: Entry) -> Class
-    ensures { result ≡ class_of entry }
+fn class_of(entry: Entry) -> Option<Class>
+    ensures { result ≡ class_of (Ok entry) }
 {
     match entry {
-        Entry::Head { .. } => Class::Head,
+        Entry::Head { .. } => Some(Class::Head),
         Entry::Terminate { start, success, .. } => {
             if success <= 1 {
-                Class::Block { start }
+                Some(Class::Block { start })
             } else {
-                Class::Bad
+                None
             }
         }
-        Entry::Jump { start, .. } => Class::Block { start },
-        Entry::Jumpi { start, .. } => Class::Block { start },
-        Entry::DynamicJump { start, count, .. } => Class::Dynamic { start, count },
-        Entry::DynamicJumpi { start, count, .. } => Class::Dynamic { start, count },
-        Entry::Way { .. } => Class::Way,
-        Entry::Record { form, .. } => Class::Record { form },
-        Entry::Unknown => Class::Bad,
-        Entry::Wrong => Class::Bad,
-        Entry::Cut => Class::Bad,
+        Entry::Jump { start, .. } | Entry::Jumpi { start, .. } => Some(Class::Block { start }),
+        Entry::DynamicJump { start, count, .. } | Entry::DynamicJumpi { start, count, .. } => {
+            Some(Class::Dynamic { start, count })
+        }
+        Entry::Way { .. } => Some(Class::Way),
+        Entry::Record { energy, .. } => Some(Class::Record {
+            numbered: energy.is_some(),
+        }),
+    }
+}
+
+// The class of the entry at an offset; none also for "unknown kinds", "cut entries, and bodies longer or shorter than their kind says".
+pub fn class_at(map: &[u8], at: usize) -> Option<Class>
+    ensures { result ≡ class_of (entry_at map.now at) }
+{
+    match entry_at(map, at) {
+        Ok(entry) => class_of(entry),
+        Err(_) => None,
     }
 }
 
 // A block at a start, with the order behind it. "A block start not above the one before" is bad, and so is a block behind a record.
-fn after_block(order: Order, start: usize, then: Order) -> Step
+fn after_block(order: Order, start: usize, then: Order) -> Option<Order>
     ensures { result ≡ block_step start order then }
 {
     match order {
         Order::Blocks { low } => {
             if low <= start {
-                return Step::To(then);
+                return Some(then);
             }
-            Step::Stop
+            None
         }
         Order::Sevens { low, left, .. } => {
-            if left != 0 {
-                return Step::Stop;
+            if left == 0 && low <= start {
+                return Some(then);
             }
-            if low <= start {
-                return Step::To(then);
-            }
-            Step::Stop
+            None
         }
-        Order::Records { .. } => Step::Stop,
+        Order::Records { .. } => None,
     }
 }
 
 // A 7: one of those that are left. "Kind 7 away from a dynamic block" is bad.
-fn after_way(order: Order) -> Step
+fn after_way(order: Order) -> Option<Order>
     ensures { result ≡ way_step order }
 {
     match order {
         Order::Sevens { low, block, left } => {
             if left == 0 {
-                return Step::Stop;
+                return None;
             }
-            Step::To(Order::Sevens {
+            Some(Order::Sevens {
                 low,
                 block,
                 left: left - 1,
             })
         }
-        Order::Blocks { .. } => Step::Stop,
-        Order::Records { .. } => Step::Stop,
+        _ => None,
     }
 }
 
 // A record, where no 7 is left to come. "After one of 8 and 9 the other is a bad entry".
-#[tactic(auto, using(crate::proofs::Classing::record_same, crate::proofs::Classing::record_other))]
-fn after_record(order: Order, form: usize) -> Step
-    ensures { result ≡ record_step form order }
+fn after_record(order: Order, numbered: bool) -> Option<Order>
+    ensures { result ≡ record_step numbered order }
 {
     match order {
+        Order::Blocks { .. } => Some(Order::Records { numbered }),
         Order::Sevens { left, .. } => {
             if left != 0 {
-                return Step::Stop;
+                return None;
             }
-            Step::To(Order::Records { form })
+            Some(Order::Records { numbered })
         }
-        Order::Blocks { .. } => Step::To(Order::Records { form }),
-        Order::Records { form: before } => {
-            if form != before {
-                return Step::Stop;
+        Order::Records { numbered: before } => {
+            if numbered != before {
+                return None;
             }
-            Step::To(Order::Records { form: before })
+            Some(Order::Records { numbered: before })
         }
     }
 }
 
 // The order behind an entry at an offset; none where it is bad there, as a second head is.
-pub fn behind(class: Class, order: Order, at: usize) -> Step
-    requires { start_of class < 65536 }
-    ensures { result ≡ step_of class order at }
+pub fn behind(class: Class, order: Order, at: usize) -> Option<Order>
+    requires { start_of (Some class) < 65536 }
+    ensures { result ≡ step_of (Some class) order at }
 {
     match class {
+        Class::Head => None,
         Class::Block { start } => after_block(order, start, Order::Blocks { low: start + 1 }),
         Class::Dynamic { start, count } => after_block(
             order,
@@ -148,36 +146,26 @@ pub fn behind(class: Class, order: Order, at: usize) -> Step
             },
         ),
         Class::Way => after_way(order),
-        Class::Record { form } => after_record(order, form),
-        Class::Bad => Step::Stop,
-        Class::Head => Step::Stop,
+        Class::Record { numbered } => after_record(order, numbered),
     }
 }
 
 // How many blocks the entry is.
 pub fn blocks_in(class: Class) -> usize
-    ensures { result ≡ block_inside class }
+    ensures { result ≡ block_inside (Some class) }
 {
     match class {
-        Class::Block { start: _ } => 1,
-        Class::Dynamic { start: _, count: _ } => 1,
-        Class::Bad => 0,
-        Class::Head => 0,
-        Class::Way => 0,
-        Class::Record { form: _ } => 0,
+        Class::Block { .. } | Class::Dynamic { .. } => 1,
+        _ => 0,
     }
 }
 
 // How many records the entry is.
 pub fn records_in(class: Class) -> usize
-    ensures { result ≡ record_inside class }
+    ensures { result ≡ record_inside (Some class) }
 {
     match class {
-        Class::Record { form: _ } => 1,
-        Class::Bad => 0,
-        Class::Head => 0,
-        Class::Block { start: _ } => 0,
-        Class::Dynamic { start: _, count: _ } => 0,
-        Class::Way => 0,
+        Class::Record { .. } => 1,
+        _ => 0,
     }
 }

@@ -6,30 +6,17 @@ ghost use Rattle.reader.specs.Dests.{goes_to};
 
 use layout::{MISSING, MISSING_WIDE};
 
-// None, or an address.
-#[derive(Clone, Copy)]
-pub enum Destination {
-    Missing,
-    At(usize),
-}
-
 // The number that stands for a missing one.
 fn absent(wide: bool) -> usize
     ensures { result ≡ absent wide }
 {
-    if wide {
-        return MISSING_WIDE;
-    }
-    MISSING
+    if wide { MISSING_WIDE } else { MISSING }
 }
 
-// What a number says.
+// What a number says: an address, or none.
 #[tactic(auto, using(crate::proofs::Destinations::goes_nowhere, crate::proofs::Destinations::goes_there))]
-pub fn destined(wide: bool, to: usize) -> Destination
+pub fn destined(wide: bool, to: usize) -> Option<usize>
     ensures { result ≡ goes_to (absent wide) to }
 {
-    if to == absent(wide) {
-        return Destination::Missing;
-    }
-    Destination::At(to)
+    if to == absent(wide) { None } else { Some(to) }
 }

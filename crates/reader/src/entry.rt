@@ -5,13 +5,11 @@ ghost use Rattle.reader.specs.Shapes.{entry_at};
 use crate::body::{
     dynamic_jump, dynamic_jumpi, head, jump, jumpi, numbered, record, terminate, way,
 };
-use crate::dest::Destination;
 use crate::kind::{Sort, sort_of, wide_in};
-use crate::lead::{Lead, lead_at};
+use crate::lead::lead_at;
 
 // Its numbers, by its kind; the two families of kinds give the same. A path is told by where its addresses of 2 bytes stand and how many they are.
-// A record's form is where the path length stands in its body: 4 in kind 8; 8 in kind 9, behind its number, which is 0 in kind 8.
-// Or what is wrong with it by itself: its kind is not known, its body is "longer or shorter than" its kind says, or it is cut.
+// A record has its number in kind 9, and none in kind 8.
 #[derive(Clone, Copy)]
 pub enum Entry {
     Head {
@@ -48,45 +46,47 @@ pub enum Entry {
         count: usize,
     },
     Way {
-        to: Destination,
+        to: Option<usize>,
         path: usize,
         count: usize,
     },
     Record {
         start: usize,
-        to: Destination,
-        form: usize,
-        energy: usize,
+        to: Option<usize>,
+        energy: Option<usize>,
         path: usize,
         count: usize,
     },
+}
+
+// What is wrong with an entry by itself: its kind is not known, its body is "longer or shorter than" its kind says, or it is cut.
+#[derive(Clone, Copy)]
+pub enum Fault {
     Unknown,
     Wrong,
     Cut,
 }
 
-// The entry at an offset.
-pub fn entry_at(map: &[u8], at: usize) -> Entry
+// The entry at an offset, or what is wrong with it by itself.
+pub fn entry_at(map: &[u8], at: usize) -> Result<Entry, Fault>
     ensures { result ≡ entry_at map.now at }
 {
-    let l = lead_at(map, at);
-    match l {
-        Lead::Says { kind, length } => {
-            let body = at + 6;
-            let wide = wide_in(map);
-            match sort_of(wide, kind) {
-                Sort::Head => head(map, body, length),
-                Sort::Terminate => terminate(map, body, length),
-                Sort::Jump => jump(map, body, length),
-                Sort::Jumpi => jumpi(map, body, length),
-                Sort::DynamicJump => dynamic_jump(map, body, length),
-                Sort::DynamicJumpi => dynamic_jumpi(map, body, length),
-                Sort::Way => way(map, wide, body, length),
-                Sort::Record => record(map, wide, body, length),
-                Sort::Numbered => numbered(map, wide, body, length),
-                Sort::Unknown => Entry::Unknown,
-            }
-        }
-        Lead::Short => Entry::Cut,
+    let Some(lead) = lead_at(map, at) else {
+        return Err(Fault::Cut);
+    };
+    let body = at + 6;
+    let long = lead.length;
+    let wide = wide_in(map);
+    match sort_of(wide, lead.kind) {
+        Some(Sort::Head) => head(map, body, long),
+        Some(Sort::Terminate) => terminate(map, body, long),
+        Some(Sort::Jump) => jump(map, body, long),
+        Some(Sort::Jumpi) => jumpi(map, body, long),
+        Some(Sort::DynamicJump) => dynamic_jump(map, body, long),
+        Some(Sort::DynamicJumpi) => dynamic_jumpi(map, body, long),
+        Some(Sort::Way) => way(map, wide, body, long),
+        Some(Sort::Record) => record(map, wide, body, long),
+        Some(Sort::Numbered) => numbered(map, wide, body, long),
+        None => Err(Fault::Unknown),
     }
 }

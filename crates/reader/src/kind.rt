@@ -1,13 +1,14 @@
 // The kinds of the entries, a line each, as they are read.
 // "unknown kinds"; "code over 24,576 bytes writes kinds 10, 11 and 12 in place of 7, 8 and 9"
-ghost use Rattle.std.specs.Prelude.{◌≡◌, true, false};
+ghost use Rattle.std.specs.Prelude.{◌≡◌};
 ghost use Rattle.spec.specs.Entries.{wide_code};
 ghost use Rattle.spec.specs.Forms.{sort, wide_in};
-ghost use Rattle.reader.specs.Sorts.{sort_of, path_sort};
+ghost use Rattle.reader.specs.Sorts.{sort_of, path_kinds, path_sort};
 
 use layout::NARROW;
 use lent::get16;
 
+// What an entry is; a record with its number is apart.
 #[derive(Clone, Copy)]
 pub enum Sort {
     Head,
@@ -19,7 +20,6 @@ pub enum Sort {
     Way,
     Record,
     Numbered,
-    Unknown,
 }
 
 // Whether the map of a code of so many bytes has the second family of kinds.
@@ -39,51 +39,63 @@ pub fn wide_in(map: &[u8]) -> bool
     wide_code(get16(map, 6))
 }
 
-// The kinds of path entries, in the first family.
-fn narrow(kind: usize) -> Sort
-    ensures { sort_of false result ≡ path_sort false kind }
+// The kinds of path entries in a family: of 7s, of records without their number, and with it.
+struct Kinds {
+    way: usize,
+    plain: usize,
+    numbered: usize,
+}
+
+// "kinds 10, 11 and 12 in place of 7, 8 and 9"
+fn path_kinds(wide: bool) -> Kinds
+    ensures { result ≡ path_kinds wide }
 {
-    match kind {
-        7 => Sort::Way,
-        8 => Sort::Record,
-        9 => Sort::Numbered,
-        _ => Sort::Unknown,
+    if wide {
+        Kinds {
+            way: 10,
+            plain: 11,
+            numbered: 12,
+        }
+    } else {
+        Kinds {
+            way: 7,
+            plain: 8,
+            numbered: 9,
+        }
     }
 }
 
-// And in the second.
-fn wide(kind: usize) -> Sort
-    ensures { sort_of true result ≡ path_sort true kind }
+// What a path entry of a kind is in a family.
+fn path_sort(wide: bool, kind: usize) -> Option<Sort>
+    ensures { sort_of wide result ≡ path_sort wide kind }
 {
-    match kind {
-        10 => Sort::Way,
-        11 => Sort::Record,
-        12 => Sort::Numbered,
-        _ => Sort::Unknown,
+    let Kinds {
+        way,
+        plain,
+        numbered,
+    } = path_kinds(wide);
+    if kind == way {
+        Some(Sort::Way)
+    } else if kind == plain {
+        Some(Sort::Record)
+    } else if kind == numbered {
+        Some(Sort::Numbered)
+    } else {
+        None
     }
-}
-
-// In either.
-fn path_sort(second: bool, kind: usize) -> Sort
-    ensures { sort_of second result ≡ path_sort second kind }
-{
-    if second {
-        return wide(kind);
-    }
-    narrow(kind)
 }
 
 // What an entry of a kind is in a family: a kind of the other is as one that is not known.
-pub fn sort_of(second: bool, kind: usize) -> Sort
-    ensures { sort_of second result ≡ sort second kind }
+pub fn sort_of(wide: bool, kind: usize) -> Option<Sort>
+    ensures { sort_of wide result ≡ sort wide kind }
 {
     match kind {
-        1 => Sort::Head,
-        2 => Sort::Terminate,
-        3 => Sort::Jump,
-        4 => Sort::Jumpi,
-        5 => Sort::DynamicJump,
-        6 => Sort::DynamicJumpi,
-        _ => path_sort(second, kind),
+        1 => Some(Sort::Head),
+        2 => Some(Sort::Terminate),
+        3 => Some(Sort::Jump),
+        4 => Some(Sort::Jumpi),
+        5 => Some(Sort::DynamicJump),
+        6 => Some(Sort::DynamicJumpi),
+        _ => path_sort(wide, kind),
     }
 }

@@ -12,9 +12,8 @@ mod scan;
 mod walk;
 
 pub use class::Order;
-pub use dest::Destination;
-pub use entry::{Entry, entry_at};
+pub use entry::{Entry, Fault, entry_at};
 pub use lead::end_of;
 pub use run::seven_at;
-pub use scan::{Passed, Reading, Scan, last, one, read};
-pub use walk::{Walk, address, first, next};
+pub use scan::{BadEntry, Head, Scan, begin, head_of, last, one, read};
+pub use walk::{Step, address, first, next};

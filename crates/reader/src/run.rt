@@ -1,24 +1,31 @@
 // The run of 7s, counted once, where the scan stops; in the second family of kinds 10 stands for 7.
 ghost use Rattle.std.specs.Prelude.{◌≡◌, ◌≤◌, length};
-ghost use Rattle.spec.specs.Forms.{wide_in};
+ghost use Rattle.spec.specs.Forms.{sort, wide_in};
 ghost use Rattle.spec.specs.Reader.{sevens};
-ghost use Rattle.reader.specs.Shapes.{from, seven_at};
+ghost use Rattle.reader.specs.Shapes.{from, way?, seven_at};
 ghost use Rattle.reader.specs.Classes.{stopped_of};
 
 use crate::class::Order;
 use crate::kind::{Sort, sort_of, wide_in};
-use crate::lead::{Lead, lead_at};
+use crate::lead::lead_at;
+
+// Whether a kind is a 7's in a family.
+fn is_way(wide: bool, kind: usize) -> bool
+    ensures { result ≡ way? (sort wide kind) }
+{
+    match sort_of(wide, kind) {
+        Some(sort) => matches!(sort, Sort::Way),
+        None => false,
+    }
+}
 
 // Whether a whole 7 stands at an offset.
 pub fn seven_at(map: &[u8], at: usize) -> bool
     ensures { result ≡ seven_at map.now at }
 {
     match lead_at(map, at) {
-        Lead::Says { kind, length: _ } => match sort_of(wide_in(map), kind) {
-            Sort::Way => true,
-            _ => false,
-        },
-        Lead::Short => false,
+        Some(lead) => is_way(wide_in(map), lead.kind),
+        None => false,
     }
 }
 
@@ -30,24 +37,14 @@ fn sevens(map: &[u8], at: usize) -> usize
     let wide = wide_in(map);
     let mut count = 0;
     let mut to = at;
-    loop {
-        match lead_at(map, to) {
-            Lead::Says { kind, length } => {
-                match sort_of(wide, kind) {
-                    Sort::Way => {
-                        count += 1;
-                        to = to + 6 + length;
-                    }
-                    _ => {
-                        return count;
-                    }
-                }
-            }
-            Lead::Short => {
-                return count;
-            }
+    while let Some(lead) = lead_at(map, to) {
+        if !is_way(wide, lead.kind) {
+            return count;
         }
+        count += 1;
+        to = to + 6 + lead.length;
     }
+    count
 }
 
 // The offset of the first bad entry, where the one at an offset may not come: that of an open dynamic block with "a dynamic count its 7s do not meet
@@ -64,7 +61,6 @@ pub fn stopped(map: &[u8], at: usize, order: Order) -> usize
             }
             block
         }
-        Order::Blocks { .. } => at,
-        Order::Records { .. } => at,
+        _ => at,
     }
 }

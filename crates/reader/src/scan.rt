@@ -2,21 +2,29 @@
 ghost use Rattle.std.specs.Prelude.{◌≡◌, ◌≤◌, ◌<◌, length};
 ghost use Rattle.std.proofs.Math.Option.{none};
 ghost use Rattle.spec.specs.Reader.{read};
-ghost use Rattle.reader.specs.Scanning.{Within, turn_of, judged, last_of, rest_of, reading_of};
+ghost use Rattle.reader.specs.Scanning.{Within, head_of, begin, pass_of, turn_of, judged, last_of, rest_of, reading_of};
 
-use crate::class::{Order, Step, behind, blocks_in, class_of, records_in};
+use crate::class::{Order, behind, blocks_in, class_at, records_in};
 use crate::entry::{Entry, entry_at};
 use crate::lead::end_of;
 use crate::run::stopped;
+use refusal::Refusal;
 
-// "12, bad entry, with its offset".
-const BAD: usize = 12;
-
-// 0, or the number of the refusal and the offset of the first bad entry.
-#[derive(Clone, Copy)]
-pub struct Reading {
-    pub number: usize,
+// The offset of the first bad entry.
+// "12, bad entry, with its offset"
+#[derive(Clone, Copy, PartialEq, Eq, Debug)]
+pub struct BadEntry {
     pub offset: usize,
+}
+
+impl From<BadEntry> for Refusal {
+    ghost use Rattle.refusal.specs.declared.Refusal.TheVariants.{Entry};
+
+    ghost from_gives = { λ bad refusal. refusal ≡ Entry bad.offset };
+
+    fn from(bad: BadEntry) -> Refusal {
+        Refusal::Entry { offset: bad.offset }
+    }
 }
 
 // Where the scan stands: the offset of the next entry, what may come, and the blocks and records so far.
@@ -28,123 +36,126 @@ pub struct Scan {
     pub records: usize,
 }
 
-// The scan behind an entry; or the offset of the first bad one.
+// The numbers of a map's head, but for its code length, and where the entry behind it stands.
 #[derive(Clone, Copy)]
-pub enum Passed {
-    On(Scan),
-    Bad(usize),
+pub struct Head {
+    pub blocks: usize,
+    pub records: usize,
+    pub energy: usize,
+    pub behind: usize,
 }
 
-// One entry, which is there.
-pub fn one(map: &[u8], scan: Scan) -> Passed
-    requires within { Within map.now scan }
-    requires at_in_bounds { scan.at < length map.now }
-    ensures { result ≡ turn_of map.now scan }
+// The head that a map begins with; "a missing head" is bad at 0.
+pub fn head_of(map: &[u8]) -> Result<Head, BadEntry>
+    ensures { result ≡ head_of map.now }
 {
-    let at = scan.at;
-    let order = scan.place;
-    let entry = entry_at(map, at);
-    let class = class_of(entry);
-    match behind(class, order, at) {
-        Step::To(place) => Passed::On(Scan {
-            at: end_of(map, at),
-            place,
-            blocks: scan.blocks + blocks_in(class),
-            records: scan.records + records_in(class),
-        }),
-        Step::Stop => Passed::Bad(stopped(map, at, order)),
-    }
-}
-
-// "Wrong head counts are looked at last and give offset 0".
-fn counts(scan: Scan, blocks: usize, records: usize) -> Reading
-    ensures { result ≡ judged none blocks records scan.blocks scan.records }
-{
-    if blocks != scan.blocks {
-        return Reading {
-            number: BAD,
-            offset: 0,
-        };
-    }
-    if records != scan.records {
-        return Reading {
-            number: BAD,
-            offset: 0,
-        };
-    }
-    Reading {
-        number: 0,
-        offset: 0,
-    }
-}
-
-// At the end: an open dynamic block's count, then the head's counts.
-pub fn last(scan: Scan, blocks: usize, records: usize) -> Reading
-    ensures { result ≡ last_of scan blocks records }
-{
-    let order = scan.place;
-    match order {
-        Order::Sevens { block, left, .. } => {
-            if left != 0 {
-                return Reading {
-                    number: BAD,
-                    offset: block,
-                };
-            }
-            counts(scan, blocks, records)
-        }
-        Order::Blocks { .. } => counts(scan, blocks, records),
-        Order::Records { .. } => counts(scan, blocks, records),
-    }
-}
-
-// The entries behind the head, from an offset on, with the head's counts.
-fn rest(map: &[u8], from: usize, blocks: usize, records: usize) -> Reading
-    requires { from ≤ length map.now }
-    ensures { result ≡ rest_of map.now from blocks records }
-{
-    let mut scan = Scan {
-        at: from,
-        place: Order::Blocks { low: 0 },
-        blocks: 0,
-        records: 0,
+    let Ok(entry) = entry_at(map, 0) else {
+        return Err(BadEntry { offset: 0 });
     };
-    loop {
-        let at = scan.at;
-        if map.len() <= at {
-            return last(scan, blocks, records);
-        }
-        match one(map, scan) {
-            Passed::On(next) => {
-                scan = next;
-            }
-            Passed::Bad(offset) => {
-                return Reading {
-                    number: BAD,
-                    offset,
-                };
-            }
-        }
-    }
-}
-
-// Judges a byte string as a stored map. "A missing head" is bad at 0; behind it the entries are passed once.
-pub fn read(map: &[u8]) -> Reading
-    ensures { result ≡ reading_of (read map.now) }
-{
-    let entry = entry_at(map, 0);
     match entry {
         Entry::Head {
             blocks,
             records,
+            energy,
             ..
         } => {
-            let to = end_of(map, 0);
-            rest(map, to, blocks, records)
+            let behind = end_of(map, 0);
+            Ok(Head {
+                blocks,
+                records,
+                energy,
+                behind,
+            })
         }
-        _ => Reading {
-            number: BAD,
-            offset: 0,
-        },
+        _ => Err(BadEntry { offset: 0 }),
     }
+}
+
+// The scan that begins behind the head, at an offset.
+pub fn begin(at: usize) -> Scan
+    ensures { result ≡ begin at }
+{
+    Scan {
+        at,
+        place: Order::Blocks { low: 0 },
+        blocks: 0,
+        records: 0,
+    }
+}
+
+// The scan behind the entry where it stands; none where that may not come.
+fn passed(map: &[u8], scan: Scan) -> Option<Scan>
+    requires within { Within map.now scan }
+    requires at_in_bounds { scan.at < length map.now }
+    ensures { result ≡ pass_of map.now scan }
+{
+    let at = scan.at;
+    let class = class_at(map, at)?;
+    let place = behind(class, scan.place, at)?;
+    Some(Scan {
+        at: end_of(map, at),
+        place,
+        blocks: scan.blocks + blocks_in(class),
+        records: scan.records + records_in(class),
+    })
+}
+
+// One entry, which is there: the scan behind it, or the offset of the first bad one.
+pub fn one(map: &[u8], scan: Scan) -> Result<Scan, BadEntry>
+    requires within { Within map.now scan }
+    requires at_in_bounds { scan.at < length map.now }
+    ensures { result ≡ turn_of map.now scan }
+{
+    match passed(map, scan) {
+        Some(next) => Ok(next),
+        None => {
+            let offset = stopped(map, scan.at, scan.place);
+            Err(BadEntry { offset })
+        }
+    }
+}
+
+// "Wrong head counts are looked at last and give offset 0".
+fn counts(scan: Scan, blocks: usize, records: usize) -> Result<(), BadEntry>
+    ensures { result ≡ judged none blocks records scan.blocks scan.records }
+{
+    if blocks == scan.blocks && records == scan.records {
+        return Ok(());
+    }
+    Err(BadEntry { offset: 0 })
+}
+
+// At the end: an open dynamic block's count, then the head's counts.
+pub fn last(scan: Scan, blocks: usize, records: usize) -> Result<(), BadEntry>
+    ensures { result ≡ last_of scan blocks records }
+{
+    match scan.place {
+        Order::Sevens { block, left, .. } => {
+            if left != 0 {
+                return Err(BadEntry { offset: block });
+            }
+            counts(scan, blocks, records)
+        }
+        _ => counts(scan, blocks, records),
+    }
+}
+
+// The entries behind the head, from an offset on, with the head's counts.
+fn rest(map: &[u8], from: usize, blocks: usize, records: usize) -> Result<(), BadEntry>
+    requires { from ≤ length map.now }
+    ensures { result ≡ rest_of map.now from blocks records }
+{
+    let mut scan = begin(from);
+    while scan.at < map.len() {
+        scan = one(map, scan)?;
+    }
+    last(scan, blocks, records)
+}
+
+// Judges a byte string as a stored map: behind its head the entries are passed once.
+pub fn read(map: &[u8]) -> Result<(), BadEntry>
+    ensures { result ≡ reading_of (read map.now) }
+{
+    let head = head_of(map)?;
+    rest(map, head.behind, head.blocks, head.records)
 }

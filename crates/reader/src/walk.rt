@@ -4,31 +4,31 @@
 ghost use Rattle.std.specs.Prelude.{◌≡◌, ◌+◌, ◌*◌, ◌≤◌, ◌<◌, length};
 ghost use Rattle.reader.specs.Walks.{walk_at, Address};
 
-use crate::entry::{Entry, entry_at};
+use crate::entry::{Entry, Fault, entry_at};
 use crate::lead::end_of;
 use lent::get16;
 
-// The entry at the walk's offset, and the offset behind it; or the bytes are over.
+// The entry at the walk's offset, and the offset behind it. Of accepted bytes no entry has a fault.
 #[derive(Clone, Copy)]
-pub enum Walk {
-    Here { entry: Entry, behind: usize },
-    Over,
+pub struct Step {
+    pub entry: Result<Entry, Fault>,
+    pub behind: usize,
 }
 
-// The walk's step at an offset.
-pub fn next(map: &[u8], at: usize) -> Walk
+// The walk's step at an offset; none where the bytes are over.
+pub fn next(map: &[u8], at: usize) -> Option<Step>
     ensures { result ≡ walk_at map.now at }
 {
     if map.len() <= at {
-        return Walk::Over;
+        return None;
     }
     let entry = entry_at(map, at);
     let behind = end_of(map, at);
-    Walk::Here { entry, behind }
+    Some(Step { entry, behind })
 }
 
 // Its first step.
-pub fn first(map: &[u8]) -> Walk
+pub fn first(map: &[u8]) -> Option<Step>
     ensures { result ≡ walk_at map.now 0 }
 {
     next(map, 0)

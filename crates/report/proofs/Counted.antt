@@ -1,13 +1,12 @@
 -- What an entry adds to the counts, by its kind and by the block at hand. Assumes nothing.
 use mathlib.Core.Path.{◌≡◌, sym, ap, ◌∙◌}
 use Prim.Native.Nat.{ℕ}
+use Rattle.std.specs.Prelude.{Option, Some, None}
 use lib.Dec.{eqb}
 use borrow.Author.Tests.{eq-eqb, ne_eqb}
 use Rattle.spec.specs.Report.{Totals, join}
 use Rattle.laws.proofs.Branch.{if-true, if-false}
 use Rattle.theorems.proofs.ReportLaws.{Same, same-totals, join-assoc}
-use Rattle.reader.specs.declared.dest.Destination.{Destination}
-use Rattle.reader.specs.declared.dest.Destination.TheVariants.{Missing, At}
 use Rattle.reader.specs.declared.entry.Entry.{Entry}
 use Rattle.reader.specs.declared.entry.Entry.TheVariants.{Way, Record}
 use Rattle.report.specs.Counts.{totals_from, at_place, shut_of, path_of, record_of, adds_of, sees_of, seen_by, opened_by, Shut, Longer, Recorded, Counted}
@@ -38,22 +37,22 @@ module _ {c r : Counts} where
         → Same (totals_from d) (join (totals_from c) (at_place i 1)) → Shut d o r → Counted c o e r
     with-block {o} f i q a h s = record { is = then-more (totals_from c) (at_place i 1) (shut_of o) (same-totals (totals_from d) (join (totals_from c) (at_place i 1)) h) s.is ∙ rw q (ap (join (totals_from c)) (sym a)) }
 
-    pub with-record : {to : Destination} {n : ℕ} (i : ℕ) → record_of to n ≡ join (at_place i 1) (path_of n) → Same (totals_from d) (join (totals_from c) (at_place i 1)) → Longer d n r
+    pub with-record : {to : Option ℕ} {n : ℕ} (i : ℕ) → record_of to n ≡ join (at_place i 1) (path_of n) → Same (totals_from d) (join (totals_from c) (at_place i 1)) → Longer d n r
         → Recorded c to n r
     with-record {to} {n} i a h s = record { is = then-more (totals_from c) (at_place i 1) (path_of n) (same-totals (totals_from d) (join (totals_from c) (at_place i 1)) h) s.is ∙ ap (join (totals_from c)) (sym a) }
 
-  pub way-counted : {o : Open} {e : Entry} {to : Destination} {path n : ℕ} → e ≡ Way to path n → Longer c n r → Counted c o e r
+  pub way-counted : {o : Open} {e : Entry} {to : Option ℕ} {path n : ℕ} → e ≡ Way to path n → Longer c n r → Counted c o e r
   way-counted e s = record { is = s.is ∙ rw e }
 
-  pub record-counted : {o : Open} {e : Entry} {to : Destination} {start form energy path n : ℕ} → e ≡ Record start to form energy path n → Recorded c to n r → Counted c o e r
+  pub record-counted : {o : Open} {e : Entry} {to : Option ℕ} {start path n : ℕ} {energy : Option ℕ} → e ≡ Record start to energy path n → Recorded c to n r → Counted c o e r
   record-counted e s = record { is = s.is ∙ rw e }
 
 -- a record without, and with destination
-module _ {to : Destination} (n : ℕ) where
-  pub nowhere-adds : to ≡ Missing → record_of to n ≡ join (at_place 10 1) (path_of n)
+module _ {to : Option ℕ} (n : ℕ) where
+  pub nowhere-adds : to ≡ None → record_of to n ≡ join (at_place 10 1) (path_of n)
   nowhere-adds q = rw q
 
-  pub found-adds : {t : ℕ} → to ≡ At t → record_of to n ≡ join (at_place 9 1) (path_of n)
+  pub found-adds : {t : ℕ} → to ≡ Some t → record_of to n ≡ join (at_place 9 1) (path_of n)
   found-adds q = rw q
 
 -- ---- the block at hand
@@ -65,12 +64,12 @@ module _ (o : Open) (to : ℕ) where
   pub sees_other : {t : ℕ} → o ≡ Only t → (t ≡ to → ⊥) → Several ≡ sees_of to o
   sees_other {t} e q = sym (ap (sees_of to) e ∙ if-false (eqb t to) (Only t) Several (ne_eqb t to q))
 
-module _ (o : Open) {to : Destination} where
-  pub seen-missing : to ≡ Missing → o ≡ seen_by to o
-  seen-missing e = sym (ap (λ (d : Destination). seen_by d o) e)
+module _ (o : Open) {to : Option ℕ} where
+  pub seen-missing : to ≡ None → o ≡ seen_by to o
+  seen-missing e = sym (ap (λ (d : Option ℕ). seen_by d o) e)
 
-  pub seen_at : (p : Open) {t : ℕ} → to ≡ At t → p ≡ sees_of t o → p ≡ seen_by to o
-  seen_at p e h = h ∙ sym (ap (λ (d : Destination). seen_by d o) e)
+  pub seen_at : (p : Open) {t : ℕ} → to ≡ Some t → p ≡ sees_of t o → p ≡ seen_by to o
+  seen_at p e h = h ∙ sym (ap (λ (d : Option ℕ). seen_by d o) e)
 
-pub way-seen : (o p : Open) (e : Entry) {to : Destination} {path n : ℕ} → e ≡ Way to path n → p ≡ seen_by to o → p ≡ opened_by e o
+pub way-seen : (o p : Open) (e : Entry) {to : Option ℕ} {path n : ℕ} → e ≡ Way to path n → p ≡ seen_by to o → p ≡ opened_by e o
 way-seen o p e q h = h ∙ sym (ap (λ (f : Entry). opened_by f o) q)

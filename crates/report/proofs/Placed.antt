@@ -7,6 +7,7 @@ use native.Mathlib.Nat.{zero-add}
 use native.Mathlib.Numerals.{add-one}
 use native.Mathlib.Omega.{arith}
 use native.Mathlib.Decide.{dec_lt}
+use Rattle.std.specs.Prelude.{Option, Some, None, Ok, Err}
 use lib.Dec.{ltb}
 use lib.ListN.{length, get_or, take, drop, set, length-set}
 use lib.Seq.{take-length, take-suc, take-suc-set, drop-drop, get_or-set_same, get_or-set_other}
@@ -15,13 +16,13 @@ use Rattle.spec.specs.Lists.{if, little, number}
 use Rattle.spec.specs.Eights.{eights, as_eights, all_fit}
 use Rattle.spec.specs.Report.{join, listed, sums, totals_in}
 use Rattle.laws.proofs.Branch.{and-false}
+use Rattle.theorems.proofs.ReaderPlaces.{never}
 use Rattle.laws.proofs.Members.{and-true, gather_append}
 use Rattle.lent.specs.Bytes.{num_at, Holds, Stored}
 use Rattle.lent.proofs.Stored.{stored-none, stored-join}
 use Rattle.report.specs.Numbers.{joined_at, summed}
-use Rattle.report.specs.Merging.{together, Summed}
-use Rattle.report.specs.declared.number.Sum.{Sum}
-use Rattle.report.specs.declared.number.Sum.TheVariants.{Is, TooLarge}
+use Rattle.report.specs.Merging.{together, fitting, Summed}
+use Rattle.refusal.specs.declared.Refusal.TheVariants.{Total}
 use Rattle.report.proofs.Sums.{is_sum, large_sum}
 
 -- ---- the numbers of 8 bytes
@@ -112,6 +113,14 @@ tab-large zero f k l h = absurd (omega arith)
 tab-large (suc n) f zero l h = ap (λ (t : Bool). t && all_fit (tab n (λ k. f (suc k)))) (le-ltb (f 0) (2 ^ 64) h)
 tab-large (suc n) f (suc k) l h = and-false (ltb (f 0) (2 ^ 64)) (tab-large n (λ k. f (suc k)) k (omega arith) h)
 
+-- a sum that is none
+pub no-sum : {r : Option ℕ} → ((v : ℕ) → r ≡ Some v → ⊥) → r ≡ None
+no-sum {r} f = by r f
+  where
+    by : (o : Option ℕ) → ((v : ℕ) → o ≡ Some v → ⊥) → o ≡ None
+    by None f = refl
+    by (Some v) f = absurd (f v refl)
+
 -- ---- joining totals, one a turn
 
 module _ (b ns : List ℕ) where
@@ -135,11 +144,11 @@ module _ (b ns : List ℕ) where
   pub joining-start : length ns ≡ 15 → Joining ns 0
   joining-start l = record { within = omega arith; long = l; done = λ k h. absurd (omega arith); left = λ k h. refl }
 
-  module _ {ns' : List ℕ} {i x : ℕ} {r : Sum} (j : Joining ns' i) (h : i < 13) (g : Holds 8 b (8 * i) x) (e : r ≡ summed (joined_at i x (get_or ns' i 0))) where
+  module _ {ns' : List ℕ} {i x : ℕ} {r : Option ℕ} (j : Joining ns' i) (h : i < 13) (g : Holds 8 b (8 * i) x) (e : r ≡ summed (joined_at i x (get_or ns' i 0))) where
     here-placed : joined_at i x (get_or ns' i 0) ≡ placed i
     here-placed = rw (g.is, j.left i (omega arith))
 
-    pub joining-on : {v : ℕ} → r ≡ Is v → Joining (set ns' i v) (i + 1)
+    pub joining-on : {v : ℕ} → r ≡ Some v → Joining (set ns' i v) (i + 1)
     joining-on {v} q =
         record {
           within = omega arith;
@@ -155,19 +164,19 @@ module _ (b ns : List ℕ) where
             rw z (get_or-set_same ns' i v 0 (omega (arith, j.long)) ∙ s.0 ∙ here-placed, rw (← here-placed) s.1)
         by k l (yes y) = let d = j.done k y in (get_or-set_other ns' i k v 0 (λ z. omega arith) ∙ d.0, d.1)
 
-    pub joining-large : r ≡ TooLarge → Summed b ns ns' false
+    pub joining-large : ((v : ℕ) → r ≡ Some v → ⊥) → Summed b ns ns' (Err Total)
     joining-large q =
         record {
-          fit = sym (ap all_fit sums-placed ∙ tab-large 13 placed i h (rw (← here-placed) (large_sum (joined_at i x (get_or ns' i 0)) e q)));
-          totals = λ z. let k : ◌≡◌ {A = Bool} false true = z in cc;
+          fit = ap fitting (sym (ap all_fit sums-placed ∙ tab-large 13 placed i h (rw (← here-placed) (large_sum (joined_at i x (get_or ns' i 0)) e (no-sum q)))));
+          totals = λ z. never (cc);
           long = j.long;
         }
 
-  pub joining-end : {ns' : List ℕ} {i : ℕ} → Joining ns' i → 13 ≤ i → Summed b ns ns' true
+  pub joining-end : {ns' : List ℕ} {i : ℕ} → Joining ns' i → 13 ≤ i → Summed b ns ns' (Ok tt)
   unfolding sums
   joining-end {ns'} {i} j h =
       record {
-        fit = sym (ap all_fit sums-placed ∙ tab-fits 13 placed (λ k l. (j.done k (omega (arith, j.within))).1));
+        fit = ap fitting (sym (ap all_fit sums-placed ∙ tab-fits 13 placed (λ k l. (j.done k (omega (arith, j.within))).1)));
         totals = λ _. same;
         long = j.long;
       }

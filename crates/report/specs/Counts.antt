@@ -1,11 +1,9 @@
 -- What an entry adds to the totals of its map, as the code has it; by place among the 13. Assumes nothing.
-use Rattle.std.specs.Prelude.{ℕ, ◌-◌, ◌^◌, ◌<◌, ◌≡◌, [], ◌∷◌, ◌++◌, eqb, replicate}
+use Rattle.std.specs.Prelude.{ℕ, ◌-◌, ◌^◌, ◌<◌, ◌≡◌, [], ◌∷◌, ◌++◌, eqb, replicate, Option, Some, None}
 use Rattle.spec.specs.Lists.{if}
 use Rattle.spec.specs.Report.{Totals, listed, nothing_yet, join}
-use Rattle.reader.specs.declared.dest.Destination.{Destination}
-use Rattle.reader.specs.declared.dest.Destination.TheVariants.{Missing, At}
 use Rattle.reader.specs.declared.entry.Entry.{Entry}
-use Rattle.reader.specs.declared.entry.Entry.TheVariants.{Head, Terminate, Jump, Jumpi, DynamicJump, DynamicJumpi, Way, Record, Unknown, Wrong, Cut}
+use Rattle.reader.specs.declared.entry.Entry.TheVariants.{Head, Terminate, Jump, Jumpi, DynamicJump, DynamicJumpi, Way, Record}
 use Rattle.report.specs.declared.count.Counts.{Counts}
 use Rattle.report.specs.declared.count.Open.{Open}
 use Rattle.report.specs.declared.count.Open.TheVariants.{Static, NoneYet, Only, Several}
@@ -62,9 +60,9 @@ shut_of Several = at_place 8 1
 abbrev pub path_of : ℕ → Totals
 path_of n = at_place 11 n
 
-abbrev pub record_of : Destination → ℕ → Totals
-record_of Missing n = join (at_place 10 1) (path_of n)
-record_of (At t) n = join (at_place 9 1) (path_of n)
+abbrev pub record_of : Option ℕ → ℕ → Totals
+record_of None n = join (at_place 10 1) (path_of n)
+record_of (Some t) n = join (at_place 9 1) (path_of n)
 
 -- an entry, with the block at hand before it; the head is counted apart
 abbrev pub adds_of : Entry → Open → Totals
@@ -75,10 +73,7 @@ adds_of (Jumpi s e t f) o = join (at_place 3 1) (shut_of o)
 adds_of (DynamicJump s e n) o = join (at_place 4 1) (shut_of o)
 adds_of (DynamicJumpi s e f n) o = join (at_place 5 1) (shut_of o)
 adds_of (Way to path n) o = path_of n
-adds_of (Record s to form energy path n) o = record_of to n
-adds_of Unknown o = nothing_yet
-adds_of Wrong o = nothing_yet
-adds_of Cut o = nothing_yet
+adds_of (Record s to energy path n) o = record_of to n
 
 -- the counts afterwards: with the block at hand; with a path; with a record; with an entry
 pub record Shut (c : Counts) (o : Open) (r : Counts) : Type 0 where
@@ -87,7 +82,7 @@ pub record Shut (c : Counts) (o : Open) (r : Counts) : Type 0 where
 pub record Longer (c : Counts) (n : ℕ) (r : Counts) : Type 0 where
   pub is : totals_from r ≡ join (totals_from c) (path_of n)
 
-pub record Recorded (c : Counts) (to : Destination) (n : ℕ) (r : Counts) : Type 0 where
+pub record Recorded (c : Counts) (to : Option ℕ) (n : ℕ) (r : Counts) : Type 0 where
   pub is : totals_from r ≡ join (totals_from c) (record_of to n)
 
 pub record Counted (c : Counts) (o : Open) (e : Entry) (r : Counts) : Type 0 where
@@ -100,9 +95,9 @@ sees_of t NoneYet = Only t
 sees_of t (Only u) = if (eqb u t) (Only u) Several
 sees_of t Several = Several
 
-abbrev pub seen_by : Destination → Open → Open
-seen_by Missing o = o
-seen_by (At t) o = sees_of t o
+abbrev pub seen_by : Option ℕ → Open → Open
+seen_by None o = o
+seen_by (Some t) o = sees_of t o
 
 -- the block at hand behind an entry
 abbrev pub opened_by : Entry → Open → Open
@@ -113,10 +108,7 @@ opened_by (Jumpi s e t f) o = Static
 opened_by (DynamicJump s e n) o = NoneYet
 opened_by (DynamicJumpi s e f n) o = NoneYet
 opened_by (Way to path n) o = seen_by to o
-opened_by (Record s to form energy path n) o = o
-opened_by Unknown o = o
-opened_by Wrong o = o
-opened_by Cut o = o
+opened_by (Record s to energy path n) o = o
 
 -- one more has room
 pub record RoomToShut (c : Counts) : Type 0 where

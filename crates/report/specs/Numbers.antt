@@ -1,14 +1,12 @@
 -- Sums of two totals, and a share, as the code has them. Assumes nothing.
-use Rattle.std.specs.Prelude.{ℕ, ◌+◌, ◌^◌, max, eqb, ltb}
+use Rattle.std.specs.Prelude.{ℕ, ◌+◌, ◌^◌, max, eqb, ltb, Option, Some, None}
 use Rattle.spec.specs.Lists.{if}
 use Rattle.spec.specs.Report as definitions
-use Rattle.report.specs.declared.number.Sum.{Sum}
-use Rattle.report.specs.declared.number.Sum.TheVariants.{Is, TooLarge}
 use Rattle.report.specs.declared.share.Share.{Share}
 
 -- a number, if it is of 64 bits
-abbrev pub summed : ℕ → Sum
-summed v = if (ltb v (2 ^ 64)) (Is v) TooLarge
+abbrev pub summed : ℕ → Option ℕ
+summed v = if (ltb v (2 ^ 64)) (Some v) None
 
 -- two totals at a place: the longest path stands at 11
 abbrev pub joined_at : ℕ → ℕ → ℕ → ℕ

@@ -2,12 +2,12 @@
 // "blocks of each kind, dynamic blocks with no destination (unresolved), one, or several distinct ones, records with and without destination, longest
 // path"
 ghost use Rattle.std.specs.Prelude.{◌≡◌};
-ghost use Rattle.report.specs.Counts.{none_counted, Shut, Longer, Recorded, Counted, sees_of, seen_by, opened_by, RoomToShut, Roomy};
+ghost use Rattle.report.specs.Counts.{Shut, Longer, Recorded, Counted, sees_of, seen_by, opened_by, RoomToShut, Roomy};
 
-use reader::{Destination, Entry};
+use reader::Entry;
 
 // The totals of a map, but for the number of maps and the energy.
-#[derive(Clone, Copy)]
+#[derive(Clone, Copy, Default)]
 pub struct Counts {
     pub terminate: usize,
     pub jump: usize,
@@ -31,45 +31,25 @@ pub enum Open {
     Several,
 }
 
-// The totals of no entry.
-pub fn none_counted() -> Counts
-    ensures { result ≡ none_counted }
-{
-    Counts {
-        terminate: 0,
-        jump: 0,
-        jumpi: 0,
-        dynamic_jump: 0,
-        dynamic_jumpi: 0,
-        unresolved: 0,
-        one: 0,
-        several: 0,
-        found: 0,
-        nowhere: 0,
-        longest: 0,
-    }
-}
-
 // The totals once no more 7s of the block at hand can come.
 pub fn shut(counts: Counts, hand: Open) -> Counts
     requires { RoomToShut counts }
     ensures { Shut counts hand result }
 {
-    let mut d = counts;
     match hand {
-        Open::Static => d,
-        Open::NoneYet => {
-            d.unresolved += 1;
-            d
-        }
-        Open::Only(_) => {
-            d.one += 1;
-            d
-        }
-        Open::Several => {
-            d.several += 1;
-            d
-        }
+        Open::Static => counts,
+        Open::NoneYet => Counts {
+            unresolved: counts.unresolved + 1,
+            ..counts
+        },
+        Open::Only(_) => Counts {
+            one: counts.one + 1,
+            ..counts
+        },
+        Open::Several => Counts {
+            several: counts.several + 1,
+            ..counts
+        },
     }
 }
 
@@ -77,29 +57,30 @@ pub fn shut(counts: Counts, hand: Open) -> Counts
 fn longer(counts: Counts, count: usize) -> Counts
     ensures { Longer counts count result }
 {
-    let mut d = counts;
-    if d.longest < count {
-        d.longest = count;
-        return d;
-    }
-    d
+    let longest = counts.longest.max(count);
+    Counts { longest, ..counts }
 }
 
 // The totals with a record among them, by its destination and the length of its path.
-fn recorded(counts: Counts, to: Destination, count: usize) -> Counts
+fn recorded(counts: Counts, to: Option<usize>, count: usize) -> Counts
     requires { Roomy counts }
     ensures { Recorded counts to count result }
 {
-    let mut d = counts;
     match to {
-        Destination::Missing => {
-            d.nowhere += 1;
-            longer(d, count)
-        }
-        Destination::At(_) => {
-            d.found += 1;
-            longer(d, count)
-        }
+        None => longer(
+            Counts {
+                nowhere: counts.nowhere + 1,
+                ..counts
+            },
+            count,
+        ),
+        Some(_) => longer(
+            Counts {
+                found: counts.found + 1,
+                ..counts
+            },
+            count,
+        ),
     }
 }
 
@@ -108,34 +89,45 @@ pub fn counted(counts: Counts, hand: Open, entry: Entry) -> Counts
     requires { Roomy counts }
     ensures { Counted counts hand entry result }
 {
-    let mut d = counts;
     match entry {
         Entry::Terminate { .. } => {
-            d.terminate += 1;
-            shut(d, hand)
+            let more = Counts {
+                terminate: counts.terminate + 1,
+                ..counts
+            };
+            shut(more, hand)
         }
         Entry::Jump { .. } => {
-            d.jump += 1;
-            shut(d, hand)
+            let more = Counts {
+                jump: counts.jump + 1,
+                ..counts
+            };
+            shut(more, hand)
         }
         Entry::Jumpi { .. } => {
-            d.jumpi += 1;
-            shut(d, hand)
+            let more = Counts {
+                jumpi: counts.jumpi + 1,
+                ..counts
+            };
+            shut(more, hand)
         }
         Entry::DynamicJump { .. } => {
-            d.dynamic_jump += 1;
-            shut(d, hand)
+            let more = Counts {
+                dynamic_jump: counts.dynamic_jump + 1,
+                ..counts
+            };
+            shut(more, hand)
         }
         Entry::DynamicJumpi { .. } => {
-            d.dynamic_jumpi += 1;
-            shut(d, hand)
+            let more = Counts {
+                dynamic_jumpi: counts.dynamic_jumpi + 1,
+                ..counts
+            };
+            shut(more, hand)
         }
-        Entry::Way { count, .. } => longer(d, count),
-        Entry::Record { to, count, .. } => recorded(d, to, count),
-        Entry::Head { .. } => d,
-        Entry::Unknown => d,
-        Entry::Wrong => d,
-        Entry::Cut => d,
+        Entry::Way { count, .. } => longer(counts, count),
+        Entry::Record { to, count, .. } => recorded(counts, to, count),
+        Entry::Head { .. } => counts,
     }
 }
 
@@ -147,23 +139,18 @@ fn sees(hand: Open, to: usize) -> Open
     match hand {
         Open::Static => Open::Static,
         Open::NoneYet => Open::Only(to),
-        Open::Only(t) => {
-            if t == to {
-                return Open::Only(t);
-            }
-            Open::Several
-        }
+        Open::Only(t) => { if t == to { hand } else { Open::Several } }
         Open::Several => Open::Several,
     }
 }
 
 // The block at hand with the destination of one of its 7s.
-fn seen(hand: Open, to: Destination) -> Open
+fn seen(hand: Open, to: Option<usize>) -> Open
     ensures { result ≡ seen_by to hand }
 {
     match to {
-        Destination::Missing => hand,
-        Destination::At(t) => sees(hand, t),
+        None => hand,
+        Some(t) => sees(hand, t),
     }
 }
 
@@ -172,16 +159,10 @@ pub fn opened(hand: Open, entry: Entry) -> Open
     ensures { result ≡ opened_by entry hand }
 {
     match entry {
-        Entry::Terminate { .. } => Open::Static,
-        Entry::Jump { .. } => Open::Static,
-        Entry::Jumpi { .. } => Open::Static,
+        Entry::Terminate { .. } | Entry::Jump { .. } | Entry::Jumpi { .. } => Open::Static,
         Entry::DynamicJump { .. } => Open::NoneYet,
         Entry::DynamicJumpi { .. } => Open::NoneYet,
         Entry::Way { to, .. } => seen(hand, to),
-        Entry::Record { .. } => hand,
-        Entry::Head { .. } => hand,
-        Entry::Unknown => hand,
-        Entry::Wrong => hand,
-        Entry::Cut => hand,
+        Entry::Head { .. } | Entry::Record { .. } => hand,
     }
 }

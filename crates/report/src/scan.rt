@@ -5,62 +5,45 @@ ghost use Rattle.spec.specs.Reader.{read};
 ghost use Rattle.report.specs.Counts.{RoomToShut};
 ghost use Rattle.report.specs.Scanning.{Headed, closed_of, pass_of, numbers_of};
 
-use crate::count::{Counts, Open, counted, none_counted, opened, shut};
-use reader::{Order, Passed, Scan, entry_at, last, one};
+use crate::count::{Counts, Open, counted, opened, shut};
+use crate::merge::NUMBERS;
+use reader::{BadEntry, Head, Scan, begin, entry_at, last, one};
 
-// A map's totals; or it is refused, with the offset of its first bad entry, and what was counted is dropped.
-#[derive(Clone, Copy)]
-pub enum Pass {
-    Whole(Counts),
-    Bad(usize),
-}
-
-// At the end: the reader's last judgement, and then the block at hand.
-fn closed(scan: Scan, blocks: usize, records: usize, counts: Counts, hand: Open) -> Pass
+// At the end: the reader's last judgement, and then the block at hand. Of a map that is refused what was counted is dropped.
+fn closed(
+    scan: Scan,
+    blocks: usize,
+    records: usize,
+    counts: Counts,
+    hand: Open,
+) -> Result<Counts, BadEntry>
     requires { RoomToShut counts }
     ensures { result ≡ closed_of scan blocks records counts hand }
 {
-    let reading = last(scan, blocks, records);
-    if reading.number != 0 {
-        return Pass::Bad(reading.offset);
-    }
-    Pass::Whole(shut(counts, hand))
+    last(scan, blocks, records)?;
+    Ok(shut(counts, hand))
 }
 
-// The entries behind the head, one a turn, with the head's counts.
-pub fn entries(map: &[u8], from: usize, blocks: usize, records: usize) -> Pass
-    requires { Headed map.now from blocks records }
+// The entries behind the head, one a turn.
+pub fn entries(map: &[u8], head: Head) -> Result<Counts, BadEntry>
+    requires { Headed map.now head.behind head.blocks head.records }
     ensures { result ≡ pass_of (read map.now) }
 {
-    let mut scan = Scan {
-        at: from,
-        place: Order::Blocks { low: 0 },
-        blocks: 0,
-        records: 0,
-    };
-    let mut counts = none_counted();
+    let mut scan = begin(head.behind);
+    let mut counts = Counts::default();
     let mut hand = Open::Static;
-    loop {
-        let at = scan.at;
-        if map.len() <= at {
-            return closed(scan, blocks, records, counts, hand);
-        }
-        let entry = entry_at(map, at);
-        match one(map, scan) {
-            Passed::On(next) => {
-                counts = counted(counts, hand, entry);
-                hand = opened(hand, entry);
-                scan = next;
-            }
-            Passed::Bad(offset) => {
-                return Pass::Bad(offset);
-            }
-        }
+    while scan.at < map.len() {
+        let entry = entry_at(map, scan.at);
+        scan = one(map, scan)?;
+        let Ok(entry) = entry else { unreachable!() };
+        counts = counted(counts, hand, entry);
+        hand = opened(hand, entry);
     }
+    closed(scan, head.blocks, head.records, counts, hand)
 }
 
 // The totals of a map, with its energy, as the numbers of its report; those of its share are not worked out.
-pub fn numbers_of(counts: Counts, energy: usize) -> [usize; 15]
+pub fn numbers_of(counts: Counts, energy: usize) -> [usize; NUMBERS]
     ensures { result ≡ numbers_of counts energy }
 {
     [

@@ -37,9 +37,9 @@ use Rattle.reachable.proofs.Spreading.{room-but, within-but}
 use Rattle.steps.specs.Runs.{recs_in}
 use Rattle.enter.specs.Fits.{prepared_in}
 use Rattle.resolver.specs.Turns.{Idle, HandsOver, dests_from, HandedAll}
-use Rattle.steps.specs.Plans.{Plan}
+use Rattle.steps.specs.declared.plan.Plan.{Plan}
 use Rattle.steps.proofs.Helds.{helds-past}
-use Rattle.steps.specs.declared.Run.{Run}
+use Rattle.steps.specs.Goings.{Gone}
 use Rattle.resolver.proofs.Destinations.{dest_at, dests-more, dests-split}
 
 -- ---- the destinations of the records, by their rows
@@ -73,11 +73,11 @@ marked m by l h = and-true (ltb 0 m) (leb m by) (lt-ltb 0 m l) (le-leb m by h)
 
 -- ---- after `hand_all`
 
-module _ {code : List ℕ} {k : Plan} {since : ℕ} {w p s t r q : List ℕ} {cur : Run}
+module _ {code : List ℕ} {k : Plan} {since : ℕ} {w p s t r q : List ℕ} {cur : Gone}
     (i : Idle code k (reached_by (prepared_in k code) (take since (recs_in k (buffers w p s t r q) cur.counts))) since (buffers w p s t r q) cur)
-    (f : (x : ℕ) → mem x (flagged w k.n) ≡ mem x (reached_by (prepared_in k code) (take since (recs_in k (buffers w p s t r q) cur.counts)))) where
+    (f : (x : ℕ) → mem x (flagged w k.size) ≡ mem x (reached_by (prepared_in k code) (take since (recs_in k (buffers w p s t r q) cur.counts)))) where
   -- what it asks
-  pub renew-settles : HandsOver k.n w r since cur.counts.records
+  pub renew-settles : HandsOver k.size w r since cur.counts.records
   renew-settles = record {
     lent = i.planned.lent_w;
     within = i.within;
@@ -89,7 +89,7 @@ module _ {code : List ℕ} {k : Plan} {since : ℕ} {w p s t r q : List ℕ} {cu
     goes = λ j l. goes j (i.tables.goes j l);
   }
     where
-      goes : (j : ℕ) → Goes k.n k.rooms.s r s j → (to_at r j ≡ NOWHERE) ⊎ (to_at r j ≤ k.n)
+      goes : (j : ℕ) → Goes k.size k.rooms.s r s j → (to_at r j ≡ NOWHERE) ⊎ (to_at r j ≤ k.size)
       goes j (leads_nowhere e g) = inl e
       goes j (leads e g) = inr e
 
@@ -99,8 +99,8 @@ module _ {code : List ℕ} {k : Plan} {since : ℕ} {w p s t r q : List ℕ} {cu
   abbrev records : ℕ
   records = cur.counts.records
 
-  same_edges : row_edges w k.n ≡ edges (prepared_in k code)
-  same_edges = node-edges w k.n (prepared_in k code) (rw i.planned.is i.known.blocks)
+  same_edges : row_edges w k.size ≡ edges (prepared_in k code)
+  same_edges = node-edges w k.size (prepared_in k code) (rw i.planned.is i.known.blocks)
 
   -- the older records' destinations, and the others'
   dests-parts : dests recs ≡ dests (take since recs) ++ dests_from r since (records - since)
@@ -110,12 +110,12 @@ module _ {code : List ℕ} {k : Plan} {since : ℕ} {w p s t r q : List ℕ} {cu
       dests-of r q s k.rooms.s records
       ∙ rw (recs-first r q s k.rooms.s since records i.began, dests-of r q s k.rooms.s since) (rw (e, z) at (dests-split r 0 since (records - since)))
 
-  module _ {w' : List ℕ} (e : HandedAll k.n w r since cur.counts.records w') where
-    pub renew-flags : (x : ℕ) → mem x (flagged w' k.n) ≡ mem x (reached_by (prepared_in k code) recs)
+  module _ {w' : List ℕ} (e : HandedAll k.size w r since cur.counts.records w') where
+    pub renew-flags : (x : ℕ) → mem x (flagged w' k.size) ≡ mem x (reached_by (prepared_in k code) recs)
     renew-flags x =
         e.reached x
         ∙ rw same_edges
-        (closure-round (edges (prepared_in k code)) (dests_from r since (records - since)) (0 ∷ dests (take since recs)) (flagged w k.n) f x
+        (closure-round (edges (prepared_in k code)) (dests_from r since (records - since)) (0 ∷ dests (take since recs)) (flagged w k.size) f x
         ∙ closure-members (edges (prepared_in k code)) (dests_from r since (records - since) ++ 0 ∷ dests (take since recs)) (0 ∷ dests recs) members x)
       where
         swap : (a b c : Bool) → b || (a || c) ≡ a || (c || b)
@@ -135,56 +135,56 @@ module _ {code : List ℕ} {k : Plan} {since : ℕ} {w p s t r q : List ℕ} {cu
     dest-reached : (a : ℕ) → mem a (dests recs) ≡ true → mem a (reached_by (prepared_in k code) recs) ≡ true
     dest-reached a h = closure-complete (edges (prepared_in k code)) (0 ∷ dests recs) a (seed (or_right (eqb a 0) (mem a (dests recs)) h))
 
-    was-reached : (a : ℕ) → mem a (flagged w k.n) ≡ true → mem a (flagged w' k.n) ≡ true
+    was-reached : (a : ℕ) → mem a (flagged w k.size) ≡ true → mem a (flagged w' k.size) ≡ true
     was-reached a h =
         e.reached a
-        ∙ closure-complete (row_edges w k.n) (dests_from r since (records - since) ++ flagged w k.n) a
-        (seed (in_mem a (in_right (dests_from r since (records - since)) (mem-in a (flagged w k.n) h))))
+        ∙ closure-complete (row_edges w k.size) (dests_from r since (records - since) ++ flagged w k.size) a
+        (seed (in_mem a (in_right (dests_from r since (records - since)) (mem-in a (flagged w k.size) h))))
 
     all-taken : take records recs ≡ recs
     all-taken = recs-first r q s k.rooms.s records records (omega arith)
 
-    marks-before : (a : ℕ) → a ≤ k.n → marked_by w k.n a (records + 1) ≡ mem a (flagged w k.n) || mem a (dests recs)
+    marks-before : (a : ℕ) → a ≤ k.size → marked_by w k.size a (records + 1) ≡ mem a (flagged w k.size) || mem a (dests recs)
     marks-before a h = i.marks.by records i.began (omega (arith, recs-length r q s k.rooms.s records)) a h ∙ rw (f a, all-taken)
 
     -- an address has a mark if and only if it is flagged
-    mark-flag : (a : ℕ) → a ≤ k.n → marked_by w' k.n a (records + 1) ≡ mem a (flagged w' k.n)
-    mark-flag a h = same_test (to (decided (mem a (flagged w' k.n)))) (from (ℕ_discrete (mark_at w k.n a) 0))
+    mark-flag : (a : ℕ) → a ≤ k.size → marked_by w' k.size a (records + 1) ≡ mem a (flagged w' k.size)
+    mark-flag a h = same_test (to (decided (mem a (flagged w' k.size)))) (from (ℕ_discrete (mark_at w k.size a) 0))
       where
-        to : (mem a (flagged w' k.n) ≡ true) ⊎ (mem a (flagged w' k.n) ≡ false) → marked_by w' k.n a (records + 1) ≡ true → mem a (flagged w' k.n) ≡ true
+        to : (mem a (flagged w' k.size) ≡ true) ⊎ (mem a (flagged w' k.size) ≡ false) → marked_by w' k.size a (records + 1) ≡ true → mem a (flagged w' k.size) ≡ true
         to (inl y) m = y
         to (inr off) m =
-            let same : mark_at w' k.n a ≡ mark_at w k.n a = e.marks a h ∙ if-false _ _ _ (rw off) in
-            let before : marked_by w k.n a (records + 1) ≡ true = rw same at m in
-            either (or_cases (mem a (flagged w k.n)) (mem a (dests recs)) (sym (marks-before a h) ∙ before))
+            let same : mark_at w' k.size a ≡ mark_at w k.size a = e.marks a h ∙ if-false _ _ _ (rw off) in
+            let before : marked_by w k.size a (records + 1) ≡ true = rw same at m in
+            either (or_cases (mem a (flagged w k.size)) (mem a (dests recs)) (sym (marks-before a h) ∙ before))
           where
-            either : (mem a (flagged w k.n) ≡ true) ⊎ (mem a (dests recs) ≡ true) → mem a (flagged w' k.n) ≡ true
+            either : (mem a (flagged w k.size) ≡ true) ⊎ (mem a (dests recs) ≡ true) → mem a (flagged w' k.size) ≡ true
             either (inl y) = was-reached a y
             either (inr y) = renew-flags a ∙ dest-reached a y
 
-        from : Dec (mark_at w k.n a ≡ 0) → mem a (flagged w' k.n) ≡ true → marked_by w' k.n a (records + 1) ≡ true
+        from : Dec (mark_at w k.size a ≡ 0) → mem a (flagged w' k.size) ≡ true → marked_by w' k.size a (records + 1) ≡ true
         from (no ne) y =
-            let same : mark_at w' k.n a ≡ mark_at w k.n a = e.marks a h ∙ if-false _ _ _ (and-false (mem a (flagged w' k.n) && not (mem a (flagged w k.n))) (ne_eqb _ 0 ne)) in
-            rw same (marked (mark_at w k.n a) (records + 1) (omega (arith, ne)) (omega (arith, i.marks.most a h, recs-length r q s k.rooms.s records)))
+            let same : mark_at w' k.size a ≡ mark_at w k.size a = e.marks a h ∙ if-false _ _ _ (and-false (mem a (flagged w' k.size) && not (mem a (flagged w k.size))) (ne_eqb _ 0 ne)) in
+            rw same (marked (mark_at w k.size a) (records + 1) (omega (arith, ne)) (omega (arith, i.marks.most a h, recs-length r q s k.rooms.s records)))
         from (yes z) y =
-            let new : mark_at w' k.n a ≡ records + 1 = e.marks a h ∙ if-true _ _ _ (rw (y, fresh (decided (mem a (flagged w k.n))), eq-eqb _ 0 z)) in
+            let new : mark_at w' k.size a ≡ records + 1 = e.marks a h ∙ if-true _ _ _ (rw (y, fresh (decided (mem a (flagged w k.size))), eq-eqb _ 0 z)) in
             rw new (marked (records + 1) (records + 1) (omega arith) (omega arith))
           where
-            fresh : (mem a (flagged w k.n) ≡ true) ⊎ (mem a (flagged w k.n) ≡ false) → mem a (flagged w k.n) ≡ false
+            fresh : (mem a (flagged w k.size) ≡ true) ⊎ (mem a (flagged w k.size) ≡ false) → mem a (flagged w k.size) ≡ false
             fresh (inr off) = off
             fresh (inl on) =
-                let m : marked_by w k.n a (records + 1) ≡ true = marks-before a h ∙ rw on in
-                absurd (omega (arith, z, ltb-true 0 (mark_at w k.n a) (and_both (ltb 0 (mark_at w k.n a)) _ m).0))
+                let m : marked_by w k.size a (records + 1) ≡ true = marks-before a h ∙ rw on in
+                absurd (omega (arith, z, ltb-true 0 (mark_at w k.size a) (and_both (ltb 0 (mark_at w k.size a)) _ m).0))
 
     -- the fields of others stay
-    num-fields : (n a o : ℕ) → a ≤ k.n → FIRST-FOUND ≤ o → o + n ≤ HIGHEST → num_at n w' (fields_place k.n a + o) ≡ num_at n w (fields_place k.n a + o)
-    num-fields n a o h l m = num-in w' w 12 (fields_place k.n a + FIRST-FOUND) (e.kept.fields a h) n (fields_place k.n a + o) (omega arith) (omega arith)
+    num-fields : (n a o : ℕ) → a ≤ k.size → FIRST-FOUND ≤ o → o + n ≤ HIGHEST → num_at n w' (fields_place k.size a + o) ≡ num_at n w (fields_place k.size a + o)
+    num-fields n a o h l m = num-in w' w 12 (fields_place k.size a + FIRST-FOUND) (e.kept.fields a h) n (fields_place k.size a + o) (omega arith) (omega arith)
 
-    links-kept : SameLinks k.n k.buckets w w'
+    links-kept : SameLinks k.size k.buckets w w'
     links-kept = record {
       firsts = λ a h. num-fields 4 a FIRST-FOUND h (omega arith) (omega arith);
       lasts = λ a h. num-fields 4 a LAST-FOUND h (omega arith) (omega arith);
-      heads = λ h l. num-suffix w' w (buckets_place k.n) e.kept.beyond 4 (bucket_place k.n h) (omega arith);
+      heads = λ h l. num-suffix w' w (buckets_place k.size) e.kept.beyond 4 (bucket_place k.size h) (omega arith);
       long = e.kept.long;
     }
 
@@ -196,11 +196,10 @@ module _ {code : List ℕ} {k : Plan} {since : ℕ} {w p s t r q : List ℕ} {cu
         lent_w = room-but e.kept i.planned.lent_w;
         ends = omega (arith, i.planned.ends, e.kept.long);
         scratch = i.planned.scratch;
-        helds = helds-past (buckets_place k.n) (omega arith) e.kept.beyond e.kept.long i.planned.helds;
+        helds = helds-past (buckets_place k.size) (omega arith) e.kept.beyond e.kept.long i.planned.helds;
         lent_p = i.planned.lent_p;
         most_p = i.planned.most_p;
         shelves = i.planned.shelves;
-        moded = i.planned.moded;
       };
       tables = tables-kept i.tables w' s links-kept refl refl cur.counts.used cur.counts.rows i.tables.within.fits_s;
       remembers = i.remembers;
@@ -218,8 +217,8 @@ module _ {code : List ℕ} {k : Plan} {since : ℕ} {w p s t r q : List ℕ} {cu
       dests_in = λ a h. dest-reached a (rw all-taken at h);
     }
       where
-        by : (j : ℕ) → records ≤ j → j ≤ length recs → (a : ℕ) → a ≤ k.n
-            → marked_by w' k.n a (j + 1) ≡ mem a (reached_by (prepared_in k code) recs) || mem a (dests (take j recs))
+        by : (j : ℕ) → records ≤ j → j ≤ length recs → (a : ℕ) → a ≤ k.size
+            → marked_by w' k.size a (j + 1) ≡ mem a (reached_by (prepared_in k code) recs) || mem a (dests (take j recs))
         by j l m a h =
             let is : j ≡ records = omega (arith, recs-length r q s k.rooms.s records) in
             rw (is, all-taken) (mark-flag a h ∙ renew-flags a ∙ absorb (mem a (reached_by (prepared_in k code) recs)) (mem a (dests recs)) (dest-reached a))
@@ -229,7 +228,7 @@ module _ {code : List ℕ} {k : Plan} {since : ℕ} {w p s t r q : List ℕ} {cu
             absorb false true g = g refl
             absorb false false g = refl
 
-        most : (a : ℕ) → a ≤ k.n → mark_at w' k.n a ≤ length recs + 1
+        most : (a : ℕ) → a ≤ k.size → mark_at w' k.size a ≤ length recs + 1
         most a h =
             rw (e.marks a h)
             (both (λ (m : ℕ). m ≤ length recs + 1) _ (λ _. omega (arith, recs-length r q s k.rooms.s records)) (λ _. i.marks.most a h))

@@ -1,14 +1,12 @@
 -- The loop of `gather`: the targets of more and more records come into the batch. Assumes nothing.
 use mathlib.Core.Path.{◌≡◌, refl, sym, ◌∙◌}
-use mathlib.Core.Bool.{true, false}
 use mathlib.Core.List.{List, [], ◌∷◌, ◌++◌, append-nil}
 use Prim.Native.Nat.{ℕ, suc, ◌+◌, ◌-◌, ◌≤◌, ◌<◌}
 use native.Mathlib.Numerals.{add-one}
 use native.Mathlib.Omega.{arith}
-use lib.Dec.{ltb}
 use lib.ListN.{length, take, set, length-set}
 use lib.Seq.{take-suc-set}
-use borrow.Author.Tests.{ltb-true, ltb-false, eq-eqb, ne_eqb}
+use borrow.Author.Tests.{eq-eqb, ne_eqb}
 use Rattle.laws.proofs.Branch.{if-true, if-false}
 use Rattle.lent.specs.Bytes.{Holds}
 use Rattle.layout.specs.Marks.{NOWHERE}
@@ -67,9 +65,8 @@ module _ {r batch : List ℕ} {from records many i to : ℕ} (g : Gathering r fr
         long = g.long;
       }
 
-  pub gather-turn : ltb many 64 ≡ true → (to ≡ NOWHERE → ⊥) → Gathering r from records (many + 1) (i + 1) (set batch many to)
+  pub gather-turn : (many ≡ 64 → ⊥) → (to ≡ NOWHERE → ⊥) → Gathering r from records (many + 1) (i + 1) (set batch many to)
   gather-turn test ne =
-      let room = ltb-true many 64 test in
       let e : dest_at r i ≡ to ∷ [] = rw (← h.is) (if-false _ _ _ (ne_eqb _ _ ne)) in
       record {
         order = g.order;
@@ -77,26 +74,25 @@ module _ {r batch : List ℕ} {from records many i to : ℕ} (g : Gathering r fr
         small = g.small;
         begun = omega (arith, g.begun);
         most = omega arith;
-        few = omega arith;
+        few = omega (arith, g.few, test);
         each = omega (arith, g.each);
-        are = rw (add-one many, take-suc-set batch many to (omega (arith, g.long)), next-dests, e, g.are) refl;
+        are = rw (add-one many, take-suc-set batch many to (omega (arith, g.long, g.few, test)), next-dests, e, g.are) refl;
         long = length-set batch many to ∙ g.long;
       }
 
 module _ {r batch : List ℕ} {from records many i : ℕ} (g : Gathering r from records many i batch) where
   -- no record is left
-  pub gather-out : records ≤ i → Gathered r from records batch (record { many = many; next = i })
-  gather-out h = record {
+  pub gather-out : records ≤ i → Gathered r from records batch (record { many = many; next = records })
+  gather-out h = let end : i ≡ records = omega (arith, g.most) in record {
     on = omega (arith, g.order);
-    most = g.most;
-    are = g.are;
+    most = omega arith;
+    are = rw end at g.are;
     few = g.few;
     full = λ l. absurd (omega arith);
     long = g.long;
   }
 
   -- the batch is full
-  pub gather-full : ltb many 64 ≡ false → Gathered r from records batch (record { many = many; next = i })
-  gather-full test =
-      let h = ltb-false many 64 test in
+  pub gather-full : many ≡ 64 → Gathered r from records batch (record { many = many; next = i })
+  gather-full h =
       record { on = omega (arith, g.each); most = g.most; are = g.are; few = g.few; full = λ l. omega (arith, g.few); long = g.long }

@@ -23,12 +23,12 @@ use Rattle.tables.proofs.Alike.{AllBytes, AllLong, OneTables, one-tables}
 use Rattle.reachable.specs.Marks.{flagged, marked_by}
 use Rattle.reachable.proofs.Raising.{highest-once}
 use Rattle.steps.specs.Runs.{tabled, recs_in}
-use Rattle.steps.specs.declared.Run.{Run}
+use Rattle.steps.specs.Goings.{Gone}
 use Rattle.enter.proofs.Once.{marked-too}
 use Rattle.resolver.specs.Turns.{last_since, plan, Searched}
 
 -- what two results share where the number is 0
-pub record OneSearch (mode : Mode) (code : List ℕ) (limit many : ℕ) (m m' m'' : Mem) (d e : Run) : Type 0 where
+pub record OneSearch (mode : Mode) (code : List ℕ) (limit many : ℕ) (m m' m'' : Mem) (d e : Gone) : Type 0 where
   pub run : d ≡ e
   pub recs : recs_in (plan mode code limit many m) m' d.counts ≡ recs_in (plan mode code limit many m) m'' d.counts
   pub tables : OneTables (length code) (plan mode code limit many m).buckets (plan mode code limit many m).rooms d.counts (tabled m') (tabled m'')
@@ -39,7 +39,7 @@ pub record OneSearch (mode : Mode) (code : List ℕ) (limit many : ℕ) (m m' m'
   pub flags : (x : ℕ) → mem x (flagged m'.w (length code)) ≡ mem x (flagged m''.w (length code))
   pub reached : (a : ℕ) → a ≤ length code → marked_by m'.w (length code) a (d.counts.records + 1) ≡ marked_by m''.w (length code) a (d.counts.records + 1)
 
-module _ {mode : Mode} {code : List ℕ} {limit many : ℕ} {m m' m'' : Mem} {d e : Run} (f : Searched mode code limit many m m' d) (g : Searched mode code limit many m m'' e) where
+module _ {mode : Mode} {code : List ℕ} {limit many : ℕ} {m m' m'' : Mem} {d e : Gone} (f : Searched mode code limit many m m' d) (g : Searched mode code limit many m m'' e) where
   pub one_code : d.code ≡ e.code
   one_code =
       let l : Lent = record { w = 0; p = length m.p; s = length m.s; t = length m.t; r = length m.r; q = length m.q; out = 0 } in

@@ -28,12 +28,11 @@ use Rattle.parents.proofs.Chains.{walk-takers, end-takers, takers-prefix}
 use Rattle.reachable.specs.Marks.{flagged, marked_by}
 use Rattle.reachable.specs.Promises.{Address}
 use Rattle.steps.specs.Runs.{recs_in, st_of, Did}
-use Rattle.steps.specs.Plans.{Plan}
-use Rattle.steps.specs.declared.Run.{Run}
+use Rattle.steps.specs.declared.plan.Plan.{Plan}
+use Rattle.steps.specs.Goings.{Gone}
 use Rattle.enter.specs.Fits.{prepared_in}
 use Rattle.resolver.specs.Turns.{Idle, Passed, TurnAsks, Turned, RoundAsks, Rounded}
 use Rattle.levels.proofs.Sequence.{did_then, did-stops, did-same}
-use Rattle.levels.proofs.SixLengths.{Long, long_same, long-then}
 use Rattle.resolver.proofs.PassedRefused.{passed-refused}
 
 -- ---- document 01's round, one block at a time
@@ -77,8 +76,8 @@ module _ (limit : ℕ) (stored : List Parent) (reached : List ℕ) where
 
 -- ---- "the starts reached when it began" are those marked
 
-marked-is : {code : List ℕ} {k : Plan} {reached : List ℕ} {since a : ℕ} {m : Mem} {o : Run} → Idle code k reached since m o → a ≤ k.n
-    → marked_by m.w k.n a (since + 1) ≡ mem a reached
+marked-is : {code : List ℕ} {k : Plan} {reached : List ℕ} {since a : ℕ} {m : Mem} {o : Gone} → Idle code k reached since m o → a ≤ k.size
+    → marked_by m.w k.size a (since + 1) ≡ mem a reached
 marked-is {k = k} {reached} {since} {a} {m} {o} idle h =
     let long = recs-length m.r m.q m.s k.rooms.s o.counts.records in
     idle.marks.by since (omega arith) (omega (arith, long, idle.began)) a h ∙ absorbed (mem a reached) (mem a (dests (take since (recs_in k m o.counts)))) (idle.dests_in a)
@@ -91,30 +90,28 @@ marked-is {k = k} {reached} {since} {a} {m} {o} idle h =
 -- ---- the loop
 
 -- what the blocks that are left do from here ends where the whole round ends
-pub record Went (code : List ℕ) (k : Plan) (reached : List ℕ) (ahead : List Taker) (m₀ : Mem) (o₀ : Run) (m : Mem) (o : Run) : Type 0 where
+pub record Went (code : List ℕ) (k : Plan) (reached : List ℕ) (ahead : List Taker) (m₀ : Mem) (o₀ : Gone) (m : Mem) (o : Gone) : Type 0 where
   pub idle : Idle code k reached o₀.counts.records m o
   pub rest : (y : ℕ) (b : St) → Did k.rooms (round k.limit (direct (prepared_in k code)) reached ahead) (st_of k m o) y b
       → Did k.rooms (round k.limit (direct (prepared_in k code)) reached (takers (prepared_in k code))) (st_of k m₀ o₀) y b
-  pub flags : flagged m.w k.n ≡ flagged m₀.w k.n
-  pub rows : SameRows k.n m₀.w m.w
+  pub flags : flagged m.w k.size ≡ flagged m₀.w k.size
+  pub rows : SameRows k.size m₀.w m.w
   pub beyond : drop k.end m.w ≡ drop k.end m₀.w
   pub older : take o₀.counts.records (recs_in k m o.counts) ≡ recs_in k m₀ o₀.counts
 
-pub record Going (code : List ℕ) (k : Plan) (m₀ : Mem) (o₀ : Run) (by : ℕ) (m : Mem) (o : Run) (left : ℕ) : Type 0 where
+pub record Going (code : List ℕ) (k : Plan) (m₀ : Mem) (o₀ : Gone) (by : ℕ) (m : Mem) (o : Gone) (left : ℕ) : Type 0 where
   pub ahead : List Taker
   pub entries : Takers m.w (length code) left (map turn_of ahead)
   pub among : (x : Taker) → In x ahead → In x (takers (prepared_in k code))
-  pub long : Long m₀ m
   pub by_is : by ≡ o₀.counts.records + 1
   pub went : (reached : List ℕ) → Idle code k reached o₀.counts.records m₀ o₀ → Went code k reached ahead m₀ o₀ m o
 
-pub round-begins : {code : List ℕ} {k : Plan} {m : Mem} {o : Run} {by : ℕ} → RoundAsks code k m o → by ≡ o.counts.records + 1 → Going code k m o by m o k.many
+pub round-begins : {code : List ℕ} {k : Plan} {m : Mem} {o : Gone} {by : ℕ} → RoundAsks code k m o → by ≡ o.counts.records + 1 → Going code k m o by m o k.takers
 round-begins {code} {k} {m} {o} a e =
     record {
       ahead = takers (prepared_in k code);
       entries = a.idle.known.takers;
       among = λ x i. i;
-      long = long_same;
       by_is = e;
       went = λ reached idle. record {
         idle = idle;
@@ -163,7 +160,7 @@ next ahead c n =
 
 -- ---- a turn of the loop
 
-module _ {code : List ℕ} {k : Plan} {m₀ m : Mem} {o₀ o : Run} {by left : ℕ} (g : Going code k m₀ o₀ by m o left) (some : left ≡ 0 → ⊥) where
+module _ {code : List ℕ} {k : Plan} {m₀ m : Mem} {o₀ o : Gone} {by left : ℕ} (g : Going code k m₀ o₀ by m o left) (some : left ≡ 0 → ⊥) where
   this : Next code m.w g.ahead left
   this = next g.ahead g.entries some
 
@@ -179,7 +176,7 @@ module _ {code : List ℕ} {k : Plan} {m₀ m : Mem} {o₀ o : Run} {by left : �
   round-row a = let p = (g.went a.reached a.idle).idle.planned in omega (arith, this.row, p.is, p.lent_w.room)
 
   module _ {start : ℕ} (at : Number start (taker_at m.w (left - 1)) 2) where
-    pub round-address : RoundAsks code k m₀ o₀ → Address k.n m.w start
+    pub round-address : RoundAsks code k m₀ o₀ → Address k.size m.w start
     round-address a =
         let p = (g.went a.reached a.idle).idle.planned in
         record { lent = p.lent_w; inside = omega (arith, this.inside, p.is, at.is) }
@@ -205,10 +202,10 @@ module _ {code : List ℕ} {k : Plan} {m₀ m : Mem} {o₀ o : Run} {by left : �
     w : Went code k reached (this.x ∷ this.xs) m₀ o₀ m o
     w = subst (λ (l : List Taker). Went code k reached l m₀ o₀ m o) this.is (g.went reached idle)
 
-    reached-is : {start : ℕ} → Number start (taker_at m.w (left - 1)) 2 → marked_by m.w k.n start by ≡ mem this.x.start reached
+    reached-is : {start : ℕ} → Number start (taker_at m.w (left - 1)) 2 → marked_by m.w k.size start by ≡ mem this.x.start reached
     reached-is {start} at =
         let p = w.idle.planned in
-        ap (marked_by m.w k.n start) g.by_is ∙ marked-is w.idle (omega (arith, this.inside, p.is, at.is))
+        ap (marked_by m.w k.size start) g.by_is ∙ marked-is w.idle (omega (arith, this.inside, p.is, at.is))
         ∙ ap (λ (a : ℕ). mem a reached) (sym (start_is at))
 
     spent : (mid : St) → clear mid ≡ st_of k m o → mid.energy ≡ o.energy
@@ -235,14 +232,13 @@ module _ {code : List ℕ} {k : Plan} {m₀ m : Mem} {o₀ o : Run} {by left : �
         ahead = this.xs;
         entries = this.entries;
         among = others;
-        long = g.long;
         by_is = g.by_is;
         went = λ reached idle.
             let v = w idle in
             record { idle = v.idle; rest = λ y b d. v.rest y b (skips idle (h reached idle) d); flags = v.flags; rows = v.rows; beyond = v.beyond; older = v.older };
       }
 
-  pub round-skips : {start : ℕ} {b : Bool} → Number start (taker_at m.w (left - 1)) 2 → b ≡ marked_by m.w k.n start by → b ≡ false
+  pub round-skips : {start : ℕ} {b : Bool} → Number start (taker_at m.w (left - 1)) 2 → b ≡ marked_by m.w k.size start by → b ≡ false
       → Going code k m₀ o₀ by m o (left - 1)
   round-skips at f z = passes (λ reached idle. inl (sym (reached-is idle at) ∙ sym f ∙ z))
 
@@ -251,7 +247,7 @@ module _ {code : List ℕ} {k : Plan} {m₀ m : Mem} {o₀ o : Run} {by left : �
 
   -- where it does
 
-  module _ {start : ℕ} {b : Bool} {m' : Mem} {d : Run} (at : Number start (taker_at m.w (left - 1)) 2) (f : b ≡ marked_by m.w k.n start by) (marked : b ≡ true)
+  module _ {start : ℕ} {b : Bool} {m' : Mem} {d : Gone} (at : Number start (taker_at m.w (left - 1)) 2) (f : b ≡ marked_by m.w k.size start by) (marked : b ≡ true)
       (low : o.energy < k.limit) (turned : Turned code k start m o m' d) where
     came : {reached : List ℕ} → Idle code k reached o₀.counts.records m₀ o₀
         → Passed code k reached o₀.counts.records (turn k.limit (turn_for (direct (prepared_in k code)) reached this.x) this.x.position) m o m' d
@@ -281,8 +277,8 @@ module _ {code : List ℕ} {k : Plan} {m₀ m : Mem} {o₀ o : Run} {by left : �
             older = sym (take-take o₀.counts.records o.counts.records (recs_in k m' d.counts) v.idle.began) ∙ ap (take o₀.counts.records) (c.older z) ∙ v.older;
           }
 
-      pub round-goes-on : RoundAsks code k m₀ o₀ → Long m m' → Going code k m₀ o₀ by m' d (left - 1)
-      round-goes-on a long =
+      pub round-goes-on : RoundAsks code k m₀ o₀ → Going code k m₀ o₀ by m' d (left - 1)
+      round-goes-on a =
           let c = came a.idle in
           let is = (c.idle z).planned.is in
           let same : SameRows (length code) m'.w m.w = sym (rw is at (c.rows z)) in
@@ -290,14 +286,13 @@ module _ {code : List ℕ} {k : Plan} {m₀ m : Mem} {o₀ o : Run} {by left : �
             ahead = this.xs;
             entries = takers-prefix m.w m'.w (length code) same this.entries;
             among = others;
-            long = long-then g.long long;
             by_is = g.by_is;
             went = λ reached idle. went_on idle;
           }
 
 -- no block is left
 
-pub round-done : {code : List ℕ} {k : Plan} {m₀ m : Mem} {o₀ o : Run} {by left : ℕ} → Going code k m₀ o₀ by m o left → left ≡ 0 → Rounded code k m₀ o₀ m o
+pub round-done : {code : List ℕ} {k : Plan} {m₀ m : Mem} {o₀ o : Gone} {by left : ℕ} → Going code k m₀ o₀ by m o left → left ≡ 0 → Rounded code k m₀ o₀ m o
 round-done {code} {k} {m₀} {m} {o₀} {o} g z reached idle =
     let v = subst (λ (l : List Taker). Went code k reached l m₀ o₀ m o) (none g.ahead (end-takers g.entries z)) (g.went reached idle) in
     let all = v.rest 0 (st_of k m o) (did_none k.limit (direct (prepared_in k code)) reached) in

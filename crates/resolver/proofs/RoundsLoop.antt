@@ -20,11 +20,13 @@ use Rattle.tables.proofs.Counted.{recs-length}
 use Rattle.steps.specs.Runs.{recs_in, st_of, Did}
 use Rattle.enter.specs.Fits.{prepared_in}
 use Rattle.resolver.specs.Turns.{Idle, Passed, Between, RoundAsks, Rounded, HandsOver, HandedAll, last_since, Rounds}
-use Rattle.steps.specs.Plans.{Plan}
-use Rattle.steps.specs.declared.Run.{Run}
+use Rattle.steps.specs.declared.plan.Plan.{Plan}
+use Rattle.std.specs.Borrow.{MutBor}
+use Rattle.layout.specs.declared.buffers.Buffers.{Buffers}
+use Rattle.enter.specs.Lent.{StillLent}
+use Rattle.steps.specs.Goings.{Gone}
 use Rattle.resolver.proofs.AfterSettle.{renew-settles, renew-flags, renewed}
 use Rattle.levels.proofs.Sequence.{did_nothing, did-same, did_then, did-stops}
-use Rattle.levels.proofs.SixLengths.{Long, long_same, long-then}
 
 -- ---- one round of document 01
 
@@ -67,29 +69,27 @@ module _ (limit : ℕ) (ns : List Node) where
 -- ---- the loop
 
 -- what `left` rounds from here come to, all of them come to, with the same last round
-pub record RoundsSoFar (code : List ℕ) (k : Plan) (m₀ : Mem) (o : Run) (m : Mem) (cur : Run) (since left : ℕ) : Type 0 where
+pub record RoundsSoFar (code : List ℕ) (k : Plan) (m₀ : Mem) (o : Gone) (m : Mem) (cur : Gone) (since left : ℕ) : Type 0 where
   pub between : Between code k since m cur
-  pub rows : SameRows k.n m₀.w m.w
+  pub rows : SameRows k.size m₀.w m.w
   pub beyond : drop k.end m.w ≡ drop k.end m₀.w
-  pub long : Long m₀ m
   pub ends : (number : ℕ) (b : St) → Did k.rooms (rounds left k.limit (prepared_in k code)) (st_of k m cur) number b
       → Did k.rooms (rounds 128 k.limit (prepared_in k code)) (st_of k m₀ o) number b
   pub lasts : (x : ℕ) → ((mid : St) → clear mid ≡ st_of k m cur → last_since left k.limit (prepared_in k code) since mid ≡ x)
       → last_since 128 k.limit (prepared_in k code) 0 (st_of k m₀ o) ≡ x
 
-pub so-far-start : {code : List ℕ} {k : Plan} {m : Mem} {o : Run} → Between code k 0 m o → RoundsSoFar code k m o m o 0 128
+pub so-far-start : {code : List ℕ} {k : Plan} {m : Mem} {o : Gone} → Between code k 0 m o → RoundsSoFar code k m o m o 0 128
 so-far-start {k = k} {m = m} {o = o} b = record {
   between = b;
   rows = refl;
   beyond = refl;
-  long = long_same;
   ends = λ number b d. d;
   lasts = λ x h. h (st_of k m o) refl;
 }
 
 -- ---- the ways out
 
-module _ {code : List ℕ} {k : Plan} {m₀ : Mem} {o : Run} {m : Mem} {cur : Run} {since left : ℕ} (g : RoundsSoFar code k m₀ o m cur since left) where
+module _ {code : List ℕ} {k : Plan} {m₀ : Mem} {o : Gone} {m : Mem} {cur : Gone} {since left : ℕ} (g : RoundsSoFar code k m₀ o m cur since left) where
   -- the loop is left with what there is
   so-far-out : Did k.rooms (rounds left k.limit (prepared_in k code)) (st_of k m cur) 0 (st_of k m cur)
       → ((mid : St) → clear mid ≡ st_of k m cur → last_since left k.limit (prepared_in k code) since mid ≡ since) → Rounds code k m₀ o m cur
@@ -115,12 +115,12 @@ module _ {code : List ℕ} {k : Plan} {m₀ : Mem} {o : Run} {m : Mem} {cur : Ru
 
 -- ---- a round
 
-module _ {code : List ℕ} {k : Plan} {m₀ : Mem} {o : Run} {w p s t r q : List ℕ} {cur : Run} {since left : ℕ}
+module _ {code : List ℕ} {k : Plan} {m₀ : Mem} {o : Gone} {w p s t r q : List ℕ} {cur : Gone} {since left : ℕ}
     (g : RoundsSoFar code k m₀ o (buffers w p s t r q) cur since left) where
-  pub so-far-settles : HandsOver k.n w r since cur.counts.records
+  pub so-far-settles : HandsOver k.size w r since cur.counts.records
   so-far-settles = renew-settles g.between.idle g.between.flags
 
-  module _ {w₁ : List ℕ} (e : HandedAll k.n w r since cur.counts.records w₁) where
+  module _ {w₁ : List ℕ} (e : HandedAll k.size w r since cur.counts.records w₁) where
     abbrev recs : List Rec
     recs = recs_in k (buffers w p s t r q) cur.counts
 
@@ -130,10 +130,7 @@ module _ {code : List ℕ} {k : Plan} {m₀ : Mem} {o : Run} {w p s t r q : List
     pub so-far-asks : RoundAsks code k (buffers w₁ p s t r q) cur
     so-far-asks = record { reached = reached_by (prepared_in k code) recs; idle = renewal }
 
-    module _ (ne : left ≡ 0 → ⊥) (l : cur.energy < k.limit) {m' : Mem} {d : Run} (v : Rounded code k (buffers w₁ p s t r q) cur m' d) where
-      settled-long : Long (buffers w p s t r q) (buffers w₁ p s t r q)
-      settled-long = record { w = e.kept.long; p = refl; s = refl; t = refl; r = refl; q = refl }
-
+    module _ (ne : left ≡ 0 → ⊥) (l : cur.energy < k.limit) {m' : Mem} {d : Gone} (v : Rounded code k (buffers w₁ p s t r q) cur m' d) where
       came : Passed code k (reached_by (prepared_in k code) recs) cur.counts.records (rolled k.limit (prepared_in k code) recs) (buffers w₁ p s t r q) cur m' d
       came = v (reached_by (prepared_in k code) recs) renewal
 
@@ -173,12 +170,12 @@ module _ {code : List ℕ} {k : Plan} {m₀ : Mem} {o : Run} {w p s t r q : List
         flags = λ x. rw (came.older z, came.flags z) (renew-flags g.between.idle g.between.flags e x);
       }
 
-      later_rows : d.code ≡ 0 → SameRows k.n m₀.w m'.w
+      later_rows : d.code ≡ 0 → SameRows k.size m₀.w m'.w
       later_rows z = came.rows z ∙ e.kept.rows ∙ g.rows
 
       later-beyond : d.code ≡ 0 → drop k.end m'.w ≡ drop k.end m₀.w
       later-beyond z =
-          came.beyond z ∙ drop_more w₁ w (buckets_place k.n) e.kept.beyond k.end (omega (arith, g.between.idle.planned.scratch)) ∙ g.beyond
+          came.beyond z ∙ drop_more w₁ w (buckets_place k.size) e.kept.beyond k.end (omega (arith, g.between.idle.planned.scratch)) ∙ g.beyond
 
       -- a shortage
       pub so-far-short : (d.code ≡ 0 → ⊥) → Rounds code k m₀ o m' d
@@ -201,16 +198,20 @@ module _ {code : List ℕ} {k : Plan} {m₀ : Mem} {o : Run} {w p s t r q : List
       }
 
       -- the next round
-      pub so-far-next : d.code ≡ 0 → (d.counts.records ≡ cur.counts.records → ⊥) → Long (buffers w₁ p s t r q) m'
+      pub so-far-next : d.code ≡ 0 → (d.counts.records ≡ cur.counts.records → ⊥)
           → RoundsSoFar code k m₀ o m' d cur.counts.records (left - 1)
-      so-far-next z more long = record {
+      so-far-next z more = record {
         between = later-between z;
         rows = later_rows z;
         beyond = later-beyond z;
-        long = long-then g.long (long-then settled-long long);
         ends = λ number b rest. g.ends number b (did-same (λ x. rounds (left - 1) k.limit (prepared_in k code) (rolled k.limit (prepared_in k code) recs x)) (rounds left k.limit (prepared_in k code))
             (λ mid h. goes mid h ∙ if-false _ _ _ (grown mid h z more))
             (did_then (rolled k.limit (prepared_in k code) recs) (rounds (left - 1) k.limit (prepared_in k code)) came.did z rest));
         lasts = λ x rest. g.lasts x (λ mid h.
             goes_last mid h ∙ if-false _ _ _ (grown mid h z more) ∙ rw before (rest (rolled k.limit (prepared_in k code) recs mid) (came.did.made mid h z)));
       }
+
+-- what is reached is written into W, which is still lent
+pub lent-but-w : {x y : Buffers} {w : MutBor (List ℕ)} → StillLent x y → w.ghost_name ≡ y.w.ghost_name → length w.now ≡ length y.w.now
+    → StillLent x (record { w = w; p = y.p; s = y.s; t = y.t; r = y.r; q = y.q })
+lent-but-w a same long = record { w = record { same = same ∙ a.w.same; long = long ∙ a.w.long }; p = a.p; s = a.s; t = a.t; r = a.r; q = a.q }

@@ -25,7 +25,6 @@ use Rattle.layout.specs.Parts.{rows_end, fields_place, buckets_place, bucket_pla
 use Rattle.layout.specs.Buffers.{Mem, buffers}
 use Rattle.exec.specs.Modes.{mode_of}
 use Rattle.exec.specs.declared.mode.Mode.{Mode}
-use Rattle.exec.specs.declared.mode.Mode.TheVariants.{Plain, KnownZero}
 use Rattle.tables.specs.Records.{recs_of}
 use Rattle.tables.specs.Rows.{met_of}
 use Rattle.tables.specs.Tables.{NoLinks}
@@ -47,10 +46,14 @@ use Rattle.reachable.proofs.Rows.{within-sides, closed-sides, sides-kept, node-e
 use Rattle.steps.specs.Paths.{occurs}
 use Rattle.steps.specs.Runs.{recs_in, st_of}
 use Rattle.enter.specs.Fits.{prepared_in}
-use Rattle.resolver.specs.Turns.{Idle, Between, last_since, Reached, Rounds, SearchAsks, Searched, rooms_of, plan_of, plan, begun_run, buckets_for}
-use Rattle.steps.specs.Plans.{Plan}
+use Rattle.resolver.specs.Turns.{Idle, Between, last_since, Reached, Rounds, SearchAsks, Searched, rooms_of, plan_of, plan, begun_run, buckets_for, outcome_of}
+use Rattle.steps.specs.declared.plan.Plan.{Plan}
 use Rattle.steps.specs.Helds.{filled_of, Helds}
+use Rattle.std.specs.Prelude.{Err}
+use Rattle.refusal.specs.declared.Shortage.{Shortage}
+use Rattle.tables.proofs.Shorts.{short-some}
 use Rattle.steps.specs.declared.Run.{Run}
+use Rattle.steps.specs.Goings.{Gone, gone}
 pub use Rattle.enter.proofs.TurnKept.{known-within}
 
 -- ---- what `reach` asks
@@ -67,13 +70,9 @@ fresh-mark false = refl
 
 -- ---- after the last round
 
-few-modes : (mode : Mode) → mode_of mode ≤ 1
-few-modes Plain = omega arith
-few-modes KnownZero = omega arith
-
 -- the marks say what is reached, once all records are counted
-pub between-marked : {code : List ℕ} {k : Plan} {m : Mem} {cur : Run} {since : ℕ} → Between code k since m cur
-    → Reached (prepared_in k code) k.n m.w since cur.counts.records (recs_in k m cur.counts)
+pub between-marked : {code : List ℕ} {k : Plan} {m : Mem} {cur : Gone} {since : ℕ} → Between code k since m cur
+    → Reached (prepared_in k code) k.size m.w since cur.counts.records (recs_in k m cur.counts)
 between-marked {k = k} {m = m} {cur = cur} b a h =
     let i = b.idle in
     let long = recs-length m.r m.q m.s k.rooms.s cur.counts.records in
@@ -167,7 +166,6 @@ module _ {mode : Mode} {code w w₁ w₂ : List ℕ} {limit many : ℕ} (a : Sea
         lent_p = omega arith;
         most_p = omega arith;
         shelves = λ h. omega arith;
-        moded = few-modes mode;
       };
       tables = tables-none (omega (arith, a.short)) (record {
         fits_r = omega arith;
@@ -232,7 +230,7 @@ module _ {mode : Mode} {code w w₁ w₂ : List ℕ} {limit many : ℕ} (a : Sea
     unfolding recs_of met_of
     begins = refl
 
-    module _ {m' : Mem} {d : Run} (f : Rounds code k (buffers w₂ p s' t₁ r' q) begun_run m' d) where
+    module _ {m' : Mem} {d : Gone} (f : Rounds code k (buffers w₂ p s' t₁ r' q) begun_run m' d) where
       made : d.code ≡ 0 → clear (search.search limit (prepared (in_mode (mode_of mode)) code)) ≡ st_of k m' d
       unfolding search.search
       made = f.did.made begin begins
@@ -269,14 +267,28 @@ pub search-begins : {shelves rows : ℕ} (t : List ℕ) → shelves ≡ min rows
 search-begins t es e = record { in_t = omega (arith, es, e) }
 
 module _ {mode : Mode} {code w p s t r q : List ℕ} {limit many : ℕ} {rooms : Rooms} {k : Plan} (er : rooms ≡ rooms_of p s t r q) (ek : k ≡ plan_of mode (length code) limit many rooms) where
-  module _ {w₁ w₂ t₁ : List ℕ} {o : Run} (a : SearchAsks mode code w limit many) (e : Reaches (length code) w w₁)
+  module _ {w₁ w₂ t₁ : List ℕ} {o : Gone} (a : SearchAsks mode code w limit many) (e : Reaches (length code) w w₁)
       (h : Stored (heads_of (length code) k.buckets) w₁ (buckets_place (length code)) (replicate (heads_of (length code) k.buckets) 0) w₂) (f : Emptied k.shelves t t₁) (eo : o ≡ begun_run) where
     pub search-asks : Between code k 0 (buffers w₂ p s t₁ r q) o
     search-asks =
         let is : k ≡ plan mode code limit many (buffers w p s t r q) = ek ∙ ap (plan_of mode (length code) limit many) er in
         rw (is, eo) (begin-between a e r (rw is at h) p q s t t₁ (rw is at f))
 
-    pub search-done : {m' : Mem} {d : Run} → Rounds code k (buffers w₂ p s t₁ r q) o m' d → Searched mode code limit many (buffers w p s t r q) m' d
+    pub search-done : {m' : Mem} {d : Gone} → Rounds code k (buffers w₂ p s t₁ r q) o m' d → Searched mode code limit many (buffers w p s t r q) m' d
     search-done g =
         let is : k ≡ plan mode code limit many (buffers w p s t r q) = ek ∙ ap (plan_of mode (length code) limit many) er in
         begin-searched a e r (rw is at h) p q s t t₁ (rw is at f) (rw (is, eo) at g)
+
+-- of a refusal nothing is told but its number
+pub search-refused : {mode : Mode} {code : List ℕ} {limit many : ℕ} {m m' : Mem} (run : Run) (e : Shortage) → Searched mode code limit many m m' (gone {A = Unit {0}} run (Err e))
+    → Searched mode code limit many m m' (outcome_of (Err e))
+search-refused run e s = record {
+  short = s.short;
+  recs = λ z. absurd (short-some e z);
+  energy = λ z. absurd (short-some e z);
+  energy_most = λ z. absurd (short-some e z);
+  between = λ z. absurd (short-some e z);
+  rows = λ z. absurd (short-some e z);
+  beyond = λ z. absurd (short-some e z);
+  reached = λ z. absurd (short-some e z);
+}

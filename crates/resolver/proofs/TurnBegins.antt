@@ -21,19 +21,20 @@ use Rattle.tables.specs.Rows.{met_of, used_of}
 use Rattle.tables.proofs.Counted.{recs-kept-cells}
 use Rattle.tables.proofs.Uses.{tables-kept, recs-stay}
 use Rattle.steps.specs.Runs.{recs_in, st_of}
-use Rattle.steps.specs.Plans.{Plan}
+use Rattle.steps.specs.Plans.{mode_in}
+use Rattle.steps.specs.declared.plan.Plan.{Plan}
 use Rattle.steps.specs.Helds.{OwnAsks, Gave}
 use Rattle.steps.specs.declared.Level.{Level}
 use Rattle.steps.specs.declared.own.StateAt.{StateAt}
 use Rattle.steps.proofs.Helds.{BehindBuckets, Given, given, helds-past}
-use Rattle.steps.specs.declared.Run.{Run}
+use Rattle.steps.specs.Goings.{Gone}
 use Rattle.enter.specs.Fits.{Fits, level_of, Stands, prepared_in}
 use Rattle.resolver.specs.Turns.{Idle, begun_with, Places, Placed}
 use Rattle.levels.proofs.WorkKept.{Alike, alike_then, alike-counts, alike-run, counts-run, alike-marks, alike-known, alike-room}
 use Rattle.resolver.proofs.TakerRow.{Taking}
 use Rattle.resolver.proofs.PathOfOne.{path-one, inside_one}
 
-module _ {code : List ℕ} {k : Plan} {reached : List ℕ} {since : ℕ} {m : Mem} {o : Run} (idle : Idle code k reached since m o) where
+module _ {code : List ℕ} {k : Plan} {reached : List ℕ} {since : ℕ} {m : Mem} {o : Gone} (idle : Idle code k reached since m o) where
   -- the cells in use, with a first state and nothing met yet
   pub begun-uses : (t : Turn) (mid : St) → clear mid ≡ st_of k m o → in_use t mid ≡ o.counts.kept + cells t.first
   unfolding met_of
@@ -45,7 +46,7 @@ module _ {code : List ℕ} {k : Plan} {reached : List ℕ} {since : ℕ} {m : Me
       let met-cells = ap (λ (s : St). total (λ (x : Met). cells x.stack) s.met) e ∙ ap (total (λ (x : Met). cells x.stack)) none in
       omega (arith, kept-cells, met-cells)
 
-  module _ {start : ℕ} {x : Taker} (taking : Taking k.mode code m.w k.n start x) where
+  module _ {start : ℕ} {x : Taker} (taking : Taking (mode_in k) code m.w k.size start x) where
     pub taker-small : start < 2 ^ 16
     taker-small = omega (arith, taking.inside, idle.planned.lent_w.short)
 
@@ -53,10 +54,7 @@ module _ {code : List ℕ} {k : Plan} {reached : List ℕ} {since : ℕ} {m : Me
     own-asks =
         let g = idle.planned in
         record {
-          runs = record {
-            runs = record { short = omega (arith, g.is, g.lent_w.short); inside = g.ends; room = omega (arith, g.scratch) };
-            moded = g.moded;
-          };
+          runs = record { short = omega (arith, g.is, g.lent_w.short); inside = g.ends; room = omega (arith, g.scratch) };
           helds = g.helds;
           is = g.is;
           inside = taking.inside;
@@ -69,17 +67,17 @@ module _ {code : List ℕ} {k : Plan} {reached : List ℕ} {since : ℕ} {m : Me
       pub gave-beyond : BehindBuckets k code m.w w₁
       gave-beyond = gives.beyond
 
-      pub own-few : own.n ≤ k.n + 17
+      pub own-few : own.n ≤ k.size + 17
       own-few = gives.few
 
-      own-lies : Lies w₁ own.at own.n (run (in_mode k.mode) code (instructions code) start).stack
-      own-lies = subst (λ (r : Ran). Lies w₁ own.at own.n r.stack) (own-walked k.mode code start taking.comes) gives.lies
+      own-lies : Lies w₁ own.at own.n (run (in_mode (mode_in k)) code (instructions code) start).stack
+      own-lies = subst (λ (r : Ran). Lies w₁ own.at own.n r.stack) (own-walked (mode_in k) code start taking.comes) gives.lies
 
       pub own-cells : own.n ≡ cells x.first
       own-cells = lies-count own-lies ∙ ap cells (sym taking.first)
 
-      ran : Alike k.n k.buckets m.w w₁
-      ran = alike-run k.n k.buckets m.w w₁ gave-beyond.front gave-beyond.long
+      ran : Alike k.size k.buckets m.w w₁
+      ran = alike-run k.size k.buckets m.w w₁ gave-beyond.front gave-beyond.long
 
       -- its state and its start have room
       pub place-asks : (k.rooms.p ≡ 0 → ⊥) → o.counts.kept + own.n ≤ k.rooms.s → Places w₁ m.p m.s k start own
@@ -87,7 +85,7 @@ module _ {code : List ℕ} {k : Plan} {reached : List ℕ} {since : ℕ} {m : Me
           record {
             lent = alike-room ran idle.planned.lent_w;
             inside = taking.inside;
-            counts = counts-run k.n k.buckets m.w w₁ gave-beyond.front gave-beyond.long idle.counts;
+            counts = counts-run k.size k.buckets m.w w₁ gave-beyond.front gave-beyond.long idle.counts;
             lent_p = omega (arith, idle.planned.lent_p, some);
             lent_s = omega (arith, room, idle.tables.within.lent_s);
             lent_w = gives.lies.state.fits;
@@ -97,10 +95,10 @@ module _ {code : List ℕ} {k : Plan} {reached : List ℕ} {since : ℕ} {m : Me
         abbrev now : Mem
         now = buffers w₂ p₁ s₁ m.t m.r m.q
 
-        pub begun-alike : Alike k.n k.buckets m.w w₂
+        pub begun-alike : Alike k.size k.buckets m.w w₂
         begun-alike = alike_then ran (alike-counts placed.counted.only k.buckets)
 
-        lies : Lies s₁ 0 own.n (run (in_mode k.mode) code (instructions code) start).stack
+        lies : Lies s₁ 0 own.n (run (in_mode (mode_in k)) code (instructions code) start).stack
         lies = lies-copied placed.copied own-lies
 
         top : drop (9 * (k.rooms.s - o.counts.kept)) s₁ ≡ drop (9 * (k.rooms.s - o.counts.kept)) m.s
@@ -128,11 +126,10 @@ module _ {code : List ℕ} {k : Plan} {reached : List ℕ} {since : ℕ} {m : Me
                 lent_w = alike-room begun-alike g.lent_w;
                 ends = omega (arith, g.ends, begun-alike.links.long);
                 scratch = g.scratch;
-                helds = helds-past (list_place k.n) (omega arith) placed.counted.only.back placed.counted.only.long gave-beyond.helds;
+                helds = helds-past (list_place k.size) (omega arith) placed.counted.only.back placed.counted.only.long gave-beyond.helds;
                 lent_p = omega (arith, g.lent_p, placed.put.kept);
                 most_p = g.most_p;
                 shelves = g.shelves;
-                moded = g.moded;
               };
               stored = refl;
               started = is;
@@ -160,7 +157,7 @@ module _ {code : List ℕ} {k : Plan} {reached : List ℕ} {since : ℕ} {m : Me
 
         position-is : l.position ≡ x.position
         position-is =
-            placed.reads.is ∙ num-prefix w₂ m.w (rows_end k.n) begun-alike.rows 4 (row_place start + POSITION) (omega (arith, taking.inside)) ∙ sym taking.position
+            placed.reads.is ∙ num-prefix w₂ m.w (rows_end k.size) begun-alike.rows 4 (row_place start + POSITION) (omega (arith, taking.inside)) ∙ sym taking.position
 
         pub begun-stands : (k.rooms.p ≡ 0 → ⊥) → Stands k now (begun_with o own.n).counts first
         begun-stands some =

@@ -26,12 +26,13 @@ use Rattle.reachable.specs.Marks.{flagged}
 use Rattle.reachable.proofs.Rows.{within-sides, closed-sides, sides-kept}
 use Rattle.steps.specs.Paths.{Counted, Uncounting}
 use Rattle.steps.specs.Runs.{recs_in, st_of, Did}
-use Rattle.steps.specs.Plans.{Plan}
+use Rattle.steps.specs.Plans.{mode_in}
+use Rattle.steps.specs.declared.plan.Plan.{Plan}
 use Rattle.steps.specs.Helds.{OwnAsks, Gave}
 use Rattle.steps.specs.declared.own.StateAt.{StateAt}
 use Rattle.steps.proofs.Helds.{helds-past}
 use Rattle.steps.specs.declared.Level.{Level}
-use Rattle.steps.specs.declared.Run.{Run}
+use Rattle.steps.specs.Goings.{Gone}
 use Rattle.enter.specs.Fits.{Fits, level_of, prepared_in}
 use Rattle.levels.specs.Levels.{Came, Opened, Leveled}
 use Rattle.enter.specs.Enters.{refused_with}
@@ -98,23 +99,23 @@ did-forget {a = a} {b} r e n z =
 
 -- ---- what a turn asks
 
-pub asks-taking : {code : List ℕ} {k : Plan} {start : ℕ} {m : Mem} {o : Run} (a : TurnAsks code k start m o) → Taking k.mode code m.w k.n start a.taker
+pub asks-taking : {code : List ℕ} {k : Plan} {start : ℕ} {m : Mem} {o : Gone} (a : TurnAsks code k start m o) → Taking (mode_in k) code m.w k.size start a.taker
 asks-taking {code} {k} a =
     let g = a.idle.planned in
-    taking k.mode code g.is g.lent_w.short a.idle.known a.takes a.is
+    taking (mode_in k) code g.is g.lent_w.short a.idle.known a.takes a.is
 
-pub turn-runs : {code : List ℕ} {k : Plan} {start : ℕ} {m : Mem} {o : Run} → TurnAsks code k start m o → OwnAsks k code m.w start
+pub turn-runs : {code : List ℕ} {k : Plan} {start : ℕ} {m : Mem} {o : Gone} → TurnAsks code k start m o → OwnAsks k code m.w start
 turn-runs a = begins.own-asks a.idle (asks-taking a)
 
-pub turn-few : {code w w₁ p s t r q : List ℕ} {k : Plan} {start : ℕ} {o : Run} {own : StateAt} → TurnAsks code k start (buffers w p s t r q) o → Gave k code start w w₁ own
-    → own.n ≤ k.n + 17
+pub turn-few : {code w w₁ p s t r q : List ℕ} {k : Plan} {start : ℕ} {o : Gone} {own : StateAt} → TurnAsks code k start (buffers w p s t r q) o → Gave k code start w w₁ own
+    → own.n ≤ k.size + 17
 turn-few a gave = begins.own-few a.idle (asks-taking a) gave
 
-pub turn-places : {code w w₁ p s t r q : List ℕ} {k : Plan} {start : ℕ} {o : Run} {own : StateAt} → TurnAsks code k start (buffers w p s t r q) o
+pub turn-places : {code w w₁ p s t r q : List ℕ} {k : Plan} {start : ℕ} {o : Gone} {own : StateAt} → TurnAsks code k start (buffers w p s t r q) o
     → (k.rooms.p ≡ 0 → ⊥) → Gave k code start w w₁ own → o.counts.kept + own.n ≤ k.rooms.s → Places w₁ p s k start own
 turn-places a some owned room = begins.place-asks a.idle (asks-taking a) owned some room
 
-pub turn-opens : {code w w₁ w₂ p p₁ s s₁ t r q : List ℕ} {k : Plan} {start : ℕ} {o b : Run} {own : StateAt} {l : Level} → TurnAsks code k start (buffers w p s t r q) o
+pub turn-opens : {code w w₁ w₂ p p₁ s s₁ t r q : List ℕ} {k : Plan} {start : ℕ} {o b : Gone} {own : StateAt} {l : Level} → TurnAsks code k start (buffers w p s t r q) o
     → (k.rooms.p ≡ 0 → ⊥) → Gave k code start w w₁ own → o.counts.kept + own.n ≤ k.rooms.s → Placed w₁ p s k start own w₂ p₁ s₁ l
     → b ≡ begun_with o own.n → Opened code k start l (buffers w₂ p₁ s₁ t r q) b
 turn-opens {code} {k = k} {start} a some owned room placed e =
@@ -132,15 +133,15 @@ turn-opens {code} {k = k} {start} a some owned room placed e =
 
 -- ---- a turn that is refused
 
-pub turn-short-p : {code : List ℕ} {k : Plan} {start : ℕ} {m : Mem} {o d : Run} → k.rooms.p ≡ 0 → d ≡ refused_with o 4 → Turned code k start m o m d
+pub turn-short-p : {code : List ℕ} {k : Plan} {start : ℕ} {m : Mem} {o d : Gone} → k.rooms.p ≡ 0 → d ≡ refused_with o 4 → Turned code k start m o m d
 turn-short-p {code} {k} {start} {m} {o} z e reached since idle x takes is =
     rw e (passed-refused (λ n. omega (arith, n)) (short-p k.limit (turn_for (direct (prepared_in k code)) reached x) x.position z))
 
-pub turn-short-s : {code w w₁ p s t r q : List ℕ} {k : Plan} {start : ℕ} {o d : Run} {own : StateAt} → (k.rooms.p ≡ 0 → ⊥) → Gave k code start w w₁ own
+pub turn-short-s : {code w w₁ p s t r q : List ℕ} {k : Plan} {start : ℕ} {o d : Gone} {own : StateAt} → (k.rooms.p ≡ 0 → ⊥) → Gave k code start w w₁ own
     → k.rooms.s < o.counts.kept + own.n → d ≡ refused_with o 5 → Turned code k start (buffers w p s t r q) o (buffers w₁ p s t r q) d
 turn-short-s {code} {k = k} some owned short e reached since idle x takes is =
     let g = idle.planned in
-    let y = taking k.mode code g.is g.lent_w.short idle.known takes is in
+    let y = taking (mode_in k) code g.is g.lent_w.short idle.known takes is in
     let t : Turn = turn_for (direct (prepared_in k code)) reached x in
     rw e
     (passed-refused (λ n. omega (arith, n))
@@ -149,7 +150,7 @@ turn-short-s {code} {k = k} some owned short e reached since idle x takes is =
 -- ---- a turn whose first level was tried
 
 -- how it came to that: the run, the first level in place, and what it did
-pub record Leveling (code : List ℕ) (k : Plan) (start : ℕ) (m : Mem) (o : Run) (m' : Mem) (d : Run) : Type 0 where
+pub record Leveling (code : List ℕ) (k : Plan) (start : ℕ) (m : Mem) (o : Gone) (m' : Mem) (d : Gone) : Type 0 where
   pub w₁ : List ℕ
   pub own : StateAt
   pub s₁ : List ℕ
@@ -163,13 +164,13 @@ pub record Leveling (code : List ℕ) (k : Plan) (start : ℕ) (m : Mem) (o : Ru
   pub leveled : Leveled code k start (record { np = 1; position = l.position; from = 0; cells = own.n; left = 255 }) (buffers w₂ p₁ s₁ m.t m.r m.q)
       (begun_with o own.n) m' d
 
-pub leveling : {code w w₁ w₂ p p₁ s s₁ t r q : List ℕ} {k : Plan} {start : ℕ} {m' : Mem} {o b c d : Run} {own : StateAt} {l : Level} → (k.rooms.p ≡ 0 → ⊥)
+pub leveling : {code w w₁ w₂ p p₁ s s₁ t r q : List ℕ} {k : Plan} {start : ℕ} {m' : Mem} {o b c d : Gone} {own : StateAt} {l : Level} → (k.rooms.p ≡ 0 → ⊥)
     → Gave k code start w w₁ own → o.counts.kept + own.n ≤ k.rooms.s → Placed w₁ p s k start own w₂ p₁ s₁ l → b ≡ begun_with o own.n
     → Leveled code k start l (buffers w₂ p₁ s₁ t r q) b m' c → d ≡ c → Leveling code k start (buffers w p s t r q) o m' d
 leveling {w₁ = w₁} {w₂} {p₁ = p₁} {s₁ = s₁} {own = own} {l} some owned room placed e leveled f =
     rw f (record { w₁ = w₁; own = own; s₁ = s₁; p₁ = p₁; w₂ = w₂; l = l; some = some; owned = owned; room = room; placed = placed; leveled = rw (placed.is, e) at leveled })
 
-module _ {code : List ℕ} {k : Plan} {start : ℕ} {m m' : Mem} {o d : Run} (h : Leveling code k start m o m' d) where
+module _ {code : List ℕ} {k : Plan} {start : ℕ} {m m' : Mem} {o d : Gone} (h : Leveling code k start m o m' d) where
   abbrev opened : Mem
   opened = buffers h.w₂ h.p₁ h.s₁ m.t m.r m.q
 
@@ -180,10 +181,10 @@ module _ {code : List ℕ} {k : Plan} {start : ℕ} {m m' : Mem} {o d : Run} (h 
     abbrev its : Turn
     its = turn_for (direct (prepared_in k code)) reached x
 
-    takes-it : Taking k.mode code m.w k.n start x
-    takes-it = let g = idle.planned in taking k.mode code g.is g.lent_w.short idle.known takes is
+    takes-it : Taking (mode_in k) code m.w k.size start x
+    takes-it = let g = idle.planned in taking (mode_in k) code g.is g.lent_w.short idle.known takes is
 
-    alike : Alike k.n k.buckets m.w h.w₂
+    alike : Alike k.size k.buckets m.w h.w₂
     alike = begins.begun-alike idle takes-it h.owned h.room h.placed
 
     came : Came code k its since start (level k.limit its 255 (level_of opened first)) first opened (begun_with o h.own.n) m' d
@@ -211,7 +212,7 @@ module _ {code : List ℕ} {k : Plan} {start : ℕ} {m m' : Mem} {o d : Run} (h 
       path : addrs m'.p 0 1 ≡ addrs h.p₁ 0 1
       path = addrs-prefix m'.p h.p₁ 1 0 1 (came.stays z).path (omega arith)
 
-      uncounting : Uncounting k.n m'.w m'.p 0 1
+      uncounting : Uncounting k.size m'.w m'.p 0 1
       uncounting =
           let g = fits.planned in
           record {
@@ -223,23 +224,23 @@ module _ {code : List ℕ} {k : Plan} {start : ℕ} {m m' : Mem} {o d : Run} (h 
             counts = rw path (came.counts z);
           }
 
-      module _ {w₄ t₄ : List ℕ} (uncounted : Counted k.n m'.w m'.p 0 w₄) (emptied : Emptied k.shelves m'.t t₄) where
+      module _ {w₄ t₄ : List ℕ} (uncounted : Counted k.size m'.w m'.p 0 w₄) (emptied : Emptied k.shelves m'.t t₄) where
         abbrev after : Mem
         after = buffers w₄ m'.p m'.s t₄ m'.r m'.q
 
-        off : Alike k.n k.buckets m'.w w₄
+        off : Alike k.size k.buckets m'.w w₄
         off = alike-counts uncounted.only k.buckets
 
-        rows : SameRows k.n m.w w₄
+        rows : SameRows k.size m.w w₄
         rows = off.rows ∙ (came.stays z).rows ∙ alike.rows
 
         beyond : drop k.end w₄ ≡ drop k.end m.w
         beyond =
-            let low : list_place k.n ≤ k.end = omega (arith, idle.planned.scratch) in
-            drop_more w₄ m'.w (list_place k.n) uncounted.only.back k.end low ∙ (came.stays z).beyond
-            ∙ drop_more h.w₂ h.w₁ (list_place k.n) h.placed.counted.only.back k.end low ∙ (begins.gave-beyond idle takes-it h.owned).back
+            let low : list_place k.size ≤ k.end = omega (arith, idle.planned.scratch) in
+            drop_more w₄ m'.w (list_place k.size) uncounted.only.back k.end low ∙ (came.stays z).beyond
+            ∙ drop_more h.w₂ h.w₁ (list_place k.size) h.placed.counted.only.back k.end low ∙ (begins.gave-beyond idle takes-it h.owned).back
 
-        flags : flagged w₄ k.n ≡ flagged m.w k.n
+        flags : flagged w₄ k.size ≡ flagged m.w k.size
         flags = off.flags ∙ (came.stays z).flags ∙ alike.flags
 
         older : take o.counts.records (recs_in k after (ended_with d).counts) ≡ recs_in k m o.counts
@@ -260,11 +261,10 @@ module _ {code : List ℕ} {k : Plan} {start : ℕ} {m m' : Mem} {o d : Run} (h 
                 lent_w = alike-room off g.lent_w;
                 ends = omega (arith, g.ends, off.links.long);
                 scratch = g.scratch;
-                helds = helds-past (list_place k.n) (omega arith) uncounted.only.back uncounted.only.long g.helds;
+                helds = helds-past (list_place k.size) (omega arith) uncounted.only.back uncounted.only.long g.helds;
                 lent_p = g.lent_p;
                 most_p = g.most_p;
                 shelves = g.shelves;
-                moded = g.moded;
               };
               tables = tables-kept fits.tables w₄ m'.s off.links refl refl 0 0 (omega (arith, fits.tables.within.fits_s));
               remembers = record {
@@ -284,8 +284,8 @@ module _ {code : List ℕ} {k : Plan} {start : ℕ} {m m' : Mem} {o d : Run} (h 
               counts = uncounted.counts;
               unused = refl;
               rowless = refl;
-              within = within-sides (sides-kept m.w w₄ k.n rows) idle.within;
-              closed = closed-sides (sides-kept m.w w₄ k.n rows) flags idle.closed;
+              within = within-sides (sides-kept m.w w₄ k.size rows) idle.within;
+              closed = closed-sides (sides-kept m.w w₄ k.size rows) flags idle.closed;
               unrefused = z;
               energy = energy-left;
               dests_in = λ a i.
@@ -305,13 +305,13 @@ module _ {code : List ℕ} {k : Plan} {start : ℕ} {m m' : Mem} {o d : Run} (h 
   pub turn-refused : (d.code ≡ 0 → ⊥) → Turned code k start m o m' d
   turn-refused n reached since idle x takes is = refused idle takes is n
 
-  pub turn-uncounts : TurnAsks code k start m o → d.code ≡ 0 → Uncounting k.n m'.w m'.p 0 1
+  pub turn-uncounts : TurnAsks code k start m o → d.code ≡ 0 → Uncounting k.size m'.w m'.p 0 1
   turn-uncounts a z = uncounting a.idle a.takes a.is z
 
   pub turn-forgets : TurnAsks code k start m o → d.code ≡ 0 → Shelves k.shelves m'.t d.counts.rows
   turn-forgets a z = (fits a.idle a.takes a.is z).remembers.shelves
 
   -- and where it is done
-  pub turn-done : {w₄ t₄ : List ℕ} {e : Run} → d.code ≡ 0 → Counted k.n m'.w m'.p 0 w₄ → Emptied k.shelves m'.t t₄ → e ≡ ended_with d
+  pub turn-done : {w₄ t₄ : List ℕ} {e : Gone} → d.code ≡ 0 → Counted k.size m'.w m'.p 0 w₄ → Emptied k.shelves m'.t t₄ → e ≡ ended_with d
       → Turned code k start m o (buffers w₄ m'.p m'.s t₄ m'.r m'.q) e
   turn-done z uncounted emptied e reached since idle x takes is = rw e (done idle takes is z uncounted emptied)

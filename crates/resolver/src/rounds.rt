@@ -2,19 +2,21 @@
 // "A round with no record is the last, and no round or turn starts once the limit is reached."
 ghost use Rattle.std.specs.Prelude.{◌≡◌, ◌≤◌};
 ghost use Rattle.spec.specs.Rooms.{longest};
-ghost use Rattle.layout.specs.Buffers.{buffers};
-ghost use Rattle.exec.specs.Modes.{mode_of};
-ghost use Rattle.resolver.specs.Turns.{Between, Rounds, SearchAsks, Searched, rooms_of, buckets_for, plan_of, begun_run};
-ghost use Rattle.steps.specs.Plans.{plan_in};
+ghost use Rattle.layout.specs.Buffers.{held};
+ghost use Rattle.steps.specs.Goings.{under_way, gone};
+ghost use Rattle.enter.specs.Lent.{StillLent};
+ghost use Rattle.resolver.specs.Turns.{Between, Rounds, SearchAsks, Searched, rooms_of, buckets_for, plan_of, begun_run, outcome_of};
 
 use crate::round::round;
 use crate::settle::hand_all;
 use exec::mode::Mode;
+use layout::buffers::Buffers;
 use layout::part::{BUCKET, BUCKETS, FILLED, LINK, SHARE, SHARE_MORE, STARTS, STARTS_MORE};
 use lent::{units, wipe_part};
 use reachable::reach;
+use refusal::Shortage;
 use steps::Run;
-use steps::plan::{LIMIT, PLAN, RECORD_BUCKETS, SHELVES, SIZE};
+use steps::plan::Plan;
 use tables::met::begin_rows;
 use tables::{Counts, Rooms};
 
@@ -27,64 +29,42 @@ const MOST_SHELVES: usize = 0x1_0000;
 // "A round with no record is the last, and no round or turn starts once the limit is reached."
 fn rounds(
     code: &[u8],
-    w: &mut [u8],
-    p: &mut [u8],
-    s: &mut [u8],
-    t: &mut [u8],
-    r: &mut [u8],
-    q: &mut [u8],
-    plan: &[usize; PLAN],
-    going: Run,
-) -> Run
-    requires { Between code.now (plan_in plan.now) 0 (buffers w.old p.old s.old t.old r.old q.old) going }
-    ensures { Rounds code.now (plan_in plan.now)
-        (buffers w.old p.old s.old t.old r.old q.old) going
-        (buffers w.new p.new s.new t.new r.new q.new) result }
+    buffers: &mut Buffers<'_>,
+    plan: &Plan,
+    run: &mut Run,
+) -> Result<(), Shortage>
+    requires { Between code.now plan.now 0 (held buffers.old) (under_way run.old) }
+    ensures lent { StillLent buffers.old buffers.new }
+    ensures rounds { Rounds code.now plan.now
+        (held buffers.old) (under_way run.old) (held buffers.new) (gone run.new result) }
 {
-    let mut cur = going;
     let mut since = 0;
-    let mut left = ROUNDS;
-    while left != 0 {
-        left -= 1;
-        if plan[LIMIT] <= cur.energy {
-            return cur;
+    for _done in 0..ROUNDS {
+        if plan.limit <= run.energy {
+            return Ok(());
         }
-        let counts = cur.counts;
-        let records = counts.records;
-        hand_all(w, plan[SIZE], r, since, records);
-        cur = round(code, w, p, s, t, r, q, plan, cur);
-        if cur.code != 0 {
-            return cur;
-        }
-        let after = cur.counts;
-        if after.records == records {
-            return cur;
+        let records = run.counts.records;
+        let rows = &mut *buffers.r;
+        hand_all(buffers.w, plan.size, rows, since, records);
+        round(code, buffers, plan, run)?;
+        if run.counts.records == records {
+            return Ok(());
         }
         since = records;
     }
-    cur
+    Ok(())
 }
 
 // How many units of each buffer count as lent.
-fn rooms_of(p: &[u8], s: &[u8], t: &[u8], r: &[u8], q: &[u8]) -> Rooms
-    ensures { result ≡ rooms_of p.now s.now t.now r.now q.now }
+fn rooms_of(buffers: &Buffers<'_>) -> Rooms
+    ensures { let lent = held buffers.now in result ≡ rooms_of lent.p lent.s lent.t lent.r lent.q }
 {
     Rooms {
-        p: units(p.len(), 2),
-        s: units(s.len(), 9),
-        t: units(t.len(), 32),
-        r: units(r.len(), 32),
-        q: units(q.len(), 2),
-    }
-}
-
-// The number of a mode.
-fn number_of(mode: Mode) -> usize
-    ensures { result ≡ mode_of mode }
-{
-    match mode {
-        Mode::Plain => 0,
-        Mode::KnownZero => 1,
+        p: units(buffers.p.len(), 2),
+        s: units(buffers.s.len(), 9),
+        t: units(buffers.t.len(), 32),
+        r: units(buffers.r.len(), 32),
+        q: units(buffers.q.len(), 2),
     }
 }
 
@@ -101,68 +81,51 @@ fn buckets_of(size: usize, rows: usize) -> usize
 }
 
 // The plan of a search, in a mode, over a code of `size` bytes. T has a bucket for each of its rows, up to `MOST_SHELVES`.
-fn plan_of(mode: Mode, size: usize, limit: usize, many: usize, rooms: Rooms) -> [usize; PLAN]
+fn plan_of(mode: Mode, size: usize, limit: usize, many: usize, rooms: Rooms) -> Plan
     requires { size ≤ longest }
-    ensures { plan_in result ≡ plan_of mode size limit many rooms }
+    ensures { result ≡ plan_of mode size limit many rooms }
 {
-    let shelves = if rooms.t < MOST_SHELVES {
-        rooms.t
-    } else {
-        MOST_SHELVES
-    };
-    let number = number_of(mode);
     let buckets = buckets_of(size, rooms.r);
-    [
+    let shelves = rooms.t.min(MOST_SHELVES);
+    Plan {
         size,
-        STARTS * size + STARTS_MORE,
-        many,
+        end: STARTS * size + STARTS_MORE,
+        takers: many,
         buckets,
         shelves,
         limit,
-        rooms.p,
-        rooms.s,
-        rooms.t,
-        rooms.r,
-        rooms.q,
-        number,
-    ]
+        rooms,
+        mode,
+    }
 }
 
 // The search, in a mode, over the rows that `prepare` leaves in W, `many` of whose blocks take turns.
 pub fn search(
     mode: Mode,
     code: &[u8],
-    w: &mut [u8],
-    p: &mut [u8],
-    s: &mut [u8],
-    t: &mut [u8],
-    r: &mut [u8],
-    q: &mut [u8],
+    buffers: &mut Buffers<'_>,
     limit: usize,
     many: usize,
-) -> Run
-    requires { SearchAsks mode code.now w.old limit many }
-    ensures { Searched mode code.now limit many
-        (buffers w.old p.old s.old t.old r.old q.old)
-        (buffers w.new p.new s.new t.new r.new q.new) result }
+) -> Result<Run, Shortage>
+    requires { SearchAsks mode code.now buffers.old.w.now limit many }
+    ensures lent { StillLent buffers.old buffers.new }
+    ensures searched { Searched mode code.now limit many (held buffers.old) (held buffers.new) (outcome_of result) }
 {
     let size = code.len();
-    let plan = plan_of(mode, size, limit, many, rooms_of(p, s, t, r, q));
-    reach(w, size);
+    let plan = plan_of(mode, size, limit, many, rooms_of(buffers));
+    reach(buffers.w, size);
     // The buckets, and behind them the links of the own states and how many cells are in use: none is held yet.
-    wipe_part(
-        w,
-        BUCKETS * (size + 1),
-        BUCKET * plan[RECORD_BUCKETS] + LINK * (size + 1) + FILLED,
-    );
-    begin_rows(t, plan[SHELVES]);
-    let going = begin();
-    rounds(code, w, p, s, t, r, q, &plan, going)
+    let behind = BUCKET * plan.buckets + LINK * (size + 1) + FILLED;
+    wipe_part(buffers.w, BUCKETS * (size + 1), behind);
+    begin_rows(buffers.t, plan.shelves);
+    let mut run = begin();
+    rounds(code, buffers, &plan, &mut run)?;
+    Ok(run)
 }
 
 // Nothing is recorded, no energy used, nothing in use.
 fn begin() -> Run
-    ensures { result ≡ begun_run }
+    ensures { under_way result ≡ begun_run }
 {
     let counts = Counts {
         records: 0,
@@ -171,9 +134,5 @@ fn begin() -> Run
         used: 0,
         rows: 0,
     };
-    Run {
-        code: 0,
-        energy: 0,
-        counts,
-    }
+    Run { energy: 0, counts }
 }

@@ -25,16 +25,20 @@ fn gather(r: &[u8], from: usize, records: usize, batch: &mut [usize; BATCH]) -> 
     ensures { Gathered r.now from records batch.new result }
 {
     let mut many = 0;
-    let mut i = from;
-    while i < records && many < BATCH {
+    for i in from..records {
+        if many == BATCH {
+            return Batch { many, next: i };
+        }
         let to = get16(r, RECORD * i + TO);
-        i += 1;
         if to != NOWHERE {
             batch[many] = to;
             many += 1;
         }
     }
-    Batch { many, next: i }
+    Batch {
+        many,
+        next: records,
+    }
 }
 
 // Hands one batch over, if there is anything in it; the record that the next one starts from is the answer.

@@ -10,9 +10,7 @@ use Rattle.spec.specs.Stacks.{Sym, before, constant, jumpdest, other}
 use Rattle.lent.specs.Bytes.{number, num_at, Holds, Stored}
 use Rattle.lent.proofs.Numbers.{number-little}
 use Rattle.lent.proofs.Stored.{stored-join, read-num}
-use Rattle.state.specs.Symbols.{sym_of}
-use Rattle.state.specs.Cells.{tag, value, cell, symbol, sym_at, PutAs, Put}
-use Rattle.state.specs.declared.sym.StackSym.{StackSym}
+use Rattle.state.specs.Cells.{tag, value, cell, symbol, sym_at, Put}
 
 module _ (t n : ℕ) where
   pub tagged-before : t ≡ 0 → before n ≡ symbol t n
@@ -34,9 +32,6 @@ module _ (t n : ℕ) where
 pub got : (x : Sym) (b : List ℕ) (at t n : ℕ) → x ≡ symbol t n → Holds 1 b at t → Holds 8 b (at + 1) n → x ≡ sym_at b at
 unfolding sym_at
 got x b at t n e p q = rw (e, ← p.is, ← q.is)
-
-pub put-tagged : {b b₁ b₂ : List ℕ} (at t n : ℕ) → n < 2 ^ 64 → Stored 1 b at (little 1 t) b₁ → Stored 8 b₁ (at + 1) (little 8 n) b₂ → PutAs b at t n b₂
-put-tagged at t n h p q = record { stored = stored-join p q; small = h }
 
 -- ---- the parts of a symbol are the symbol
 
@@ -70,8 +65,7 @@ put-read {b} {b'} {at} x h s =
     let n = read-num s 8 1 (omega arith) in
     rw (t, n, number-tag x, number-value x h) (symbol-parts x)
 
-pub put-parts : {b b' : List ℕ} {at : ℕ} (x : Sym) → PutAs b at (tag x) (value x) b' → Put b at x b'
-put-parts x p = let s = rw (little-parts x) at p.stored in record { stored = s; reads = put-read x p.small s }
-
-pub put_as : {b b' : List ℕ} {at : ℕ} (x y : StackSym) → x ≡ y → PutAs b at (tag (sym_of y)) (value (sym_of y)) b' → Put b at (sym_of x) b'
-put_as x y e p = rw e (put-parts (sym_of y) p)
+pub put-parts : {b b₁ b₂ : List ℕ} {at t n : ℕ} {x : Sym} → (t ≡ tag x) × (n ≡ value x) × (t < 4) → n < 2 ^ 64 → Stored 1 b at (little 1 t) b₁ → Stored 8 b₁ (at + 1) (little 8 n) b₂ → Put b at x b₂
+put-parts {x = x} (e, f, g) h p q =
+    let s = rw little-parts at (stored-join (rw e at p) (rw f at q)) in
+    record { stored = s; reads = put-read x (rw f at h) s }

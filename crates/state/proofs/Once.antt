@@ -10,8 +10,8 @@ use Rattle.state.specs.Cells.{Put, Lies}
 use Rattle.state.specs.Composed.{Composed}
 use Rattle.state.specs.declared.sym.StackSym.{StackSym}
 use Rattle.state.specs.declared.sym.StackSym.TheVariants.{Before, Constant, Jumpdest, Other}
-use Rattle.state.specs.declared.sym.Known.{Known}
-use Rattle.state.specs.declared.sym.Known.TheVariants.{Value, Unknown}
+use Rattle.std.specs.Prelude as std
+use Rattle.std.specs.Prelude.{Some, None}
 
 -- ---- the code's symbols and document 01's are one to one
 
@@ -31,11 +31,11 @@ symbol-back (Other pc) = refl
 pub one_symbol : {x y : StackSym} {s : Sym} → sym_of x ≡ s → sym_of y ≡ s → x ≡ y
 one_symbol {x} {y} p q = sym (symbol-back x) ∙ ap symbol_of (p ∙ sym q) ∙ symbol-back y
 
-pub one_known : {x y : Known} {v : Option ℕ} → known_of x ≡ v → known_of y ≡ v → x ≡ y
-one_known {x = Value v} {y = Value u} p q = cc
-one_known {x = Value v} {y = Unknown} p q = cc
-one_known {x = Unknown} {y = Value u} p q = cc
-one_known {x = Unknown} {y = Unknown} p q = refl
+pub one_known : {x y : std.Option ℕ} {v : Option ℕ} → known_of x ≡ v → known_of y ≡ v → x ≡ y
+one_known {x = Some v} {y = Some u} p q = cc
+one_known {x = Some v} {y = None} p q = cc
+one_known {x = None} {y = Some u} p q = cc
+one_known {x = None} {y = None} p q = refl
 
 -- ---- what stands in the buffers
 

@@ -11,8 +11,7 @@ use Rattle.spec.specs.Lists.{if}
 use Rattle.spec.specs.Stacks.{jumpdest, constant, known_value, from_value, is, mask}
 use Rattle.state.specs.Symbols.{sym_of, known_of}
 use Rattle.state.specs.declared.sym.StackSym.{StackSym}
-use Rattle.state.specs.declared.sym.Known.{Known}
-use Rattle.state.specs.declared.sym.Known.TheVariants.{Value, Unknown}
+use Rattle.std.specs.Prelude.{Option, Some, None}
 
 module _ (code : List ℕ) (v : ℕ) where
   pub from-lands : get_or code v 0 ≡ 0x5B → jumpdest v ≡ from_value code v
@@ -29,9 +28,9 @@ module _ (code : List ℕ) (v : ℕ) where
 pub known-of : {x : StackSym} (y : StackSym) → x ≡ y → known_value (sym_of y) ≡ known_value (sym_of x)
 known-of y e = rw e
 
-module _ (x : StackSym) (k : Known) (e : known_of k ≡ known_value (sym_of x)) where
-  pub mask_value : {v : ℕ} → k ≡ Value v → eqb mask v ≡ is mask (known_value (sym_of x))
+module _ (x : StackSym) (k : Option ℕ) (e : known_of k ≡ known_value (sym_of x)) where
+  pub mask_value : {v : ℕ} → k ≡ Some v → eqb mask v ≡ is mask (known_value (sym_of x))
   mask_value h = rw (← e, h)
 
-  pub mask-unknown : k ≡ Unknown → false ≡ is mask (known_value (sym_of x))
+  pub mask-unknown : k ≡ None → false ≡ is mask (known_value (sym_of x))
   mask-unknown h = rw (← e, h)

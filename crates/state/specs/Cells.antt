@@ -1,5 +1,5 @@
 -- Symbols and stacks in cells of nine bytes. Assumes nothing.
-use Rattle.std.specs.Prelude.{◌≡◌, ℕ, zero, suc, ◌+◌, ◌-◌, ◌*◌, ◌^◌, ◌≤◌, ◌<◌, max, List, [], ◌∷◌, ◌++◌, eqb, length, take, drop}
+use Rattle.std.specs.Prelude.{◌≡◌, ℕ, zero, suc, ◌+◌, ◌-◌, ◌*◌, ◌≤◌, max, List, [], ◌∷◌, ◌++◌, eqb, length, take, drop}
 use Rattle.spec.specs.Lists.{if, little}
 use Rattle.spec.specs.Stacks.{Sym, before, constant, jumpdest, other, Stack}
 use Rattle.lent.specs.Bytes.{num_at, Stored}
@@ -36,11 +36,7 @@ unfoldable pub syms_at : List ℕ → ℕ → ℕ → List Sym
 syms_at b at zero = []
 syms_at b at (suc n) = sym_at b at ∷ syms_at b (at + 9) n
 
--- b became b': a tag and a number were stored at `at`; the symbol x was, and is read there
-pub record PutAs (b : List ℕ) (at t n : ℕ) (b' : List ℕ) : Type 0 where
-  pub stored : Stored 9 b at (little 1 t ++ little 8 n) b'
-  pub small : n < 2 ^ 64
-
+-- b became b': the symbol x was stored at `at`, and is read there
 pub record Put (b : List ℕ) (at : ℕ) (x : Sym) (b' : List ℕ) : Type 0 where
   pub stored : Stored 9 b at (cell x) b'
   pub reads : sym_at b' at ≡ x

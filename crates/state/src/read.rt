@@ -6,7 +6,7 @@ ghost use Rattle.state.specs.Symbols.{sym_of};
 ghost use Rattle.state.specs.Cells.{stack_at, State};
 ghost use Rattle.state.specs.Stored.{Readable};
 
-use crate::cell::get_cell;
+use crate::cell::{CELL, get_cell};
 use crate::sym::StackSym;
 use lent::get64;
 
@@ -15,7 +15,7 @@ pub fn base_at(bytes: &[u8], at: usize, cells: usize) -> usize
     requires { State bytes.now at cells }
     ensures { result ≡ (stack_at bytes.now at cells).base }
 {
-    get64(bytes, at + 9 * (cells - 1) + 1)
+    get64(bytes, at + CELL * (cells - 1) + 1)
 }
 
 // The symbol at a position of the state in so many cells from `at` on; below the cells the numbering goes on. The bottom is always a Before, since a
@@ -25,7 +25,7 @@ pub fn symbol_at(bytes: &[u8], at: usize, cells: usize, position: usize) -> Stac
     ensures { sym_of result ≡ read (stack_at bytes.now at cells) position }
 {
     if position < cells {
-        return get_cell(bytes, at + 9 * position);
+        return get_cell(bytes, at + CELL * position);
     }
     StackSym::Before(base_at(bytes, at, cells) + (position - (cells - 1)))
 }

@@ -5,6 +5,7 @@ ghost use Rattle.spec.specs.Stacks.{eq_sym, eq_stack};
 ghost use Rattle.state.specs.Cells.{sym_at, stack_at};
 ghost use Rattle.state.specs.Compared.{TwoCells, TwoStates};
 
+use crate::cell::CELL;
 use lent::{get8, get64};
 
 // Whether the cells at `one` and at `other` hold the same symbol.
@@ -23,11 +24,8 @@ pub fn same_state(bytes: &[u8], one: usize, other: usize, cells: usize) -> bool
     requires { TwoStates bytes.now one other cells }
     ensures { result ≡ eq_stack (stack_at bytes.now one cells) (stack_at bytes.now other cells) }
 {
-    let mut i = 0;
-    while i < cells {
-        if same_cell(bytes, one + 9 * i, other + 9 * i) {
-            i += 1;
-        } else {
+    for i in 0..cells {
+        if !same_cell(bytes, one + CELL * i, other + CELL * i) {
             return false;
         }
     }

@@ -7,7 +7,7 @@ ghost use Rattle.state.specs.Symbols.{sym_of, known_of};
 use evm::op::JUMPDEST;
 
 // What is known of a word: the word at a depth on entry, a value, a value that is a place to jump to, or where it was made.
-#[derive(Clone, Copy)]
+#[derive(Clone, Copy, PartialEq, Eq)]
 pub enum StackSym {
     Before(usize),
     Constant(usize),
@@ -15,26 +15,17 @@ pub enum StackSym {
     Other(usize),
 }
 
-// A symbol's value, if it is known.
-#[derive(Clone, Copy)]
-pub enum Known {
-    Value(usize),
-    Unknown,
-}
-
 impl StackSym {
     // The value with which an AND leaves a symbol as it is: it keeps the low 32 bits.
     pub const MASK: usize = 0xffff_ffff;
 
-    // The value that the symbol is known to have.
-    pub fn known_value(self) -> Known
+    // The value that the symbol is known to have, if there is one.
+    pub fn known_value(self) -> Option<usize>
         ensures { known_of result ≡ known_value (sym_of self) }
     {
         match self {
-            StackSym::Constant(value) => Known::Value(value),
-            StackSym::Jumpdest(value) => Known::Value(value),
-            StackSym::Before(_) => Known::Unknown,
-            StackSym::Other(_) => Known::Unknown,
+            StackSym::Constant(value) | StackSym::Jumpdest(value) => Some(value),
+            StackSym::Before(_) | StackSym::Other(_) => None,
         }
     }
 
@@ -43,8 +34,8 @@ impl StackSym {
         ensures { result ≡ is mask (known_value (sym_of self)) }
     {
         match self.known_value() {
-            Known::Value(value) => StackSym::MASK == value,
-            Known::Unknown => false,
+            Some(value) => StackSym::MASK == value,
+            None => false,
         }
     }
 
@@ -52,10 +43,8 @@ impl StackSym {
     pub fn from_value(value: usize, code: &[u8]) -> StackSym
         ensures { sym_of result ≡ from_value code.now value }
     {
-        if value < code.len() {
-            if code[value] == JUMPDEST {
-                return StackSym::Jumpdest(value);
-            }
+        if value < code.len() && code[value] == JUMPDEST {
+            return StackSym::Jumpdest(value);
         }
         StackSym::Constant(value)
     }

@@ -1,6 +1,6 @@
 -- The laws of `grow`: the path of a direct parent is one address, a found one's is copied. Assumes nothing.
 use mathlib.Core.Path.{◌≡◌, refl, sym, ap, ◌∙◌}
-use mathlib.Core.Logic.{inl, inr}
+use Rattle.std.specs.Prelude.{Result, Ok, Err}
 use mathlib.Core.List.{List, [], ◌∷◌, ◌++◌}
 use Prim.Native.Nat.{ℕ, suc, ◌+◌, ◌-◌, ◌*◌, ◌≤◌, ◌<◌}
 use native.Mathlib.Nat.{zero-add}
@@ -10,8 +10,9 @@ use lib.ListN.{length, take, drop}
 use borrow.Author.Tests.{lt-ltb, le-ltb}
 use Rattle.spec.specs.Lists.{little}
 use Rattle.laws.proofs.Branch.{if-true, if-false}
+use Rattle.refusal.specs.declared.Shortage.{Shortage}
+use Rattle.refusal.specs.declared.Shortage.TheVariants as short
 use Rattle.lent.specs.Bytes.{Holds, Stored}
-use Rattle.lent.proofs.Parts.{by-halves}
 use Rattle.lent.proofs.Stored.{kept-take, kept-drop, read_back, read_all}
 use Rattle.layout.specs.Records.{record_place, R-ENDS, end_of}
 use Rattle.layout.specs.Rows.{start_of}
@@ -35,12 +36,12 @@ path-found r q at h = if-false (ltb at 0x10000) _ _ (le-ltb at 0x10000 h)
 
 -- ---- any path
 
-grown-none : {p more : List ℕ} {np room : ℕ} → room < np + length more → Grown p np room more p 0
+grown-none : {p more : List ℕ} {np room : ℕ} → room < np + length more → Grown p np room more p (Err short.P)
 grown-none l = record {
-  short = λ _. (refl, inr l);
-  is = λ d. absurd (d refl);
-  fits = λ d. absurd (d refl);
-  path = λ d. absurd (d refl);
+  short = (refl, refl, l);
+  is = tt;
+  fits = tt;
+  path = tt;
   front = refl;
   back = refl;
   long = refl;
@@ -56,16 +57,12 @@ module _ (np len : ℕ) {p more p' bs : List ℕ} (s : Stored (2 * len) p (2 * n
   path : addrs p' 0 (np + len) ≡ addrs p 0 np ++ more
   path = rw (addrs-append p' 0 np len, zero-add, e, addrs-prefix p' p np 0 np front (omega arith))
 
-  -- where there is nothing at all in hand, nothing was stored
-  same : np + len ≡ 0 → p' ≡ p
-  same z = by-halves (2 * np) p' p front (kept-drop s (2 * np) (omega arith))
-
-  grown : {room : ℕ} → np + len ≤ room → Grown p np room more p' (np + len)
+  grown : {room : ℕ} → np + len ≤ room → Grown p np room more p' (Ok (np + len))
   grown f = record {
-    short = λ z. (same z, inl (rw count z));
-    is = λ _. rw count;
-    fits = λ _. rw count f;
-    path = λ _. path;
+    short = tt;
+    is = rw count;
+    fits = rw count f;
+    path = path;
     front = front;
     back = rw count (kept-drop s (2 * (np + len)) (omega arith));
     long = s.kept;
@@ -75,11 +72,11 @@ module _ (np len : ℕ) {p more p' bs : List ℕ} (s : Stored (2 * len) p (2 * n
 
 module _ {p r q : List ℕ} {room np at : ℕ} (g : Growing p r q room np at) where
   module _ (l : at < 0x10000) where
-    pub direct-short : room < np + 1 → Grown p np room (path_cursor r q at) p 0
+    pub direct-short : room < np + 1 → Grown p np room (path_cursor r q at) p (Err short.P)
     direct-short h = rw (path-direct r q at l) (grown-none h)
 
     pub direct-grown : {v : ℕ} {p' : List ℕ} → np + 1 ≤ room → v ≡ start_of at → Stored 2 p (2 * np) (little 2 v) p'
-        → Grown p np room (path_cursor r q at) p' (np + 1)
+        → Grown p np room (path_cursor r q at) p' (Ok (np + 1))
     unfolding addrs
     direct-grown {v} {p'} h e s =
         let b = read_back s (omega (arith, g.direct l)) in
@@ -103,15 +100,15 @@ module _ {p r q : List ℕ} {room np at : ℕ} (g : Growing p r q room np at) wh
       unfolding path_at
       found-path = path-found r q at l ∙ rw (a, ends)
 
-      pub found-short : room < np + (e - from) → Grown p np room (path_cursor r q at) p 0
+      pub found-short : room < np + (e - from) → Grown p np room (path_cursor r q at) p (Err short.P)
       found-short d = rw found-path (grown-none (rw (addrs-length q from (e - from)) d))
 
       pub found-grown : {p' : List ℕ} → np + (e - from) ≤ room
-          → Stored (2 * (e - from)) p (2 * np) (take (2 * (e - from)) (drop (2 * from) q)) p' → Grown p np room (path_cursor r q at) p' (np + (e - from))
+          → Stored (2 * (e - from)) p (2 * np) (take (2 * (e - from)) (drop (2 * from) q)) p' → Grown p np room (path_cursor r q at) p' (Ok (np + (e - from)))
       found-grown {p'} d s = rw found-path (grown np (e - from) s (addrs-within p' q np from (e - from) (read_all s)) d)
 
 -- ---- what the answer tells
 
-module _ {p more p' : List ℕ} {np room x : ℕ} (g : Grown p np room more p' x) where
+module _ {p more p' : List ℕ} {np room : ℕ} {x : Result ℕ Shortage} (g : Grown p np room more p' x) where
   pub grown-front : addrs p' 0 np ≡ addrs p 0 np
   grown-front = addrs-prefix p' p np 0 np g.front (omega arith)

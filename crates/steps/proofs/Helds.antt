@@ -2,6 +2,8 @@
 use mathlib.Core.Path.{◌≡◌, refl, sym, ap, subst, ◌∙◌}
 use mathlib.Core.Logic.{◌⊎◌, inl, inr}
 use mathlib.Core.List.{List}
+use Rattle.std.specs.Prelude.{Option, Some, None}
+use Rattle.std.proofs.lemmas.Option.{none-some, same_Some}
 use Prim.Native.Nat.{ℕ, ◌+◌, ◌-◌, ◌*◌, ◌≤◌, ◌<◌}
 use native.Mathlib.Omega.{arith}
 use lib.ListN.{length, take, drop}
@@ -17,26 +19,27 @@ use Rattle.state.specs.Cells.{Lies}
 use Rattle.state.proofs.States.{lies_within, lies-copied, lies-apart}
 use Rattle.exec.specs.Owns.{runs_room, Owned}
 use Rattle.exec.specs.declared.run.Own.{Own}
-use Rattle.steps.specs.Plans.{Plan}
+use Rattle.steps.specs.Plans.{mode_in}
+use Rattle.steps.specs.declared.plan.Plan.{Plan}
 use Rattle.steps.specs.Helds.{link_of, filled_of, cell_of, count_of, HeldAt, Helds, HoldAsks, HeldRoom, HeldPut, HoldDone, HeldAsks, HeldIs, OwnAsks, RanNow, Gave}
 use Rattle.steps.specs.declared.own.StateAt.{StateAt}
 
 -- ---- where what lies between the buckets in use and the part for runs stays
 
 module _ (k : Plan) {w w' : List ℕ} (long : length w' ≡ length w)
-    (same : (m i : ℕ) → bucket_place k.n k.buckets ≤ i → i + m ≤ k.end - runs_room k.n → take m (drop i w') ≡ take m (drop i w)) where
-  num-same : (m i : ℕ) → bucket_place k.n k.buckets ≤ i → i + m ≤ k.end - runs_room k.n → num_at m w' i ≡ num_at m w i
+    (same : (m i : ℕ) → bucket_place k.size k.buckets ≤ i → i + m ≤ k.end - runs_room k.size → take m (drop i w') ≡ take m (drop i w)) where
+  num-same : (m i : ℕ) → bucket_place k.size k.buckets ≤ i → i + m ≤ k.end - runs_room k.size → num_at m w' i ≡ num_at m w i
   unfolding num_at
   num-same m i l h = ap number (same m i l h)
 
   pub helds-kept : {code : List ℕ} → Helds k code w → Helds k code w'
   helds-kept {code} h =
-      let filled : filled_of k w' ≡ filled_of k w = num-same 4 (filled_place k.n k.buckets) (omega arith) (omega (arith, h.room)) in
+      let filled : filled_of k w' ≡ filled_of k w = num-same 4 (filled_place k.size k.buckets) (omega arith) (omega (arith, h.room)) in
       record { room = omega (arith, h.room, filled); each = each filled }
     where
-      each : filled_of k w' ≡ filled_of k w → (a : ℕ) → a ≤ k.n → (link_of k w' a ≡ 0 → ⊥) → HeldAt k code w' a (link_of k w' a)
+      each : filled_of k w' ≡ filled_of k w → (a : ℕ) → a ≤ k.size → (link_of k w' a ≡ 0 → ⊥) → HeldAt k code w' a (link_of k w' a)
       each filled a l n =
-          let link : link_of k w' a ≡ link_of k w a = num-same 2 (link_place k.n k.buckets a) (omega arith) (omega (arith, h.room)) in
+          let link : link_of k w' a ≡ link_of k w a = num-same 2 (link_place k.size k.buckets a) (omega arith) (omega (arith, h.room)) in
           let i : ℕ = link_of k w a in
           let some : i ≡ 0 → ⊥ = λ z. n (link ∙ z) in
           let x = h.each a l some in
@@ -49,24 +52,24 @@ module _ (k : Plan) {w w' : List ℕ} (long : length w' ≡ length w)
                 (lies_within (sym (same (9 * count_of k w (i - 1)) (cell_of k i) (omega arith) (omega (arith, h.room, x.used)))) (omega (arith, long, x.lies.state.fits)) x.lies);
           })
 
-pub helds-past : {k : Plan} {code w w' : List ℕ} (b : ℕ) → b ≤ bucket_place k.n k.buckets → drop b w' ≡ drop b w → length w' ≡ length w → Helds k code w → Helds k code w'
+pub helds-past : {k : Plan} {code w w' : List ℕ} (b : ℕ) → b ≤ bucket_place k.size k.buckets → drop b w' ≡ drop b w → length w' ≡ length w → Helds k code w → Helds k code w'
 helds-past {k} {w = w} {w'} b low e long = helds-kept k long (λ m i l h. part-suffix w' w b e m i (omega arith))
 
 -- ---- a state more
 
 module _ {k : Plan} {w w' : List ℕ} {start at cells : ℕ} (a : HoldAsks k w start at cells) (room : HeldRoom k w cells) (p : HeldPut k w start at cells w') where
-  few : cells ≤ k.n + 17
+  few : cells ≤ k.size + 17
   few = omega (arith, a.low, a.high)
 
   -- what lies apart from the link, the number of cells in use and the new cells
-  rest : (m i : ℕ) → (i < link_place k.n k.buckets start + 2 → i + m ≤ link_place k.n k.buckets start)
-      → (i < filled_place k.n k.buckets + 4 → i + m ≤ filled_place k.n k.buckets)
+  rest : (m i : ℕ) → (i < link_place k.size k.buckets start + 2 → i + m ≤ link_place k.size k.buckets start)
+      → (i < filled_place k.size k.buckets + 4 → i + m ≤ filled_place k.size k.buckets)
       → (i < cell_of k (filled_of k w + 1 + cells) → i + m ≤ cell_of k (filled_of k w)) → take m (drop i w') ≡ take m (drop i w)
   rest m i l t c =
       kept-part p.total m i t ∙ kept-part p.link m i l ∙ kept-part p.state m i (λ h. omega (arith, c (omega arith))) ∙ kept-part p.head m i (λ h. omega (arith, c (omega arith)))
 
-  rest-num : (m i : ℕ) → (i < link_place k.n k.buckets start + 2 → i + m ≤ link_place k.n k.buckets start)
-      → (i < filled_place k.n k.buckets + 4 → i + m ≤ filled_place k.n k.buckets)
+  rest-num : (m i : ℕ) → (i < link_place k.size k.buckets start + 2 → i + m ≤ link_place k.size k.buckets start)
+      → (i < filled_place k.size k.buckets + 4 → i + m ≤ filled_place k.size k.buckets)
       → (i < cell_of k (filled_of k w + 1 + cells) → i + m ≤ cell_of k (filled_of k w)) → num_at m w' i ≡ num_at m w i
   unfolding num_at
   rest-num m i l t c = ap number (rest m i l t c)
@@ -78,31 +81,31 @@ module _ {k : Plan} {w w' : List ℕ} {start at cells : ℕ} (a : HoldAsks k w s
   filled = read_back p.total (omega (arith, few, room.0, a.short))
 
   new-link : link_of k w' start ≡ filled_of k w + 1
-  new-link = kept-num p.total 2 (link_place k.n k.buckets start) (λ h. omega (arith, a.inside)) ∙ read_back p.link (omega (arith, room.0))
+  new-link = kept-num p.total 2 (link_place k.size k.buckets start) (λ h. omega (arith, a.inside)) ∙ read_back p.link (omega (arith, room.0))
 
   new-count : count_of k w' (filled_of k w) ≡ cells
   new-count =
       kept-num p.total 2 (cell_of k (filled_of k w)) (λ h. omega arith) ∙ kept-num p.link 2 (cell_of k (filled_of k w)) (λ h. omega (arith, a.inside))
       ∙ kept-num p.state 2 (cell_of k (filled_of k w)) (λ h. omega arith) ∙ read_back p.head (omega (arith, few, a.short))
 
-  put-helds : {code : List ℕ} → Lies w at cells (own (in_mode k.mode) code start).stack → Helds k code w → Helds k code w'
+  put-helds : {code : List ℕ} → Lies w at cells (own (in_mode (mode_in k)) code start).stack → Helds k code w → Helds k code w'
   put-helds {code} st h = record { room = omega (arith, room.1, filled); each = λ b l n. either b l n (ℕ_discrete b start) }
     where
       new : HeldAt k code w' start (filled_of k w + 1)
       new =
           let e : filled_of k w + 1 - 1 ≡ filled_of k w = omega arith in
           let count : count_of k w' (filled_of k w + 1 - 1) ≡ cells = ap (count_of k w') e ∙ new-count in
-          let at_head : Lies p.w₁ at cells (own (in_mode k.mode) code start).stack = lies-apart p.head (λ i. omega (arith, room.1, a.low)) st in
-          let there : Lies p.w₂ (cell_of k (filled_of k w + 1)) cells (own (in_mode k.mode) code start).stack = lies-copied p.state at_head in
+          let at_head : Lies p.w₁ at cells (own (in_mode (mode_in k)) code start).stack = lies-apart p.head (λ i. omega (arith, room.1, a.low)) st in
+          let there : Lies p.w₂ (cell_of k (filled_of k w + 1)) cells (own (in_mode (mode_in k)) code start).stack = lies-copied p.state at_head in
           record {
             few = omega (arith, few, count);
             used = omega (arith, filled, count);
             lies = rw count (lies-apart p.total (λ i. omega arith) (lies-apart p.link (λ i. omega (arith, a.inside)) there));
           }
 
-      old : (b : ℕ) → b ≤ k.n → (b ≡ start → ⊥) → (link_of k w' b ≡ 0 → ⊥) → HeldAt k code w' b (link_of k w' b)
+      old : (b : ℕ) → b ≤ k.size → (b ≡ start → ⊥) → (link_of k w' b ≡ 0 → ⊥) → HeldAt k code w' b (link_of k w' b)
       old b l d n =
-          let link : link_of k w' b ≡ link_of k w b = rest-num 2 (link_place k.n k.buckets b) (λ i. omega (arith, d)) (λ i. omega (arith, l)) (λ i. omega (arith, l)) in
+          let link : link_of k w' b ≡ link_of k w b = rest-num 2 (link_place k.size k.buckets b) (λ i. omega (arith, d)) (λ i. omega (arith, l)) (λ i. omega (arith, l)) in
           let i : ℕ = link_of k w b in
           let some : i ≡ 0 → ⊥ = λ z. n (link ∙ z) in
           let x = h.each b l some in
@@ -116,18 +119,18 @@ module _ {k : Plan} {w w' : List ℕ} {start at cells : ℕ} (a : HoldAsks k w s
                 (lies_within (sym (rest (9 * count_of k w (i - 1)) (cell_of k i) (λ j. omega (arith, a.inside)) (λ j. omega arith) (λ j. omega (arith, x.used)))) (omega (arith, put-long, x.lies.state.fits)) x.lies);
           })
 
-      either : (b : ℕ) → b ≤ k.n → (link_of k w' b ≡ 0 → ⊥) → Dec (b ≡ start) → HeldAt k code w' b (link_of k w' b)
+      either : (b : ℕ) → b ≤ k.size → (link_of k w' b ≡ 0 → ⊥) → Dec (b ≡ start) → HeldAt k code w' b (link_of k w' b)
       either b l n (yes e) = rw (e, new-link) new
       either b l n (no d) = old b l d n
 
-  put_front : take (bucket_place k.n k.buckets) w' ≡ take (bucket_place k.n k.buckets) w
+  put_front : take (bucket_place k.size k.buckets) w' ≡ take (bucket_place k.size k.buckets) w
   put_front =
-      let b : ℕ = bucket_place k.n k.buckets in
+      let b : ℕ = bucket_place k.size k.buckets in
       kept-take p.total b (omega arith) ∙ kept-take p.link b (omega arith) ∙ kept-take p.state b (omega arith) ∙ kept-take p.head b (omega arith)
 
-  put_back : drop (k.end - runs_room k.n) w' ≡ drop (k.end - runs_room k.n) w
+  put_back : drop (k.end - runs_room k.size) w' ≡ drop (k.end - runs_room k.size) w
   put_back =
-      let e : ℕ = k.end - runs_room k.n in
+      let e : ℕ = k.end - runs_room k.size in
       kept-drop p.total e (omega (arith, room.1)) ∙ kept-drop p.link e (omega (arith, room.1, a.inside)) ∙ kept-drop p.state e (omega (arith, room.1))
       ∙ kept-drop p.head e (omega (arith, room.1))
 
@@ -136,26 +139,26 @@ module _ {k : Plan} {w w' : List ℕ} {start at cells : ℕ} (a : HoldAsks k w s
 -- w became w', behind its buckets in use alone
 pub record BehindBuckets (k : Plan) (code w w' : List ℕ) : Type 0 where
   pub helds : Helds k code w'
-  pub front : take (bucket_place k.n k.buckets) w' ≡ take (bucket_place k.n k.buckets) w
+  pub front : take (bucket_place k.size k.buckets) w' ≡ take (bucket_place k.size k.buckets) w
   pub back : drop k.end w' ≡ drop k.end w
   pub long : length w' ≡ length w
 
 pub record Given (k : Plan) (code : List ℕ) (start : ℕ) (w w' : List ℕ) (x : StateAt) : Type 0 where
-  pub lies : Lies w' x.at x.n (own (in_mode k.mode) code start).stack
-  pub few : x.n ≤ k.n + 17
+  pub lies : Lies w' x.at x.n (own (in_mode (mode_in k)) code start).stack
+  pub few : x.n ≤ k.size + 17
   pub beyond : BehindBuckets k code w w'
 
 module _ {k : Plan} {code w : List ℕ} {start : ℕ} (a : OwnAsks k code w start) where
-  module _ {w₁ : List ℕ} {y : Own} (o : Owned k.mode code start w k.end w₁ y) where
+  module _ {w₁ : List ℕ} {y : Own} (o : Owned (mode_in k) code start w k.end w₁ y) where
     -- the run leaves the states that are held, and what lies before the part for runs
-    ran-front : take (k.end - runs_room k.n) w₁ ≡ take (k.end - runs_room k.n) w
+    ran-front : take (k.end - runs_room k.size) w₁ ≡ take (k.end - runs_room k.size) w
     ran-front = rw a.is o.inside.front
 
     ran-beyond : BehindBuckets k code w w₁
     ran-beyond =
         record {
-          helds = helds-kept k o.inside.kept (λ m j l h. part-prefix w₁ w (k.end - runs_room k.n) ran-front m j h) a.helds;
-          front = take_less w₁ w (k.end - runs_room k.n) ran-front (bucket_place k.n k.buckets) (omega (arith, a.helds.room));
+          helds = helds-kept k o.inside.kept (λ m j l h. part-prefix w₁ w (k.end - runs_room k.size) ran-front m j h) a.helds;
+          front = take_less w₁ w (k.end - runs_room k.size) ran-front (bucket_place k.size k.buckets) (omega (arith, a.helds.room));
           back = o.inside.back;
           long = o.inside.kept;
         }
@@ -164,15 +167,15 @@ module _ {k : Plan} {code w : List ℕ} {start : ℕ} (a : OwnAsks k code w star
     own-holds =
         record {
           inside = a.inside;
-          short = omega (arith, a.is, a.runs.runs.short);
-          ends = omega (arith, a.runs.runs.inside, ran-beyond.long);
+          short = omega (arith, a.is, a.runs.short);
+          ends = omega (arith, a.runs.inside, ran-beyond.long);
           room = ran-beyond.helds.room;
           low = omega (arith, a.is, o.low);
           high = o.high;
         }
 
   module _ {w' : List ℕ} {x : StateAt} (r : RanNow k code start w w' x) where
-    ran-few : r.own.n ≤ k.n + 17
+    ran-few : r.own.n ≤ k.size + 17
     ran-few = omega (arith, (own-holds r.owned).low, (own-holds r.owned).high)
 
     ran-given : Given k code start w w' (record { at = r.own.at; n = r.own.n })
@@ -186,13 +189,13 @@ module _ {k : Plan} {code w : List ℕ} {start : ℕ} (a : OwnAsks k code w star
             let long = put-long (own-holds r.owned) y.0 y.1 in
             record {
               lies =
-                  lies_within (sym (part-suffix w' r.w₁ (k.end - runs_room k.n) back (9 * r.own.n) r.own.at (own-holds r.owned).low))
+                  lies_within (sym (part-suffix w' r.w₁ (k.end - runs_room k.size) back (9 * r.own.n) r.own.at (own-holds r.owned).low))
                   (omega (arith, long, r.owned.lies.state.fits)) r.owned.lies;
               few = ran-few;
               beyond = record {
                 helds = put-helds (own-holds r.owned) y.0 y.1 r.owned.lies (ran-beyond r.owned).helds;
                 front = put_front (own-holds r.owned) y.0 y.1 ∙ (ran-beyond r.owned).front;
-                back = drop_more w' r.w₁ (k.end - runs_room k.n) back k.end (omega arith) ∙ (ran-beyond r.owned).back;
+                back = drop_more w' r.w₁ (k.end - runs_room k.size) back k.end (omega arith) ∙ (ran-beyond r.owned).back;
                 long = long ∙ (ran-beyond r.owned).long;
               };
             }
@@ -210,7 +213,7 @@ module _ {k : Plan} {code w : List ℕ} {start : ℕ} (a : OwnAsks k code w star
 
 -- ---- the ways out of `hold` and `own_state`
 
-module _ (k : Plan) {w : List ℕ} {links v : ℕ} (is : links ≡ bucket_place k.n k.buckets) (h : Holds 4 w (links + 2 * (k.n + 1)) v) where
+module _ (k : Plan) {w : List ℕ} {links v : ℕ} (is : links ≡ bucket_place k.size k.buckets) (h : Holds 4 w (links + 2 * (k.size + 1)) v) where
   filled_is : v ≡ filled_of k w
   filled_is = rw is at h.is
 
@@ -218,16 +221,16 @@ module _ (k : Plan) {w : List ℕ} {links v : ℕ} (is : links ≡ bucket_place 
     pub hold-unlinked : 65535 ≤ v → HoldDone k w start at cells w
     hold-unlinked l = record { is = inr ((λ r. absurd (omega (arith, r.0, filled_is))), refl) }
 
-    pub hold-short : k.end < links + 2 * (k.n + 1) + 4 + 9 * v + 9 * (1 + cells) + 9 * (k.n + 17) → HoldDone k w start at cells w
+    pub hold-short : k.end < links + 2 * (k.size + 1) + 4 + 9 * v + 9 * (1 + cells) + 9 * (k.size + 17) → HoldDone k w start at cells w
     hold-short l = record { is = inr ((λ r. absurd (omega (arith, r.1, filled_is, is))), refl) }
 
-    module _ {w₁ w₂ w₃ w' : List ℕ} (few : v < 65535) (room : links + 2 * (k.n + 1) + 4 + 9 * v + 9 * (1 + cells) + 9 * (k.n + 17) ≤ k.end)
-        (head : Stored 2 w (links + 2 * (k.n + 1) + 4 + 9 * v) (little 2 cells) w₁)
-        (state : Stored (9 * cells) w₁ (links + 2 * (k.n + 1) + 4 + 9 * v + 9) (take (9 * cells) (drop at w₁)) w₂)
-        (link : Stored 2 w₂ (links + 2 * start) (little 2 (v + 1)) w₃) (total : Stored 4 w₃ (links + 2 * (k.n + 1)) (little 4 (v + 1 + cells)) w') where
+    module _ {w₁ w₂ w₃ w' : List ℕ} (few : v < 65535) (room : links + 2 * (k.size + 1) + 4 + 9 * v + 9 * (1 + cells) + 9 * (k.size + 17) ≤ k.end)
+        (head : Stored 2 w (links + 2 * (k.size + 1) + 4 + 9 * v) (little 2 cells) w₁)
+        (state : Stored (9 * cells) w₁ (links + 2 * (k.size + 1) + 4 + 9 * v + 9) (take (9 * cells) (drop at w₁)) w₂)
+        (link : Stored 2 w₂ (links + 2 * start) (little 2 (v + 1)) w₃) (total : Stored 4 w₃ (links + 2 * (k.size + 1)) (little 4 (v + 1 + cells)) w') where
       pub hold-done : HoldDone k w start at cells w'
       hold-done =
-          let next : links + 2 * (k.n + 1) + 4 + 9 * v + 9 ≡ cell_of k (filled_of k w + 1) = omega (arith, filled_is, is) in
+          let next : links + 2 * (k.size + 1) + 4 + 9 * v + 9 ≡ cell_of k (filled_of k w + 1) = omega (arith, filled_is, is) in
           let put : HeldPut k w start at cells w' = record {
             w₁ = w₁;
             head = rw (is, filled_is) at head;
@@ -239,22 +242,22 @@ module _ (k : Plan) {w : List ℕ} {links v : ℕ} (is : links ≡ bucket_place 
           } in
           record { is = inl ((omega (arith, filled_is, few), omega (arith, filled_is, is, room)), put) }
 
-module _ (k : Plan) {w : List ℕ} (start : ℕ) {links v : ℕ} (is : links ≡ bucket_place k.n k.buckets) (h : Holds 2 w (links + 2 * start) v) where
+module _ (k : Plan) {w : List ℕ} (start : ℕ) {links v : ℕ} (is : links ≡ bucket_place k.size k.buckets) (h : Holds 2 w (links + 2 * start) v) where
   link-is : v ≡ link_of k w start
   link-is = rw is at h.is
 
-  pub held_none : v ≡ 0 → HeldIs k w start (record { at = 0; n = 0 })
+  pub held_none : v ≡ 0 → HeldIs k w start None
   held_none z = record { is = inl ((sym link-is ∙ z), refl) }
 
   module _ (some : v ≡ 0 → ⊥) where
-    pub held-inside : HeldAsks k w start → links + 2 * (k.n + 1) + 4 + 9 * (v - 1) + 2 ≤ length w
+    pub held-inside : HeldAsks k w start → links + 2 * (k.size + 1) + 4 + 9 * (v - 1) + 2 ≤ length w
     held-inside a = omega (arith, link-is, is, some, a.leads (λ z. some (link-is ∙ z)))
 
-    pub held-some : {n : ℕ} → Holds 2 w (links + 2 * (k.n + 1) + 4 + 9 * (v - 1)) n → HeldIs k w start (record { at = links + 2 * (k.n + 1) + 4 + 9 * (v - 1) + 9; n = n })
+    pub held-some : {n : ℕ} → Holds 2 w (links + 2 * (k.size + 1) + 4 + 9 * (v - 1)) n → HeldIs k w start (Some (record { at = links + 2 * (k.size + 1) + 4 + 9 * (v - 1) + 9; n = n }))
     held-some {n} g =
-        let at-is : links + 2 * (k.n + 1) + 4 + 9 * (v - 1) + 9 ≡ cell_of k (link_of k w start) = omega (arith, link-is, is, some) in
+        let at-is : links + 2 * (k.size + 1) + 4 + 9 * (v - 1) + 9 ≡ cell_of k (link_of k w start) = omega (arith, link-is, is, some) in
         let n-is : n ≡ count_of k w (link_of k w start - 1) = rw (is, link-is) at g.is in
-        record { is = inr ((λ z. some (link-is ∙ z)), (λ i. record { at = at-is i; n = n-is i })) }
+        record { is = inr ((λ z. some (link-is ∙ z)), (λ i. Some (record { at = at-is i; n = n-is i }))) }
 
 -- ---- the own state, held or run
 
@@ -263,27 +266,28 @@ module _ {k : Plan} {code w : List ℕ} {start : ℕ} (a : OwnAsks k code w star
   own-leads =
       record {
         inside = a.inside;
-        room = omega (arith, a.helds.room, a.runs.runs.inside);
-        leads = λ n. omega (arith, (a.helds.each start a.inside n).used, a.helds.room, a.runs.runs.inside);
+        room = omega (arith, a.helds.room, a.runs.inside);
+        leads = λ n. omega (arith, (a.helds.each start a.inside n).used, a.helds.room, a.runs.inside);
       }
 
-  module _ {x : StateAt} (h : HeldIs k w start x) where
-    pub own_held : (x.n ≡ 0 → ⊥) → Gave k code start w w x
-    own_held some = either h.is
-      where
-        either : ((link_of k w start ≡ 0) × (x ≡ record { at = 0; n = 0 }))
-            ⊎ ((link_of k w start ≡ 0 → ⊥) × (x ≡ record { at = cell_of k (link_of k w start); n = count_of k w (link_of k w start - 1) })) → Gave k code start w w x
-        either (inl y) = absurd (some (ap (λ (z : StateAt). z.n) y.1))
-        either (inr y) = record { is = inl (y.0, refl, y.1) }
+  pub own_held : {x : StateAt} → HeldIs k w start (Some x) → Gave k code start w w x
+  own_held {x} h = either h.is
+    where
+      either : ((link_of k w start ≡ 0) × (Some x ≡ None))
+          ⊎ ((link_of k w start ≡ 0 → ⊥) × (Some x ≡ Some (record { at = cell_of k (link_of k w start); n = count_of k w (link_of k w start - 1) }))) → Gave k code start w w x
+      either (inl y) = absurd (none-some _ (sym y.1))
+      either (inr y) = record { is = inl (y.0, refl, same_Some _ _ y.1) }
 
-    -- a state has a cell at least
-    pub own-ran : {w' : List ℕ} {y : StateAt} → x.n ≡ 0 → RanNow k code start w w' y → Gave k code start w w' y
-    own-ran {w'} {y} z r = either h.is
-      where
-        either : ((link_of k w start ≡ 0) × (x ≡ record { at = 0; n = 0 }))
-            ⊎ ((link_of k w start ≡ 0 → ⊥) × (x ≡ record { at = cell_of k (link_of k w start); n = count_of k w (link_of k w start - 1) })) → Gave k code start w w' y
-        either (inl e) = record { is = inr (e.0, r) }
-        either (inr e) = absurd (omega (arith, (a.helds.each start a.inside e.0).lies.state.some, ap (λ (v : StateAt). v.n) e.1, z))
+  unlinked : {x : Option StateAt} → x ≡ None → HeldIs k w start x → link_of k w start ≡ 0
+  unlinked {x} none h = either h.is
+    where
+      either : ((link_of k w start ≡ 0) × (x ≡ None))
+          ⊎ ((link_of k w start ≡ 0 → ⊥) × (x ≡ Some (record { at = cell_of k (link_of k w start); n = count_of k w (link_of k w start - 1) }))) → link_of k w start ≡ 0
+      either (inl y) = y.0
+      either (inr y) = absurd (none-some _ (sym none ∙ y.1))
 
-  pub ran-now : {w₁ w' : List ℕ} {y : Own} → Owned k.mode code start w k.end w₁ y → HoldDone k w₁ start y.at y.n w' → RanNow k code start w w' (record { at = y.at; n = y.n })
+  pub own-ran : HeldIs k w start None → {w' : List ℕ} {y : StateAt} → RanNow k code start w w' y → Gave k code start w w' y
+  own-ran h r = record { is = inr (unlinked refl h, r) }
+
+  pub ran-now : {w₁ w' : List ℕ} {y : Own} → Owned (mode_in k) code start w k.end w₁ y → HoldDone k w₁ start y.at y.n w' → RanNow k code start w w' (record { at = y.at; n = y.n })
   ran-now {w₁} {y = y} o g = record { w₁ = w₁; own = y; owned = o; held = g; is = refl }

@@ -3,6 +3,8 @@ use mathlib.Core.Path.{◌≡◌, refl, sym, ap, ap₂, subst, ◌∙◌}
 use mathlib.Core.Logic.{◌⊎◌, inl, inr}
 use mathlib.Core.Bool.{Bool, true, false, ◌&&◌, ◌||◌, or_assoc}
 use mathlib.Core.List.{List, [], ◌∷◌, ◌++◌, append-nil}
+use Rattle.std.specs.Prelude.{Some, None}
+use Rattle.std.proofs.lemmas.Option.{none-some, same_Some}
 use Prim.Native.Nat.{ℕ, zero, suc, ◌+◌, ◌-◌, ◌*◌, ◌^◌, ◌≤◌, ◌<◌}
 use native.Mathlib.Decide.{ℕ_discrete}
 use native.Mathlib.Omega.{arith}
@@ -19,7 +21,6 @@ use Rattle.lent.proofs.Parts.{take_less, drop_more, part-suffix}
 use Rattle.lent.proofs.Numbers.{num-suffix}
 use Rattle.lent.proofs.Stored.{kept-take, kept-drop, kept-part, kept-num}
 use Rattle.layout.specs.Fields.{FIRST-FOUND, LAST-FOUND, COUNT, HIGHEST, FLAG, mark_at, high_at}
-use Rattle.layout.specs.Marks.{NOWHERE}
 use Rattle.layout.specs.Parts.{rows_end, fields_place, list_place, bucket_place, SameRows, SameFields, SameList, PastBuckets}
 use Rattle.state.specs.Cells.{stack_at}
 use Rattle.reachable.specs.Edges.{sides_at}
@@ -36,12 +37,12 @@ use Rattle.tables.specs.Recording.{Recorded}
 use Rattle.tables.specs.declared.Rooms.{Rooms}
 use Rattle.tables.specs.declared.Counts.{Counts}
 use Rattle.tables.specs.declared.Entry.{Entry}
-use Rattle.tables.specs.declared.Reply.{Reply}
+use Rattle.tables.specs.Replies.{Reply}
 use Rattle.tables.proofs.Counted.{recs-length}
 use Rattle.tables.proofs.Uses.{tables-kept}
 use Rattle.tables.proofs.Noted.{new-nowhere, new-at, recorded_more}
 use Rattle.steps.specs.Lands.{Marks, Lands, remarked, heightened, FoundMarked, Grows, Noted}
-use Rattle.steps.specs.Plans.{Plan}
+use Rattle.steps.specs.declared.plan.Plan.{Plan}
 
 -- ---- the mark of an address, with a record more
 
@@ -238,12 +239,12 @@ module _ {p : List ℕ} {np n buckets start energy : ℕ} {k : Rooms} {m m' : ta
       go (inr e) = inr (e.0, ap (λ (d : Counts). d.records) e.1)
 
 module _ {p : List ℕ} {np start energy : ℕ} {k : Plan} {w r q s w₁ r₁ q₁ s₁ : List ℕ} {c : Counts} {x : Found} {a : Reply}
-    (h : Recorded p np k.n k.buckets k.rooms (tables.mem w r q s) c start energy x (tables.mem w₁ r₁ q₁ s₁) a) where
+    (h : Recorded p np k.size k.buckets k.rooms (tables.mem w r q s) c start energy x (tables.mem w₁ r₁ q₁ s₁) a) where
   -- what recording leaves, with W marked or as it is
-  noted-by : {w₂ : List ℕ} → Spared k.n k.buckets w₁ w₂ → (a.counts.records ≡ c.records → w₂ ≡ w₁)
-      → (a.counts.records ≡ c.records + 1 → (y : ℕ) → y ≤ k.n → mark_at w₂ k.n y ≡ remarked (mem y (dest x)) c.records (mark_at w₁ k.n y))
-      → (a.counts.records ≡ c.records + 1 → (y : ℕ) → y ≤ k.n → high_at w₂ k.n y ≡ heightened w true x y (high_at w₁ k.n y))
-      → (Highest k.n w₁ → Highest k.n w₂)
+  noted-by : {w₂ : List ℕ} → Spared k.size k.buckets w₁ w₂ → (a.counts.records ≡ c.records → w₂ ≡ w₁)
+      → (a.counts.records ≡ c.records + 1 → (y : ℕ) → y ≤ k.size → mark_at w₂ k.size y ≡ remarked (mem y (dest x)) c.records (mark_at w₁ k.size y))
+      → (a.counts.records ≡ c.records + 1 → (y : ℕ) → y ≤ k.size → high_at w₂ k.size y ≡ heightened w true x y (high_at w₁ k.size y))
+      → (Highest k.size w₁ → Highest k.size w₂)
       → Noted p np k (tables.mem w r q s) c start energy x (tables.mem w₂ r₁ q₁ s₁) a
   noted-by {w₂} o same more lift high =
       let v = h.stays in
@@ -266,8 +267,8 @@ module _ {p : List ℕ} {np start energy : ℕ} {k : Plan} {w r q s w₁ r₁ q�
         marks = λ reached since l g. go l g (recorded-grows h);
         around = record {
           front = o.front ∙ b.apart.front;
-          rests = λ y l. o.rests y l ∙ part_in w₁ w 8 (fields_place k.n y + COUNT) (b.apart.rests y l) 4 (fields_place k.n y + COUNT) (omega arith) (omega arith);
-          flags = λ y l. o.flags y l ∙ part_in w₁ w 8 (fields_place k.n y + COUNT) (b.apart.rests y l) 2 (fields_place k.n y + FLAG) (omega arith) (omega arith);
+          rests = λ y l. o.rests y l ∙ part_in w₁ w 8 (fields_place k.size y + COUNT) (b.apart.rests y l) 4 (fields_place k.size y + COUNT) (omega arith) (omega arith);
+          flags = λ y l. o.flags y l ∙ part_in w₁ w 8 (fields_place k.size y + COUNT) (b.apart.rests y l) 2 (fields_place k.size y + FLAG) (omega arith) (omega arith);
           work = o.work ∙ b.work;
           back = o.back ∙ b.back;
           long_w = o.links.long ∙ b.apart.long;
@@ -279,27 +280,27 @@ module _ {p : List ℕ} {np start energy : ℕ} {k : Plan} {w r q s w₁ r₁ q�
         rows = same_count h (λ (d : Counts). d.rows) refl;
       }
     where
-      new-mark : {A B : Type 0} (y : ℕ) → y ≤ k.n → (A × (a.counts.records ≡ c.records)) ⊎ (B × (a.counts.records ≡ c.records + 1))
-          → mark_at w₂ k.n y ≡ remarked (ltb c.records a.counts.records && mem y (dest x)) c.records (mark_at w k.n y)
+      new-mark : {A B : Type 0} (y : ℕ) → y ≤ k.size → (A × (a.counts.records ≡ c.records)) ⊎ (B × (a.counts.records ≡ c.records + 1))
+          → mark_at w₂ k.size y ≡ remarked (ltb c.records a.counts.records && mem y (dest x)) c.records (mark_at w k.size y)
       new-mark y l (inl e) =
           rw (same e.1) (mark-recorded h y l) ∙ sym (if-false _ _ _ (rw (le-ltb c.records a.counts.records (omega (arith, e.1)))))
       new-mark y l (inr e) =
           rw (lt-ltb c.records a.counts.records (omega (arith, e.1))) (more e.1 y l ∙ ap (remarked (mem y (dest x)) c.records) (mark-recorded h y l))
 
-      new-high : {A B : Type 0} (y : ℕ) → y ≤ k.n → (A × (a.counts.records ≡ c.records)) ⊎ (B × (a.counts.records ≡ c.records + 1))
-          → high_at w₂ k.n y ≡ heightened w (ltb c.records a.counts.records) x y (high_at w k.n y)
+      new-high : {A B : Type 0} (y : ℕ) → y ≤ k.size → (A × (a.counts.records ≡ c.records)) ⊎ (B × (a.counts.records ≡ c.records + 1))
+          → high_at w₂ k.size y ≡ heightened w (ltb c.records a.counts.records) x y (high_at w k.size y)
       new-high y l (inl e) =
           rw (same e.1) (high-recorded h y l) ∙ sym (height-none w x y _ (le-ltb c.records a.counts.records (omega (arith, e.1))))
       new-high y l (inr e) =
           rw (lt-ltb c.records a.counts.records (omega (arith, e.1))) (lift e.1 y l ∙ ap (heightened w true x y) (high-recorded h y l))
 
-      go : {reached : List ℕ} {since : ℕ} → since ≤ c.records → Marks k.n w reached since (recs k.rooms (tables.mem w r q s) c)
+      go : {reached : List ℕ} {since : ℕ} → since ≤ c.records → Marks k.size w reached since (recs k.rooms (tables.mem w r q s) c)
           → Grows k.rooms (tables.mem w r q s) c (record { start = start; to = x; path = addrs p 0 np; energy = energy }) (tables.mem w₁ r₁ q₁ s₁) a.counts
-          → Marks k.n w₂ reached since (recs k.rooms (tables.mem w₂ r₁ q₁ s₁) a.counts)
+          → Marks k.size w₂ reached since (recs k.rooms (tables.mem w₂ r₁ q₁ s₁) a.counts)
       go l g (inl e) =
-          subst (Marks k.n w₂ _ _) (sym e.0) (rw (same e.1) (marks-kept g h.beyond.apart.front (mark-recorded h) (high-recorded h)))
+          subst (Marks k.size w₂ _ _) (sym e.0) (rw (same e.1) (marks-kept g h.beyond.apart.front (mark-recorded h) (high-recorded h)))
       go l g (inr e) =
-          subst (Marks k.n w₂ _ _) (sym e.0) (marks-more g w₂ _ (recs-length r q s k.rooms.s c.records) l
+          subst (Marks k.size w₂ _ _) (sym e.0) (marks-more g w₂ _ (recs-length r q s k.rooms.s c.records) l
           (λ y b. more e.1 y b ∙ ap (remarked (mem y (dest x)) c.records) (mark-recorded h y b))
           (λ g. high (highest-kept h.beyond.apart.front (mark-recorded h) (high-recorded h) g)))
 
@@ -309,7 +310,7 @@ module _ {p : List ℕ} {np start energy : ℕ} {k : Plan} {w r q s w₁ r₁ q�
 
 -- no destination: nothing to mark
 strayed : {p : List ℕ} {np start energy : ℕ} {k : Plan} {w r q s w₁ r₁ q₁ s₁ : List ℕ} {c : Counts} {a : Reply}
-    → Recorded p np k.n k.buckets k.rooms (tables.mem w r q s) c start energy nowhere (tables.mem w₁ r₁ q₁ s₁) a
+    → Recorded p np k.size k.buckets k.rooms (tables.mem w r q s) c start energy nowhere (tables.mem w₁ r₁ q₁ s₁) a
     → Noted p np k (tables.mem w r q s) c start energy nowhere (tables.mem w₁ r₁ q₁ s₁) a
 strayed h = noted-by h spared-all (λ _. refl) (λ _ y l. sym (if-false false _ _ refl)) (λ _ y l. refl) (λ g. g)
 
@@ -318,56 +319,56 @@ pub lands-few : {p : List ℕ} {np : ℕ} {k : Plan} {m : tables.Mem} {c : Count
 lands-few y = let i = y.ready.tables.within in omega (arith, i.fits_r, i.most_r)
 
 -- a destination is an address
-lands-inside : {p : List ℕ} {np : ℕ} {k : Plan} {m : tables.Mem} {c : Counts} {e : Entry} → Lands p np k m c e → (e.to ≡ NOWHERE → ⊥) → e.to ≤ k.n
-lands-inside {k = k} {m = m} {e = e} y d = go y.ready.entry
+lands-inside : {p : List ℕ} {np : ℕ} {k : Plan} {m : tables.Mem} {c : Counts} {e : Entry} {to : ℕ} → Lands p np k m c e → e.to ≡ Some to → to ≤ k.size
+lands-inside {k = k} {m = m} {e = e} {to = to} y d = go y.ready.entry
   where
-    go : Enters k.n m.s e → e.to ≤ k.n
-    go (enters_nowhere z _) = absurd (d z)
-    go (enters i _) = i
+    go : Enters k.size m.s e → to ≤ k.size
+    go (enters_nowhere z _) = absurd (none-some _ (sym z ∙ d))
+    go (enters z i _) = omega (arith, i, same_Some _ _ (sym z ∙ d))
 
 module _ {p : List ℕ} {np : ℕ} {k : Plan} {w r q s w₁ r₁ q₁ s₁ : List ℕ} {c : Counts} {e : Entry} {a : Reply} (y : Lands p np k (tables.mem w r q s) c e)
-    (h : Recorded p np k.n k.buckets k.rooms (tables.mem w r q s) c e.start e.energy (new_found s e) (tables.mem w₁ r₁ q₁ s₁) a) where
+    (h : Recorded p np k.size k.buckets k.rooms (tables.mem w r q s) c e.start e.energy (new_found s e) (tables.mem w₁ r₁ q₁ s₁) a) where
   -- the same of where the entry leads
-  recorded-as : {x : Found} → new_found s e ≡ x → Recorded p np k.n k.buckets k.rooms (tables.mem w r q s) c e.start e.energy x (tables.mem w₁ r₁ q₁ s₁) a
-  recorded-as is = subst (λ (x : Found). Recorded p np k.n k.buckets k.rooms (tables.mem w r q s) c e.start e.energy x (tables.mem w₁ r₁ q₁ s₁) a) is h
+  recorded-as : {x : Found} → new_found s e ≡ x → Recorded p np k.size k.buckets k.rooms (tables.mem w r q s) c e.start e.energy x (tables.mem w₁ r₁ q₁ s₁) a
+  recorded-as is = subst (λ (x : Found). Recorded p np k.size k.buckets k.rooms (tables.mem w r q s) c e.start e.energy x (tables.mem w₁ r₁ q₁ s₁) a) is h
 
   noted-as : {x : Found} {w₂ : List ℕ} → new_found s e ≡ x → Noted p np k (tables.mem w r q s) c e.start e.energy x (tables.mem w₂ r₁ q₁ s₁) a
       → Noted p np k (tables.mem w r q s) c e.start e.energy (new_found s e) (tables.mem w₂ r₁ q₁ s₁) a
   noted-as {w₂ = w₂} is n = subst (λ (x : Found). Noted p np k (tables.mem w r q s) c e.start e.energy x (tables.mem w₂ r₁ q₁ s₁) a) (sym is) n
 
-  pub landed-nowhere : e.to ≡ NOWHERE → Noted p np k (tables.mem w r q s) c e.start e.energy (new_found s e) (tables.mem w₁ r₁ q₁ s₁) a
+  pub landed-nowhere : e.to ≡ None → Noted p np k (tables.mem w r q s) c e.start e.energy (new_found s e) (tables.mem w₁ r₁ q₁ s₁) a
   landed-nowhere z = let is = new-nowhere s e z in noted-as is (strayed (recorded-as is))
 
   -- what `mark_found` asks
-  pub lands-address : (e.to ≡ NOWHERE → ⊥) → Address k.n w₁ e.to
+  pub lands-address : {to : ℕ} → e.to ≡ Some to → Address k.size w₁ to
   lands-address some_to =
       record {
         lent = record { short = y.lent.short; room = omega (arith, y.lent.room, h.beyond.apart.long) };
         inside = lands-inside y some_to;
       }
 
-  pub lands_within : SidesWithin w₁ k.n
-  lands_within = within-sides (sides-kept w w₁ k.n h.beyond.apart.front) y.within
+  pub lands_within : SidesWithin w₁ k.size
+  lands_within = within-sides (sides-kept w w₁ k.size h.beyond.apart.front) y.within
 
   -- a record was added, so its destination is marked
-  pub landed-new : (e.to ≡ NOWHERE → ⊥) → {w₂ : List ℕ} → (a.counts.records ≡ c.records → ⊥) → FoundMarked k.n w₁ e.to (c.records + 2) w₂
+  pub landed-new : {to : ℕ} → e.to ≡ Some to → {w₂ : List ℕ} → (a.counts.records ≡ c.records → ⊥) → FoundMarked k.size w₁ to (c.records + 2) w₂
       → Noted p np k (tables.mem w r q s) c e.start e.energy (new_found s e) (tables.mem w₂ r₁ q₁ s₁) a
-  landed-new some_to d o =
-      let is : new_found s e ≡ found e.to (stack_at s (9 * e.from) e.cells) = new-at s e y.ready.tables.few (lands-inside y some_to) in
+  landed-new {to} some_to d o =
+      let is : new_found s e ≡ found to (stack_at s (9 * e.from) e.cells) = new-at s e some_to in
       let at = lands-address some_to in
       let m = o.marks in
       let v = o.raises in
-      let front : SameRows k.n w o.between = (marked-kept at m).rows ∙ h.beyond.apart.front in
+      let front : SameRows k.size w o.between = (marked-kept at m).rows ∙ h.beyond.apart.front in
       noted-as is
-      (noted-by (recorded-as is) (spared-then (spared-mark at m) (spared-raised v)) (λ g. absurd (d g)) (λ _ z l. raised-marks v z l ∙ marked z (ℕ_discrete z e.to))
-      (λ _ z l. v.highs z l ∙ ap₂ (λ (ts : List ℕ) (f : ℕ). raised (mem z ts) e.to f) (sides-kept w o.between k.n front e.to (lands-inside y some_to)) (kept-highs (marked-kept at m) z l))
+      (noted-by (recorded-as is) (spared-then (spared-mark at m) (spared-raised v)) (λ g. absurd (d g)) (λ _ z l. raised-marks v z l ∙ marked z (ℕ_discrete z to))
+      (λ _ z l. v.highs z l ∙ ap₂ (λ (ts : List ℕ) (f : ℕ). raised (mem z ts) to f) (sides-kept w o.between k.size front to (lands-inside y some_to)) (kept-highs (marked-kept at m) z l))
       (λ g. highest-marked g at (omega arith) (lands-few y) m v))
     where
-      marked : (z : ℕ) → Dec (z ≡ e.to) → mark_at o.between k.n z ≡ remarked (mem z (e.to ∷ [])) c.records (mark_at w₁ k.n z)
+      marked : (z : ℕ) → Dec (z ≡ to) → mark_at o.between k.size z ≡ remarked (mem z (to ∷ [])) c.records (mark_at w₁ k.size z)
       marked z (yes i) =
-          rw (mem-one z e.to, eq-eqb z e.to i, i) (marked-one (lands-address some_to) o.marks (lands-few y))
+          rw (mem-one z to, eq-eqb z to i, i) (marked-one (lands-address some_to) o.marks (lands-few y))
       marked z (no i) =
-          marked-others (lands-address some_to) o.marks z i ∙ sym (if-false (mem z (e.to ∷ []) && eqb (mark_at w₁ k.n z) 0) _ _ (rw (mem-one z e.to, ne_eqb z e.to i)))
+          marked-others (lands-address some_to) o.marks z i ∙ sym (if-false (mem z (to ∷ []) && eqb (mark_at w₁ k.size z) 0) _ _ (rw (mem-one z to, ne_eqb z to i)))
 
 -- ---- for the caller: the older records stay
 

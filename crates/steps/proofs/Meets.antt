@@ -10,11 +10,11 @@ use Rattle.tables.specs.Chains.{any}
 use Rattle.tables.specs.Rows.{met_of, seen_met, equal_met, is_met, Stamped, Finds}
 use Rattle.tables.specs.Mets.{Memorizes, Memorized}
 use Rattle.tables.specs.declared.Counts.{Counts}
-use Rattle.tables.specs.declared.Reply.{Reply}
+use Rattle.tables.specs.Replies.{Reply}
 use Rattle.tables.specs.declared.row.Seen.{Seen}
 use Rattle.tables.proofs.Turns.{met-found, fresh-finds, row-short}
 use Rattle.steps.specs.Meets.{Meets, Met}
-use Rattle.steps.specs.Plans.{Plan}
+use Rattle.steps.specs.declared.plan.Plan.{Plan}
 
 module _ {t s : List ℕ} {k : Plan} {c : Counts} {x : Seen} (h : Meets t s k c x) where
   -- with no room there is no row, so nothing was met

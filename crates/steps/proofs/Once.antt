@@ -2,15 +2,18 @@
 -- what W holds behind its buckets in use. Assumes nothing.
 use mathlib.Core.Path.{◌≡◌, refl, sym, ap, ◌∙◌}
 use mathlib.Core.Logic.{◌⊎◌, inl, inr}
-use mathlib.Core.Bool.{Bool, true, false, ◌&&◌}
-use mathlib.Core.List.{List, [], ◌∷◌}
-use Prim.Native.Nat.{ℕ, ◌+◌, ◌-◌, ◌*◌, ◌≤◌, ◌<◌}
+use mathlib.Core.Bool.{Bool, true, false, ◌&&◌, true≢false}
+use mathlib.Core.List.{List}
+use Rattle.std.specs.Prelude.{Option, Some, None, Result, Ok, Err}
+use Rattle.refusal.specs.declared.Shortage.{Shortage}
+use Rattle.refusal.specs.Numbers.{short_number}
+use Prim.Native.Nat.{ℕ, ◌+◌, ◌-◌, ◌*◌, ◌≤◌}
 use native.Mathlib.Omega.{arith}
-use lib.Dec.{ltb}
+use lib.Dec.{eqb, ltb}
 use lib.ListN.{length, take, drop}
-use Rattle.spec.specs.Lists.{mem, little}
+use Rattle.spec.specs.Lists.{if, mem, little}
 use Rattle.spec.specs.Stacks.{Stack}
-use Rattle.spec.specs.Search.{Found, kept, dest, S}
+use Rattle.spec.specs.Search.{Found, kept, dest}
 use Rattle.laws.proofs.Branch.{if-false}
 use Rattle.lent.specs.Bytes.{Stored, patch}
 use Rattle.lent.proofs.Numbers.{num-prefix}
@@ -24,27 +27,62 @@ use Rattle.state.proofs.Once.{one_symbol, one_lies}
 use Rattle.tables.specs.Addrs.{addrs}
 use Rattle.tables.specs.Tables as tables
 use Rattle.tables.specs.Tables.{recs, counted}
-use Rattle.tables.specs.Recording.{short_of, recorded?}
+use Rattle.tables.specs.Recording.{recorded?}
 use Rattle.tables.specs.declared.Counts.{Counts}
-use Rattle.tables.specs.declared.Reply.{Reply}
+use Rattle.tables.specs.Replies.{Reply, reply_of}
+use Rattle.tables.proofs.Shorts.{short-some}
+use Rattle.refusal.specs.declared.Shortage.TheVariants as short
 use Rattle.tables.specs.declared.row.Seen.{Seen}
 use Rattle.tables.proofs.Chains.{keyed}
 use Rattle.tables.proofs.Alike.{AllBytes, AllLong, one-tables, one_more, addrs-same}
 use Rattle.tables.proofs.Once.{one_answer, one-memorized}
 use Rattle.steps.specs.Lands.{remarked, heightened, Noted}
-use Rattle.steps.specs.Meets.{Met}
+use Rattle.steps.specs.Meets.{Meeting, meeting_of, Met}
 use Rattle.steps.specs.Paths.{Grown, Counted}
 use Rattle.steps.specs.States.{Took}
-use Rattle.exec.specs.Owns.{runs_room, Owned}
+use Rattle.exec.specs.Owns.{runs_room, Owned, Runs}
 use Rattle.exec.specs.declared.run.Own.{Own}
 use Rattle.exec.proofs.Once.{OneRun, one-owned}
-use Rattle.steps.specs.Plans.{Plan, RunsIn}
+use Rattle.steps.specs.Plans.{mode_in}
+use Rattle.steps.specs.declared.plan.Plan.{Plan}
 use Rattle.steps.specs.Helds.{link_of, filled_of, cell_of, count_of, HoldAsks, HeldRoom, HeldPut, HoldDone, HeldIs, OwnAsks, RanNow, Gave}
 use Rattle.steps.specs.declared.own.StateAt.{StateAt}
 use Rattle.steps.proofs.Helds.{own-holds}
 use Rattle.steps.specs.declared.Level.{Level}
-use Rattle.steps.specs.declared.meet.Meeting.{Meeting}
 use Rattle.steps.specs.declared.state_of.Taken.{Taken}
+
+-- ---- the answers are as their numbers
+
+shortage_of : ℕ → Shortage
+shortage_of n = if (eqb n 4) short.P (if (eqb n 5) short.S (if (eqb n 6) short.T (if (eqb n 7) short.R short.Q)))
+
+numbered : (x : Shortage) → shortage_of (short_number x) ≡ x
+unfolding shortage_of if
+numbered short.P = refl
+numbered short.S = refl
+numbered short.T = refl
+numbered short.R = refl
+numbered short.Q = refl
+
+short-same : (x y : Shortage) → short_number x ≡ short_number y → x ≡ y
+short-same x y e = sym (numbered x) ∙ ap shortage_of e ∙ numbered y
+
+meeting-same : (c : Counts) (x y : Result (Option Counts) Shortage) → meeting_of c x ≡ meeting_of c y → x ≡ y
+meeting-same c (Err x) (Err y) e = ap Err (short-same x y (ap (λ (m : Meeting). m.code) e))
+meeting-same c (Err x) (Ok None) e = absurd (short-some x (ap (λ (m : Meeting). m.code) e))
+meeting-same c (Err x) (Ok (Some _)) e = absurd (short-some x (ap (λ (m : Meeting). m.code) e))
+meeting-same c (Ok None) (Err y) e = absurd (short-some y (sym (ap (λ (m : Meeting). m.code) e)))
+meeting-same c (Ok (Some _)) (Err y) e = absurd (short-some y (sym (ap (λ (m : Meeting). m.code) e)))
+meeting-same c (Ok None) (Ok None) e = refl
+meeting-same c (Ok None) (Ok (Some y)) e = absurd (true≢false (ap (λ (m : Meeting). m.met) e))
+meeting-same c (Ok (Some x)) (Ok None) e = absurd (true≢false (sym (ap (λ (m : Meeting). m.met) e)))
+meeting-same c (Ok (Some x)) (Ok (Some y)) e = ap (λ (d : Counts). Ok (Some d)) (ap (λ (m : Meeting). m.counts) e)
+
+pub reply-same : (c : Counts) (x y : Result Counts Shortage) → reply_of c x ≡ reply_of c y → x ≡ y
+reply-same c (Err x) (Err y) e = ap Err (short-same x y (ap (λ (m : Reply). m.code) e))
+reply-same c (Err x) (Ok _) e = absurd (short-some x (ap (λ (m : Reply). m.code) e))
+reply-same c (Ok _) (Err y) e = absurd (short-some y (sym (ap (λ (m : Reply). m.code) e)))
+reply-same c (Ok x) (Ok y) e = ap Ok (ap (λ (m : Reply). m.counts) e)
 
 -- ---- what is found
 
@@ -55,18 +93,18 @@ one-noted {p} {np} {start} {energy} {k} {m} {m'} {m''} {c} {x} {a} {e} b d f g =
     code : a.code ≡ e.code
     code = f.tells ∙ sym g.tells
 
-    marks : a.counts ≡ e.counts → (y : ℕ) → y ≤ k.n → mark_at m'.w k.n y ≡ mark_at m''.w k.n y
+    marks : a.counts ≡ e.counts → (y : ℕ) → y ≤ k.size → mark_at m'.w k.size y ≡ mark_at m''.w k.size y
     marks z y h =
-        f.marked y h ∙ ap (λ (o : Counts). remarked (ltb c.records o.records && mem y (dest x)) c.records (mark_at m.w k.n y)) z ∙ sym (g.marked y h)
+        f.marked y h ∙ ap (λ (o : Counts). remarked (ltb c.records o.records && mem y (dest x)) c.records (mark_at m.w k.size y)) z ∙ sym (g.marked y h)
 
-    heights : a.counts ≡ e.counts → (y : ℕ) → y ≤ k.n → high_at m'.w k.n y ≡ high_at m''.w k.n y
+    heights : a.counts ≡ e.counts → (y : ℕ) → y ≤ k.size → high_at m'.w k.size y ≡ high_at m''.w k.size y
     heights z y h =
-        f.heights y h ∙ ap (λ (o : Counts). heightened m.w (ltb c.records o.records) x y (high_at m.w k.n y)) z ∙ sym (g.heights y h)
+        f.heights y h ∙ ap (λ (o : Counts). heightened m.w (ltb c.records o.records) x y (high_at m.w k.size y)) z ∙ sym (g.heights y h)
 
     -- the count, the highest parent and the flag of an address
-    rests : a.counts ≡ e.counts → length m'.w ≡ length m''.w → (y : ℕ) → y ≤ k.n → Same m'.w m''.w (fields_place k.n y + COUNT) 8
+    rests : a.counts ≡ e.counts → length m'.w ≡ length m''.w → (y : ℕ) → y ≤ k.size → Same m'.w m''.w (fields_place k.size y + COUNT) 8
     rests z long y h =
-        let place = fields_place k.n y in
+        let place = fields_place k.size y in
         same_then
         (same_then (same-both (place + COUNT) 4 (f.around.rests y h) (g.around.rests y h)) (same-num b.w d.w long 2 (place + HIGHEST) (heights z y h)) (omega arith))
         (same-both (place + FLAG) 2 (f.around.flags y h) (g.around.flags y h)) (omega arith)
@@ -90,9 +128,9 @@ one-noted {p} {np} {start} {energy} {k} {m} {m'} {m''} {c} {x} {a} {e} b d f g =
           one_answer code counts,
           one_more (ap (λ (o : Counts). o.records) made) (omega (arith, f.tables.within.fits_s)) one f.around.stays (rw (sym counts) at g.around.stays)
               (f.around.front ∙ sym g.around.front)
-              (λ a h. same-as (same-num b.w d.w long.w 4 (fields_place k.n a) (marks counts a h)) (omega arith) refl)
+              (λ a h. same-as (same-num b.w d.w long.w 4 (fields_place k.size a) (marks counts a h)) (omega arith) refl)
               (rests counts long.w)
-              (same-both (list_place k.n) (2 * (k.n + 1)) f.around.work g.around.work)
+              (same-both (list_place k.size) (2 * (k.size + 1)) f.around.work g.around.work)
               (f.around.back ∙ sym g.around.back) b d,
         )
     go (inr z) o h =
@@ -119,24 +157,26 @@ one-met {u = u} {v = v} {a = a} {e = e} b d p q = go a.met refl
         let f = one-memorized b d (p.new o) (q.new (sym met ∙ o)) in
         (one (ap (λ (y : Reply). y.code) f.0) (ap (λ (y : Reply). y.counts) f.0), f.1)
 
+-- so the answers are the same
+pub one-meeting : {t s u v : List ℕ} {k : Plan} {c : Counts} {x : Seen} (a e : Result (Option Counts) Shortage) → Bytes u → Bytes v → Met t s k c x u (meeting_of c a)
+    → Met t s k c x v (meeting_of c e) → (a ≡ e) × (u ≡ v)
+one-meeting {c = c} a e b d p q = let one = one-met b d p q in (meeting-same c a e one.0, one.1)
+
 -- ---- the path in hand
 
-pub one-grown : {p more u v : List ℕ} {np room x y : ℕ} → Bytes u → Bytes v → Grown p np room more u x → Grown p np room more v y → (x ≡ y) × (u ≡ v)
-one-grown {p} {more} {u} {v} {np} {room} {x} {y} b d f g = go (keyed x 0) (keyed y 0)
+pub one-grown : {p more u v : List ℕ} {np room : ℕ} {x y : Result ℕ Shortage} → Bytes u → Bytes v → Grown p np room more u x → Grown p np room more v y
+    → (x ≡ y) × (u ≡ v)
+one-grown {p} {more} {u} {v} {np} {room} {x} {y} b d f g = go x y f g
   where
-    never : np + length more ≤ room → (np + length more ≡ 0 → ⊥) → (np + length more ≡ 0) ⊎ (room < np + length more) → ⊥
-    never h z (inl e) = z e
-    never h z (inr l) = omega arith
-
-    go : (x ≡ 0) ⊎ (x ≡ 0 → ⊥) → (y ≡ 0) ⊎ (y ≡ 0 → ⊥) → (x ≡ y) × (u ≡ v)
-    go (inl i) (inl j) = (i ∙ sym j, (f.short i).0 ∙ sym (g.short j).0)
-    go (inl i) (inr j) = absurd (never (g.fits j) (λ z. j (g.is j ∙ z)) (f.short i).1)
-    go (inr i) (inl j) = absurd (never (f.fits i) (λ z. i (f.is i ∙ z)) (g.short j).1)
-    go (inr i) (inr j) =
-        let same : x ≡ y = f.is i ∙ sym (g.is j) in
-        let path : addrs u 0 x ≡ addrs v 0 x = f.path i ∙ sym (rw (sym same) at (g.path j)) in
-        let front : Same u v 0 (2 * (np + length more)) = same-as (addrs-same b d (f.long ∙ sym g.long) 0 x path) refl (omega (arith, f.is i)) in
-        (same, same_whole (2 * (np + length more)) front (f.back ∙ sym g.back))
+    go : (x y : Result ℕ Shortage) → Grown p np room more u x → Grown p np room more v y → (x ≡ y) × (u ≡ v)
+    go (Err x) (Err y) f g = (ap Err (f.short.0 ∙ sym g.short.0), f.short.1 ∙ sym g.short.1)
+    go (Err x) (Ok y) f g = absurd (omega (arith, f.short.2, g.fits))
+    go (Ok x) (Err y) f g = absurd (omega (arith, f.fits, g.short.2))
+    go (Ok x) (Ok y) f g =
+        let same : x ≡ y = f.is ∙ sym g.is in
+        let path : addrs u 0 x ≡ addrs v 0 x = f.path ∙ sym (rw (sym same) at g.path) in
+        let front : Same u v 0 (2 * (np + length more)) = same-as (addrs-same b d (f.long ∙ sym g.long) 0 x path) refl (omega (arith, f.is)) in
+        (ap Ok same, same_whole (2 * (np + length more)) front (f.back ∙ sym g.back))
 
 pub one-counted : {n np : ℕ} {w p u v : List ℕ} → Bytes u → Bytes v → Counted n w p np u → Counted n w p np v → u ≡ v
 one-counted {n} {np} {w} {p} {u} {v} b d f g =
@@ -151,40 +191,33 @@ one-counted {n} {np} {w} {p} {u} {v} b d f g =
 
 -- ---- a parent's state
 
-module _ {code w s w' w'' s' s'' : List ℕ} {k : Plan} {c : Counts} {l : Level} {parent : Stack} {x y : Taken} (f : Took code w s k c l parent w' s' x)
-    (g : Took code w s k c l parent w'' s'' y) where
-  took-cells : x.cells ≡ y.cells
-  took-cells = f.cells_are ∙ sym g.cells_are
-
-  took-code : x.code ≡ y.code
-  took-code = f.code_is ∙ ap (λ (o : ℕ). short_of k.rooms (record { room = S; units = c.kept + c.used + o } ∷ [])) took-cells ∙ sym g.code_is
-
-  took-s : s' ≡ s''
-  took-s = go (keyed x.code 0)
-    where
-      go : (x.code ≡ 0) ⊎ (x.code ≡ 0 → ⊥) → s' ≡ s''
-      go (inl z) =
-          let o : y.code ≡ 0 = sym took-code ∙ z in
-          let bottom : Same s' s'' 0 (9 * c.used) = record { is = f.bottom ∙ sym g.bottom } in
-          let state : Same s' s'' (9 * c.used) (9 * x.cells) = one_lies (f.lies z) (rw (sym took-cells) at (g.lies o)) in
-          same_whole (9 * (c.used + x.cells)) (same-as (same_then bottom state (omega arith)) refl (omega arith)) (f.after z ∙ sym (rw (sym took-cells) at (g.after o)))
-      go (inr z) = f.refused z ∙ sym (g.refused (λ h. z (took-code ∙ h)))
+module _ {code w s w' w'' s' s'' : List ℕ} {k : Plan} {c : Counts} {l : Level} {parent : Stack} where
+  took-alike : (x y : Result Taken Shortage) → Took code w s k c l parent w' s' x → Took code w s k c l parent w'' s'' y → (x ≡ y) × (s' ≡ s'')
+  took-alike (Err x) (Err y) f g = (ap Err (f.refused.0 ∙ sym g.refused.0), f.refused.1 ∙ sym g.refused.1)
+  took-alike (Err x) (Ok y) f g = absurd (omega (arith, ap short_number f.refused.0, f.code_is, g.code_is))
+  took-alike (Ok x) (Err y) f g = absurd (omega (arith, ap short_number g.refused.0, f.code_is, g.code_is))
+  took-alike (Ok x) (Ok y) f g =
+      let count : x.cells ≡ y.cells = f.cells_are ∙ sym g.cells_are in
+      let symbol : x.symbol ≡ y.symbol = one_symbol f.symbol_is g.symbol_is in
+      let bottom : Same s' s'' 0 (9 * c.used) = record { is = f.bottom ∙ sym g.bottom } in
+      let state : Same s' s'' (9 * c.used) (9 * x.cells) = one_lies f.lies (rw (sym count) at g.lies) in (
+        (λ i. Ok (record { cells = count i; symbol = symbol i })),
+        same_whole (9 * (c.used + x.cells)) (same-as (same_then bottom state (omega arith)) refl (omega arith)) (f.after ∙ sym (rw (sym count) at g.after)),
+      )
 
   -- but for the states that W holds behind its buckets in use, and the part for runs
-  pub one-took : bucket_place k.n k.buckets ≤ k.end → (x ≡ y) × (s' ≡ s'') × Outside (bucket_place k.n k.buckets) (k.end - bucket_place k.n k.buckets) w' w''
-  one-took room =
-      let symbol : x.symbol ≡ y.symbol = one_symbol f.symbol_is g.symbol_is in
-      let front : Same w' w'' 0 (bucket_place k.n k.buckets) = record { is = f.front ∙ sym g.front } in (
-        (λ i. record { code = took-code i; cells = took-cells i; symbol = symbol i }),
-        took-s,
-        same-outside k.end front (f.back ∙ sym g.back) (omega arith) (f.long_w ∙ sym g.long_w),
-      )
+  pub one-took : {x y : Result Taken Shortage} → Took code w s k c l parent w' s' x → Took code w s k c l parent w'' s'' y → bucket_place k.size k.buckets ≤ k.end
+      → (x ≡ y) × (s' ≡ s'') × Outside (bucket_place k.size k.buckets) (k.end - bucket_place k.size k.buckets) w' w''
+  one-took {x} {y} f g room =
+      let one = took-alike x y f g in
+      let front : Same w' w'' 0 (bucket_place k.size k.buckets) = record { is = f.front ∙ sym g.front } in
+      (one.0, one.1, same-outside k.end front (f.back ∙ sym g.back) (omega arith) (f.long_w ∙ sym g.long_w))
 
 -- ---- the run of a block
 
-pub one-run-block : {code w v u : List ℕ} {k : Plan} {start : ℕ} {r s : Own} → RunsIn code w k → Owned k.mode code start w k.end v r
-    → Owned k.mode code start w k.end u s → OneRun code k.end v u r s
-one-run-block a p q = one-owned a.runs p q
+pub one-run-block : (k : Plan) {code w v u : List ℕ} {start : ℕ} {r s : Own} → Runs code w k.end → Owned (mode_in k) code start w k.end v r
+    → Owned (mode_in k) code start w k.end u s → OneRun code k.end v u r s
+one-run-block k a p q = one-owned a p q
 
 -- ---- the own state of a block
 
@@ -200,38 +233,38 @@ outside-stored {i} {j} {n} {at} {l} {m} {l'} {m'} {bs} o p q h =
     front : (b : List ℕ) {b' : List ℕ} → b' ≡ patch b at bs → length bs ≡ n → at + length bs ≤ length b → take i b' ≡ patch (take i b) at bs
     front b e f g = ap (take i) e ∙ take-patch-past b at bs g i (omega arith)
 
-module _ {k : Plan} {w v : List ℕ} {start at cells : ℕ} (a : HoldAsks k w start at cells) (o : Outside (k.end - runs_room k.n) (runs_room k.n) w v) (c : Same w v at (9 * cells)) where
+module _ {k : Plan} {w v : List ℕ} {start at cells : ℕ} (a : HoldAsks k w start at cells) (o : Outside (k.end - runs_room k.size) (runs_room k.size) w v) (c : Same w v at (9 * cells)) where
   filled-same : filled_of k v ≡ filled_of k w
-  filled-same = sym (num-prefix w v (k.end - runs_room k.n) o.before 4 (filled_place k.n k.buckets) (omega (arith, a.room)))
+  filled-same = sym (num-prefix w v (k.end - runs_room k.size) o.before 4 (filled_place k.size k.buckets) (omega (arith, a.room)))
 
-  both-put : {w' v' : List ℕ} → HeldRoom k w cells → HeldPut k w start at cells w' → HeldPut k v start at cells v' → Outside (k.end - runs_room k.n) (runs_room k.n) w' v'
+  both-put : {w' v' : List ℕ} → HeldRoom k w cells → HeldPut k w start at cells w' → HeldPut k v start at cells v' → Outside (k.end - runs_room k.size) (runs_room k.size) w' v'
   both-put room p q =
       let q₁ : Stored 2 v (cell_of k (filled_of k w)) (little 2 cells) q.w₁ = rw filled-same at q.head in
       let bytes : take (9 * cells) (drop at q.w₁) ≡ take (9 * cells) (drop at p.w₁) =
       kept-part q₁ (9 * cells) at (λ h. absurd (omega (arith, room.1, a.low))) ∙ sym c.is ∙ sym (kept-part p.head (9 * cells) at (λ h. absurd (omega (arith, room.1, a.low)))) in
       let q₂ : Stored (9 * cells) q.w₁ (cell_of k (filled_of k w + 1)) (take (9 * cells) (drop at p.w₁)) q.w₂ = rw (filled-same, bytes) at q.state in
-      let q₃ : Stored 2 q.w₂ (link_place k.n k.buckets start) (little 2 (filled_of k w + 1)) q.w₃ = rw filled-same at q.link in
+      let q₃ : Stored 2 q.w₂ (link_place k.size k.buckets start) (little 2 (filled_of k w + 1)) q.w₃ = rw filled-same at q.link in
       let q₄ = rw filled-same at q.total in
       outside-stored (outside-stored (outside-stored (outside-stored o p.head q₁ (omega (arith, room.1))) p.state q₂ (omega (arith, room.1))) p.link q₃ (omega (arith, room.1, a.inside)))
       p.total q₄ (omega (arith, room.1))
 
-  pub one-hold : {w' v' : List ℕ} → HoldDone k w start at cells w' → HoldDone k v start at cells v' → Outside (k.end - runs_room k.n) (runs_room k.n) w' v'
+  pub one-hold : {w' v' : List ℕ} → HoldDone k w start at cells w' → HoldDone k v start at cells v' → Outside (k.end - runs_room k.size) (runs_room k.size) w' v'
   one-hold {w'} {v'} f g = go f.is g.is
     where
       go : (HeldRoom k w cells × HeldPut k w start at cells w') ⊎ ((HeldRoom k w cells → ⊥) × (w' ≡ w)) → (HeldRoom k v cells × HeldPut k v start at cells v') ⊎ ((HeldRoom k v cells → ⊥) × (v' ≡ v))
-          → Outside (k.end - runs_room k.n) (runs_room k.n) w' v'
+          → Outside (k.end - runs_room k.size) (runs_room k.size) w' v'
       go (inl x) (inl y) = both-put x.0 x.1 y.1
       go (inl x) (inr y) = absurd (y.0 (rw filled-same x.0))
       go (inr x) (inl y) = absurd (x.0 (rw filled-same at y.0))
       go (inr x) (inr y) = rw (x.1, y.1) o
 
-pub one-held-state : {k : Plan} {w : List ℕ} {start : ℕ} {x y : StateAt} → HeldIs k w start x → HeldIs k w start y → x ≡ y
+pub one-held-state : {k : Plan} {w : List ℕ} {start : ℕ} {x y : Option StateAt} → HeldIs k w start x → HeldIs k w start y → x ≡ y
 one-held-state {k} {w} {start} {x} {y} f g = go f.is g.is
   where
-    go : ((link_of k w start ≡ 0) × (x ≡ record { at = 0; n = 0 }))
-        ⊎ ((link_of k w start ≡ 0 → ⊥) × (x ≡ record { at = cell_of k (link_of k w start); n = count_of k w (link_of k w start - 1) }))
-        → ((link_of k w start ≡ 0) × (y ≡ record { at = 0; n = 0 }))
-        ⊎ ((link_of k w start ≡ 0 → ⊥) × (y ≡ record { at = cell_of k (link_of k w start); n = count_of k w (link_of k w start - 1) }))
+    go : ((link_of k w start ≡ 0) × (x ≡ None))
+        ⊎ ((link_of k w start ≡ 0 → ⊥) × (x ≡ Some (record { at = cell_of k (link_of k w start); n = count_of k w (link_of k w start - 1) })))
+        → ((link_of k w start ≡ 0) × (y ≡ None))
+        ⊎ ((link_of k w start ≡ 0 → ⊥) × (y ≡ Some (record { at = cell_of k (link_of k w start); n = count_of k w (link_of k w start - 1) })))
         → x ≡ y
     go (inl p) (inl q) = p.1 ∙ sym q.1
     go (inl p) (inr q) = absurd (q.0 p.0)
@@ -239,22 +272,22 @@ one-held-state {k} {w} {start} {x} {y} f g = go f.is g.is
     go (inr p) (inr q) = p.1 ∙ sym q.1
 
 pub one-ran : {k : Plan} {code w w' v' : List ℕ} {start : ℕ} {x y : StateAt} → OwnAsks k code w start → RanNow k code start w w' x → RanNow k code start w v' y
-    → (x ≡ y) × Outside (k.end - runs_room k.n) (runs_room k.n) w' v'
+    → (x ≡ y) × Outside (k.end - runs_room k.size) (runs_room k.size) w' v'
 one-ran a r s =
-    let one = one-owned a.runs.runs r.owned s.owned in
+    let one = one-owned a.runs r.owned s.owned in
     let same : r.own ≡ s.own = one.result in
     let held = rw (← same) at s.held in
     (r.is ∙ ap (λ (z : Own). record { at = z.at; n = z.n }) same ∙ sym s.is, one-hold (own-holds a r.owned) (rw a.is one.others) one.cells r.held held)
 
 pub one-gave : {k : Plan} {code w w' v' : List ℕ} {start : ℕ} {x y : StateAt} → OwnAsks k code w start → Gave k code start w w' x → Gave k code start w v' y
-    → (x ≡ y) × Outside (k.end - runs_room k.n) (runs_room k.n) w' v'
+    → (x ≡ y) × Outside (k.end - runs_room k.size) (runs_room k.size) w' v'
 one-gave {k} {code} {w} {w'} {v'} {start} {x} {y} a f g = go f.is g.is
   where
     go : ((link_of k w start ≡ 0 → ⊥) × (w' ≡ w) × (x ≡ record { at = cell_of k (link_of k w start); n = count_of k w (link_of k w start - 1) }))
         ⊎ ((link_of k w start ≡ 0) × RanNow k code start w w' x)
         → ((link_of k w start ≡ 0 → ⊥) × (v' ≡ w) × (y ≡ record { at = cell_of k (link_of k w start); n = count_of k w (link_of k w start - 1) }))
         ⊎ ((link_of k w start ≡ 0) × RanNow k code start w v' y)
-        → (x ≡ y) × Outside (k.end - runs_room k.n) (runs_room k.n) w' v'
+        → (x ≡ y) × Outside (k.end - runs_room k.size) (runs_room k.size) w' v'
     go (inl p) (inl q) = (p.2 ∙ sym q.2, rw (p.1, q.1) (record { before = refl; after = refl; long = refl }))
     go (inl p) (inr q) = absurd (p.0 q.0)
     go (inr p) (inl q) = absurd (q.0 p.0)

@@ -1,6 +1,8 @@
 -- A parent's state behind a level's: what the calls ask, and what is answered, for a block's own state and for a kept one. Assumes nothing.
 use mathlib.Core.Path.{◌≡◌, refl, sym, ap, ◌∙◌}
 use Prim.Native.Nat.{ℕ, zero, suc, ◌+◌, ◌-◌, ◌*◌, ◌≤◌, ◌<◌}
+use Rattle.std.specs.Prelude.{Ok, Err}
+use Rattle.refusal.specs.declared.Shortage.TheVariants as short
 use mathlib.Core.List.{List, [], ◌∷◌}
 use native.Mathlib.Omega.{arith}
 use lib.Dec.{ltb}
@@ -29,10 +31,11 @@ use Rattle.tables.specs.declared.Rooms.{Rooms}
 use Rattle.tables.specs.declared.Counts.{Counts}
 use Rattle.steps.specs.Cursors.{stack_cursor}
 use Rattle.steps.specs.States.{Composing, Took}
-use Rattle.steps.specs.Plans.{Plan}
-use Rattle.steps.specs.Helds.{HeldAsks, HeldIs, OwnAsks, RanNow, Gave}
+use Rattle.steps.specs.Plans.{mode_in}
+use Rattle.steps.specs.declared.plan.Plan.{Plan}
+use Rattle.steps.specs.Helds.{OwnAsks, Gave}
 use Rattle.steps.specs.declared.own.StateAt.{StateAt}
-use Rattle.steps.proofs.Helds.{BehindBuckets, Given, given, own-leads, own_held, own-ran}
+use Rattle.steps.proofs.Helds.{BehindBuckets, Given, given}
 use Rattle.steps.specs.declared.Level.{Level}
 
 -- ---- the kept cells of the records before one
@@ -74,7 +77,7 @@ module _ {code w s r : List ℕ} {k : Plan} {c : Counts} {l : Level} {at : ℕ} 
   C = stack_at s (9 * l.from) l.cells
 
   P : Stack
-  P = stack_cursor k.mode code r s k.rooms.s at
+  P = stack_cursor (mode_in k) code r s k.rooms.s at
 
   -- ---- either parent, which lies in b from `from` on, in n cells
 
@@ -99,19 +102,19 @@ module _ {code w s r : List ℕ} {k : Plan} {c : Counts} {l : Level} {at : ℕ} 
             small = omega (arith, ap reach e, q.deep, q.deeper);
           }
 
-      module _ {w' : List ℕ} (o : BehindBuckets k code w w') {y : StackSym} (x : sym_of y ≡ read (stack_at b from n) l.position) where
-        took-short : k.rooms.s < c.kept + c.used + m → Took code w s k c l P w' s (record { code = 5; cells = m; symbol = y })
+      module _ {w' : List ℕ} (o : BehindBuckets k code w w') where
+        took-short : k.rooms.s < c.kept + c.used + m → Took code w s k c l P w' s (Err short.S)
         unfolding C
         took-short h =
             record {
-              cells_are = rw e count;
-              code_is = one-short k.rooms (c.kept + c.used + m) h;
-              symbol_is = rw e x;
-              fits = λ z. absurd (omega (arith, z));
-              lies = λ z. absurd (omega (arith, z));
-              refused = λ _. refl;
+              code_is = rw (e, ← count) (one-short k.rooms (c.kept + c.used + m) h);
+              cells_are = tt;
+              symbol_is = tt;
+              fits = tt;
+              lies = tt;
+              refused = (refl, refl);
               bottom = refl;
-              after = λ _. refl;
+              after = tt;
               top = refl;
               long_s = refl;
               helds = o.helds;
@@ -120,19 +123,19 @@ module _ {code w s r : List ℕ} {k : Plan} {c : Counts} {l : Level} {at : ℕ} 
               long_w = o.long;
             }
 
-        took-all : {s' : List ℕ} {v : ℕ} → c.kept + c.used + m ≤ k.rooms.s → Composed s (9 * c.used) (compose C (stack_at b from n)) s' v
-            → Took code w s k c l P w' s' (record { code = 0; cells = v; symbol = y })
+        took-all : {y : StackSym} → sym_of y ≡ read (stack_at b from n) l.position → {s' : List ℕ} {v : ℕ} → c.kept + c.used + m ≤ k.rooms.s → Composed s (9 * c.used) (compose C (stack_at b from n)) s' v
+            → Took code w s k c l P w' s' (Ok (record { cells = v; symbol = y }))
         unfolding C
-        took-all {s'} {v} h d =
+        took-all x {s'} {v} h d =
             let room : c.kept + c.used + v ≤ k.rooms.s = omega (arith, count, d.count) in
             record {
+              code_is = rw (e, ← d.count) (one-fits k.rooms (c.kept + c.used + v) room);
               cells_are = rw e d.count;
-              code_is = one-fits k.rooms (c.kept + c.used + v) room;
               symbol_is = rw e x;
-              fits = λ _. room;
-              lies = λ _. rw e d.lies;
-              refused = λ i. absurd (i refl);
-              after = λ _. kept-drop d.stored (9 * (c.used + v)) (omega arith);
+              fits = room;
+              lies = rw e d.lies;
+              refused = tt;
+              after = kept-drop d.stored (9 * (c.used + v)) (omega arith);
               bottom = kept-take d.stored (9 * c.used) (omega arith);
               top = kept-drop d.stored (9 * (k.rooms.s - c.kept)) (omega arith);
               long_s = d.stored.kept;
@@ -148,16 +151,6 @@ module _ {code w s r : List ℕ} {k : Plan} {c : Counts} {l : Level} {at : ℕ} 
     pub direct-asks : OwnAsks k code w start
     direct-asks = record { runs = q.runs; helds = q.helds; is = q.is; inside = rw a (q.inside h) }
 
-    pub direct-leads : HeldAsks k w start
-    direct-leads = own-leads direct-asks
-
-    module _ {x : StateAt} (o : HeldIs k w start x) {w' : List ℕ} {y : StateAt} where
-      pub direct-held : (x.n ≡ 0 → ⊥) → w' ≡ w → y ≡ x → Gave k code start w w' y
-      direct-held some e f = rw (e, f) (own_held direct-asks o some)
-
-      pub direct-ran : {w₁ : List ℕ} {z : StateAt} → x.n ≡ 0 → RanNow k code start w w₁ z → w' ≡ w₁ → y ≡ z → Gave k code start w w' y
-      direct-ran none r e f = rw (e, f) (own-ran direct-asks o none r)
-
     module _ {w' : List ℕ} {x : StateAt} (g : Gave k code start w w' x) where
       o : Given k code start w w' x
       o = given direct-asks g
@@ -166,12 +159,12 @@ module _ {code w s r : List ℕ} {k : Plan} {c : Counts} {l : Level} {at : ℕ} 
       direct-long = o.beyond.long
 
       pub direct-few : l.cells + x.n ≤ k.rooms.s + (longest + 17)
-      direct-few = omega (arith, o.few, q.is, q.runs.runs.short, q.low, q.fits)
+      direct-few = omega (arith, o.few, q.is, q.runs.short, q.low, q.fits)
 
       own_is : P ≡ stack_at w' x.at x.n
       unfolding P
-      own_is = cursor-own k.mode code r s k.rooms.s at h ∙ ap (λ (i : ℕ). (run (in_mode k.mode) code (instructions code) i).stack) (sym a)
-          ∙ ap (λ (x : Ran). x.stack) (sym (own-walked k.mode code start (rw a (q.direct h)))) ∙ sym o.lies.is
+      own_is = cursor-own (mode_in k) code r s k.rooms.s at h ∙ ap (λ (i : ℕ). (run (in_mode (mode_in k)) code (instructions code) i).stack) (sym a)
+          ∙ ap (λ (x : Ran). x.stack) (sym (own-walked (mode_in k) code start (rw a (q.direct h)))) ∙ sym o.lies.is
 
       pub direct-readable : Readable w' x.at x.n l.position
       direct-readable = readable own_is o.lies.state
@@ -180,15 +173,14 @@ module _ {code w s r : List ℕ} {k : Plan} {c : Counts} {l : Level} {at : ℕ} 
         pub direct-composes : c.kept + c.used + m ≤ k.rooms.s → Composes s (9 * l.from) l.cells (9 * c.used) w' x.at x.n
         direct-composes = composes own_is o.lies.state f d
 
-        module _ {y : StackSym} (z : sym_of y ≡ read (stack_at w' x.at x.n) l.position) where
-          pub direct-short : k.rooms.s < c.kept + c.used + m
-              → Took code w s k c l (stack_cursor k.mode code r s k.rooms.s at) w' s (record { code = 5; cells = m; symbol = y })
-          unfolding P
-          direct-short = took-short own_is o.lies.state f d o.beyond z
+        pub direct-short : k.rooms.s < c.kept + c.used + m → Took code w s k c l (stack_cursor (mode_in k) code r s k.rooms.s at) w' s (Err short.S)
+        unfolding P
+        direct-short = took-short own_is o.lies.state f d o.beyond
 
+        module _ {y : StackSym} (z : sym_of y ≡ read (stack_at w' x.at x.n) l.position) where
           pub direct-took : {s' : List ℕ} {v : ℕ} → c.kept + c.used + m ≤ k.rooms.s
               → Composed s (9 * c.used) (compose (stack_at s (9 * l.from) l.cells) (stack_at w' x.at x.n)) s' v
-              → Took code w s k c l (stack_cursor k.mode code r s k.rooms.s at) w' s' (record { code = 0; cells = v; symbol = y })
+              → Took code w s k c l (stack_cursor (mode_in k) code r s k.rooms.s at) w' s' (Ok (record { cells = v; symbol = y }))
           unfolding C P
           direct-took = took-all own_is o.lies.state f d o.beyond z
 
@@ -211,7 +203,7 @@ module _ {code w s r : List ℕ} {k : Plan} {c : Counts} {l : Level} {at : ℕ} 
 
       found-is : P ≡ stack_at s (9 * (k.rooms.s - kept)) (kept - before)
       unfolding P
-      found-is = rw (kept-is, b) (cursor-kept k.mode code r s k.rooms.s at h)
+      found-is = rw (kept-is, b) (cursor-kept (mode_in k) code r s k.rooms.s at h)
 
       pub found-rises : before ≤ kept
       found-rises = omega (arith, found-state.some)
@@ -229,14 +221,13 @@ module _ {code w s r : List ℕ} {k : Plan} {c : Counts} {l : Level} {at : ℕ} 
               clear = λ j. absurd (omega (arith, count found-is found-state f g, kept-is, q.kept h));
             }
 
-        module _ {y : StackSym} (z : sym_of y ≡ read (stack_at s (9 * (k.rooms.s - kept)) (kept - before)) l.position) where
-          pub found-short : k.rooms.s < c.kept + c.used + m
-              → Took code w s k c l (stack_cursor k.mode code r s k.rooms.s at) w s (record { code = 5; cells = m; symbol = y })
-          unfolding P
-          found-short = took-short found-is found-state f g same z
+        pub found-short : k.rooms.s < c.kept + c.used + m → Took code w s k c l (stack_cursor (mode_in k) code r s k.rooms.s at) w s (Err short.S)
+        unfolding P
+        found-short = took-short found-is found-state f g same
 
+        module _ {y : StackSym} (z : sym_of y ≡ read (stack_at s (9 * (k.rooms.s - kept)) (kept - before)) l.position) where
           pub found-took : {s' : List ℕ} {v : ℕ} → c.kept + c.used + m ≤ k.rooms.s
               → Composed s (9 * c.used) (compose (stack_at s (9 * l.from) l.cells) (stack_at s (9 * (k.rooms.s - kept)) (kept - before))) s' v
-              → Took code w s k c l (stack_cursor k.mode code r s k.rooms.s at) w s' (record { code = 0; cells = v; symbol = y })
+              → Took code w s k c l (stack_cursor (mode_in k) code r s k.rooms.s at) w s' (Ok (record { cells = v; symbol = y }))
           unfolding C P
           found-took = took-all found-is found-state f g same z

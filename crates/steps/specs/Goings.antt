@@ -1,14 +1,20 @@
--- How a search goes, as the seven numbers that are lent down have it. Assumes nothing.
-use Rattle.std.specs.Prelude.{ℕ, List, [], ◌∷◌, get_or}
+-- How a search goes on, or ends by a shortage: what the laws of its parts speak of. Assumes nothing.
+use Rattle.std.specs.Prelude.{ℕ, Result}
+use Rattle.refusal.specs.declared.Shortage.{Shortage}
+use Rattle.tables.specs.Replies.{code_of}
+use Rattle.tables.specs.declared.Counts.{Counts}
 use Rattle.steps.specs.declared.Run.{Run}
 
-abbrev pub run_in : List ℕ → Run
-run_in l =
-    record {
-      code = get_or l 0 0;
-      energy = get_or l 1 0;
-      counts = record { records = get_or l 2 0; addresses = get_or l 3 0; kept = get_or l 4 0; used = get_or l 5 0; rows = get_or l 6 0 };
-    }
+-- 0 or the number of a room that is short, the energy used, and what is in use
+pub record Gone : Type 0 where
+  pub code : ℕ
+  pub energy : ℕ
+  pub counts : Counts
 
-abbrev pub numbers_of : Run → List ℕ
-numbers_of o = let c = o.counts in o.code ∷ o.energy ∷ c.records ∷ c.addresses ∷ c.kept ∷ c.used ∷ c.rows ∷ []
+-- where the search stands by `run` when a call answers so
+abbrev pub gone : {A : Type 0} → Run → Result A Shortage → Gone
+gone run answer = record { code = code_of answer; energy = run.energy; counts = run.counts }
+
+-- and while no room was short
+abbrev pub under_way : Run → Gone
+under_way run = record { code = 0; energy = run.energy; counts = run.counts }

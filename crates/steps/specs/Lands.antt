@@ -13,11 +13,11 @@ use Rattle.tables.specs.Recording.{Lends, short_of, entry_needs, noted, Holding,
 use Rattle.tables.specs.declared.Rooms.{Rooms}
 use Rattle.tables.specs.declared.Counts.{Counts}
 use Rattle.tables.specs.declared.Entry.{Entry}
-use Rattle.tables.specs.declared.Reply.{Reply}
+use Rattle.tables.specs.Replies.{Reply}
 use Rattle.reachable.specs.Marks.{marked_by}
 use Rattle.reachable.specs.Edges.{sides_at}
 use Rattle.reachable.specs.Promises.{Room, SidesWithin, Marked, Highest, raised, Raised}
-use Rattle.steps.specs.Plans.{Plan}
+use Rattle.steps.specs.declared.plan.Plan.{Plan}
 
 -- An address counts as reached, for a level that opens with j records, if the round began with it reached or one of those records leads there. That holds
 -- from the `since` records on with which the round began. And each address has its highest direct parent that is marked.
@@ -27,9 +27,9 @@ pub record Marks (n : ℕ) (w reached : List ℕ) (since : ℕ) (rs : List Rec) 
   pub high : Highest n w
 
 pub record Lands (p : List ℕ) (np : ℕ) (k : Plan) (m : tables.Mem) (c : Counts) (e : Entry) : Type 0 where
-  pub lent : Room k.n m.w
-  pub within : SidesWithin m.w k.n
-  pub ready : Ready p np k.n k.buckets k.rooms m c e
+  pub lent : Room k.size m.w
+  pub within : SidesWithin m.w k.size
+  pub ready : Ready p np k.size k.buckets k.rooms m c e
 
 -- the mark f of an address, when the record after the first l leads there (d) or not
 abbrev pub remarked : Bool → ℕ → ℕ → ℕ
@@ -50,11 +50,11 @@ pub record FoundMarked (n : ℕ) (w : List ℕ) (a when : ℕ) (w' : List ℕ) :
 -- what stays, where the counts c became d: of R, Q and S every byte that is not a new record's but for an older one's link to the next parent, the cells
 -- in use at the bottom of S among them; of W the rows, the counts and the flags of each address, the worklist and what lies past the buckets
 pub record Around (k : Plan) (m : tables.Mem) (c : Counts) (m' : tables.Mem) (d : Counts) : Type 0 where
-  pub front : SameRows k.n m.w m'.w
-  pub rests : SameFields 4 COUNT k.n m.w m'.w
-  pub flags : SameFields 2 FLAG k.n m.w m'.w
-  pub work : SameList k.n m.w m'.w
-  pub back : PastBuckets k.n k.buckets m.w m'.w
+  pub front : SameRows k.size m.w m'.w
+  pub rests : SameFields 4 COUNT k.size m.w m'.w
+  pub flags : SameFields 2 FLAG k.size m.w m'.w
+  pub work : SameList k.size m.w m'.w
+  pub back : PastBuckets k.size k.buckets m.w m'.w
   pub long_w : length m'.w ≡ length m.w
   pub stays : Stays k.rooms c d m.r m.q m.s m'.r m'.q m'.s
   pub bottom : take (9 * c.used) m'.s ≡ take (9 * c.used) m.s
@@ -77,13 +77,13 @@ pub record Noted (p : List ℕ) (np : ℕ) (k : Plan) (m : tables.Mem) (c : Coun
   pub known : recorded? x (addrs p 0 np) (recs k.rooms m c) ≡ true → m' ≡ m
   pub refused : (a.code ≡ 0 → ⊥) → (m' ≡ m) × (a.counts ≡ c)
   pub grows : Grows k.rooms m c (record { start = start; to = x; path = addrs p 0 np; energy = energy }) m' a.counts
-  pub tables : Tables k.n k.buckets k.rooms m' a.counts
-  pub marked : (y : ℕ) → y ≤ k.n
-      → mark_at m'.w k.n y ≡ remarked (ltb c.records a.counts.records && mem y (dest x)) c.records (mark_at m.w k.n y)
-  pub heights : (y : ℕ) → y ≤ k.n
-      → high_at m'.w k.n y ≡ heightened m.w (ltb c.records a.counts.records) x y (high_at m.w k.n y)
-  pub marks : (reached : List ℕ) (since : ℕ) → since ≤ c.records → Marks k.n m.w reached since (recs k.rooms m c)
-      → Marks k.n m'.w reached since (recs k.rooms m' a.counts)
+  pub tables : Tables k.size k.buckets k.rooms m' a.counts
+  pub marked : (y : ℕ) → y ≤ k.size
+      → mark_at m'.w k.size y ≡ remarked (ltb c.records a.counts.records && mem y (dest x)) c.records (mark_at m.w k.size y)
+  pub heights : (y : ℕ) → y ≤ k.size
+      → high_at m'.w k.size y ≡ heightened m.w (ltb c.records a.counts.records) x y (high_at m.w k.size y)
+  pub marks : (reached : List ℕ) (since : ℕ) → since ≤ c.records → Marks k.size m.w reached since (recs k.rooms m c)
+      → Marks k.size m'.w reached since (recs k.rooms m' a.counts)
   pub around : Around k m c m' a.counts
   pub used : a.counts.used ≡ c.used
   pub rows : a.counts.rows ≡ c.rows

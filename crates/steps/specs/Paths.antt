@@ -1,6 +1,8 @@
 -- The path in hand, in P, and how often each address is on it, in W. Assumes nothing.
-use Rattle.std.specs.Prelude.{◌≡◌, ◌⊎◌, ℕ, ◌+◌, ◌-◌, ◌*◌, ◌^◌, ◌≤◌, ◌<◌, List, [], ◌∷◌, ◌++◌, eqb, length, take, drop}
+use Rattle.std.specs.Prelude.{Result, IfOk, IfErr, OnOk, ◌≡◌, ℕ, ◌+◌, ◌-◌, ◌*◌, ◌^◌, ◌≤◌, ◌<◌, List, [], ◌∷◌, ◌++◌, eqb, length, take, drop}
 use Rattle.spec.specs.Lists.{if}
+use Rattle.refusal.specs.declared.Shortage.{Shortage}
+use Rattle.refusal.specs.declared.Shortage.TheVariants as short
 use Rattle.laws.specs.Lists.{In}
 use Rattle.layout.specs.Fields.{HIGHEST, count_at}
 use Rattle.layout.specs.Parts.{SameRows, SameStart, SameFields, PastFields}
@@ -19,12 +21,12 @@ pub record Growing (p r q : List ℕ) (room np at : ℕ) : Type 0 where
   pub most : room ≤ 2 ^ 30
   pub fits : np ≤ room
 
--- x is 0 where the room is short, and else the path has the addresses `more` behind its own
-pub record Grown (p : List ℕ) (np room : ℕ) (more p' : List ℕ) (x : ℕ) : Type 0 where
-  pub short : x ≡ 0 → (p' ≡ p) × ((np + length more ≡ 0) ⊎ (room < np + length more))
-  pub is : (x ≡ 0 → ⊥) → x ≡ np + length more
-  pub fits : (x ≡ 0 → ⊥) → np + length more ≤ room
-  pub path : (x ≡ 0 → ⊥) → addrs p' 0 x ≡ addrs p 0 np ++ more
+-- P is refused where the room is short, and else the path has the addresses `more` behind its own
+pub record Grown (p : List ℕ) (np room : ℕ) (more p' : List ℕ) (x : Result ℕ Shortage) : Type 0 where
+  pub short : IfErr x (λ e. (e ≡ short.P) × (p' ≡ p) × (room < np + length more))
+  pub is : IfOk x (λ y. y ≡ np + length more)
+  pub fits : OnOk x (np + length more ≤ room)
+  pub path : IfOk x (λ y. addrs p' 0 y ≡ addrs p 0 np ++ more)
   pub front : take (2 * np) p' ≡ take (2 * np) p
   pub back : drop (2 * (np + length more)) p' ≡ drop (2 * (np + length more)) p
   pub long : length p' ≡ length p

@@ -10,8 +10,8 @@ use Rattle.tables.specs.Recording.{Lends}
 use Rattle.tables.specs.Rows.{met_of}
 use Rattle.tables.specs.declared.Rooms.{Rooms}
 use Rattle.tables.specs.declared.Counts.{Counts}
-use Rattle.steps.specs.Plans.{Plan}
-use Rattle.steps.specs.declared.Run.{Run}
+use Rattle.steps.specs.declared.plan.Plan.{Plan}
+use Rattle.steps.specs.Goings.{Gone}
 
 -- those that hold the records
 abbrev pub tabled : Mem → tables.Mem
@@ -21,7 +21,7 @@ abbrev pub recs_in : Plan → Mem → Counts → List Rec
 recs_in k m c = recs k.rooms (tabled m) c
 
 -- the state of document 01 that they hold, with no needs noted
-abbrev pub st_of : Plan → Mem → Run → St
+abbrev pub st_of : Plan → Mem → Gone → St
 st_of k m o =
     record { recs = recs_in k m o.counts; energy = o.energy; met = met_of m.t m.s o.counts.rows; needs = [] }
 

@@ -1,14 +1,14 @@
 // What a path ends in: it is recorded, and where it leads counts as reached at once.
 // "A destination found counts as reached for parents at once"
+ghost use Rattle.tables.specs.Replies.{reply_of};
 ghost use Rattle.tables.specs.Tables.{mem, new_found};
 ghost use Rattle.reachable.specs.Promises.{Address, SidesWithin};
 ghost use Rattle.steps.specs.Lands.{FoundMarked, Lands, Noted};
-ghost use Rattle.steps.specs.Plans.{plan_in};
 
-use crate::plan::{PLAN, RECORD_BUCKETS, ROOM_P, ROOM_Q, ROOM_R, ROOM_S, ROOM_T, SIZE};
-use layout::NOWHERE;
+use crate::plan::Plan;
 use reachable::{mark, raise_sides};
-use tables::{Counts, Entry, Reply, Rooms, record_entry};
+use refusal::Shortage;
+use tables::{Counts, Entry, record_entry};
 
 // Marks a destination found and raises its sides, so that a level which opens from now on finds it among their parents.
 fn mark_found(w: &mut [u8], size: usize, to: usize, when: usize)
@@ -20,7 +20,7 @@ fn mark_found(w: &mut [u8], size: usize, to: usize, when: usize)
     raise_sides(w, size, to);
 }
 
-// Records the path of np addresses with the entry's destination and its state, or with none, unless it is so recorded, and marks a new destination.
+// Records the path of np addresses with the entry's destination and its state, or with none, unless it is so recorded, and marks a new destination. A refusal leaves all as it was.
 pub fn land(
     w: &mut [u8],
     p: &[u8],
@@ -28,40 +28,32 @@ pub fn land(
     r: &mut [u8],
     q: &mut [u8],
     np: usize,
-    plan: &[usize; PLAN],
+    plan: &Plan,
     counts: Counts,
     entry: Entry,
-) -> Reply
-    requires { Lands p.now np (plan_in plan.now) (mem w.old r.old q.old s.old) counts entry }
-    ensures { Noted p.now np (plan_in plan.now) (mem w.old r.old q.old s.old) counts entry.start entry.energy (new_found s.old entry)
-        (mem w.new r.new q.new s.new) result }
+) -> Result<Counts, Shortage>
+    requires { Lands p.now np plan.now (mem w.old r.old q.old s.old) counts entry }
+    ensures { Noted p.now np plan.now (mem w.old r.old q.old s.old) counts entry.start entry.energy (new_found s.old entry)
+        (mem w.new r.new q.new s.new) (reply_of counts result) }
 {
-    let rooms = Rooms {
-        p: plan[ROOM_P],
-        s: plan[ROOM_S],
-        t: plan[ROOM_T],
-        r: plan[ROOM_R],
-        q: plan[ROOM_Q],
-    };
-    let answer = record_entry(
+    let after = record_entry(
         w,
         p,
         s,
         r,
         q,
         np,
-        rooms,
+        plan.rooms,
         counts,
-        plan[SIZE],
-        plan[RECORD_BUCKETS],
+        plan.size,
+        plan.buckets,
         entry,
-    );
-    if entry.to == NOWHERE {
-        return answer;
-    }
-    let after = answer.counts;
+    )?;
+    let Some(to) = entry.to else {
+        return Ok(after);
+    };
     if after.records != counts.records {
-        mark_found(w, plan[SIZE], entry.to, counts.records + 2);
+        mark_found(w, plan.size, to, counts.records + 2);
     }
-    answer
+    Ok(after)
 }

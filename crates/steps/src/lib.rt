@@ -2,7 +2,6 @@
 #![tactic(auto)]
 
 pub mod cursor;
-pub mod going;
 pub mod land;
 pub mod meet;
 pub mod own;
@@ -23,10 +22,9 @@ pub struct Level {
     pub left: usize,
 }
 
-// How a search goes: 0 or the number of a refusal, the energy used, and what is in use.
+// How a search goes: the energy used, and what is in use.
 #[derive(Clone, Copy)]
 pub struct Run {
-    pub code: usize,
     pub energy: usize,
     pub counts: Counts,
 }

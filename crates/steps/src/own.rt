@@ -2,12 +2,11 @@
 // "each block with its own stack": whenever the block is run, the stack is the same.
 ghost use Rattle.std.specs.Prelude.{◌≡◌, ◌^◌, ◌<◌};
 ghost use Rattle.layout.specs.Parts.{bucket_place};
-ghost use Rattle.exec.specs.Owns.{Owned};
-ghost use Rattle.steps.specs.Plans.{plan_in, RunsIn};
+ghost use Rattle.exec.specs.Owns.{Owned, Runs};
+ghost use Rattle.steps.specs.Plans.{mode_in};
 ghost use Rattle.steps.specs.Helds.{HoldAsks, HoldDone, HeldAsks, HeldIs, OwnAsks, RanNow, Gave};
 
-use crate::plan::{END, MODE, PLAN, RECORD_BUCKETS, SIZE};
-use exec::mode::mode_of;
+use crate::plan::Plan;
 use exec::run::{Own, run};
 use layout::part::{BUCKET, BUCKETS, CELL, FILLED, LINK, RUNS_MORE};
 use lent::{copy_within, get16, get32, put16, put32};
@@ -23,34 +22,34 @@ pub struct StateAt {
 }
 
 // Runs the block at `start` in the plan's mode, and stores its state in W's part for runs.
-fn run_block(code: &[u8], w: &mut [u8], plan: &[usize; PLAN], start: usize) -> Own
-    requires { RunsIn code.now w.old (plan_in plan.now) }
-    ensures { Owned (plan_in plan.now).mode code.now start w.old (plan_in plan.now).end w.new result }
+fn run_block(code: &[u8], w: &mut [u8], plan: &Plan, start: usize) -> Own
+    requires { Runs code.now w.old plan.now.end }
+    ensures { Owned (mode_in plan.now) code.now start w.old plan.now.end w.new result }
 {
-    run(mode_of(plan[MODE]), code, start, w, plan[END])
+    run(plan.mode, code, start, w, plan.end)
 }
 
 // Where the links begin: behind the buckets in use.
-fn links_at(plan: &[usize; PLAN]) -> usize
-    requires { bucket_place (plan_in plan.now).n (plan_in plan.now).buckets < 2 ^ 64 }
-    ensures { result ≡ bucket_place (plan_in plan.now).n (plan_in plan.now).buckets }
+fn links_at(plan: &Plan) -> usize
+    requires { bucket_place plan.now.size plan.now.buckets < 2 ^ 64 }
+    ensures { result ≡ bucket_place plan.now.size plan.now.buckets }
 {
-    BUCKETS * (plan[SIZE] + 1) + BUCKET * plan[RECORD_BUCKETS]
+    BUCKETS * (plan.size + 1) + BUCKET * plan.buckets
 }
 
 // Holds the state of the block at `start`, which stands in so many cells from `at` on, if a link can tell where and there is room.
-fn hold(w: &mut [u8], plan: &[usize; PLAN], start: usize, at: usize, cells: usize)
-    requires { HoldAsks (plan_in plan.now) w.old start at cells }
-    ensures { HoldDone (plan_in plan.now) w.old start at cells w.new }
+fn hold(w: &mut [u8], plan: &Plan, start: usize, at: usize, cells: usize)
+    requires { HoldAsks plan.now w.old start at cells }
+    ensures { HoldDone plan.now w.old start at cells w.new }
 {
     let links = links_at(plan);
-    let total = links + LINK * (plan[SIZE] + 1);
+    let total = links + LINK * (plan.size + 1);
     let filled = get32(w, total);
     if LAST_LINK <= filled {
         return;
     }
     let head = total + FILLED + CELL * filled;
-    if plan[END] < head + CELL * (1 + cells) + CELL * (plan[SIZE] + RUNS_MORE) {
+    if plan.end < head + CELL * (1 + cells) + CELL * (plan.size + RUNS_MORE) {
         return;
     }
     put16(w, head, cells);
@@ -59,27 +58,27 @@ fn hold(w: &mut [u8], plan: &[usize; PLAN], start: usize, at: usize, cells: usiz
     put32(w, total, filled + 1 + cells);
 }
 
-// Where the state of the block at `start` is held; of no cells where it is not.
-pub fn held_state(w: &[u8], plan: &[usize; PLAN], start: usize) -> StateAt
-    requires { HeldAsks (plan_in plan.now) w.now start }
-    ensures { HeldIs (plan_in plan.now) w.now start result }
+// Where the state of the block at `start` is held, if it is.
+pub fn held_state(w: &[u8], plan: &Plan, start: usize) -> Option<StateAt>
+    requires { HeldAsks plan.now w.now start }
+    ensures { HeldIs plan.now w.now start result }
 {
     let links = links_at(plan);
     let link = get16(w, links + LINK * start);
     if link == 0 {
-        return StateAt { at: 0, n: 0 };
+        return None;
     }
-    let head = links + LINK * (plan[SIZE] + 1) + FILLED + CELL * (link - 1);
-    StateAt {
+    let head = links + LINK * (plan.size + 1) + FILLED + CELL * (link - 1);
+    Some(StateAt {
         at: head + CELL,
         n: get16(w, head),
-    }
+    })
 }
 
 // Runs the block at `start`, and then holds its state.
-pub fn run_state(code: &[u8], w: &mut [u8], plan: &[usize; PLAN], start: usize) -> StateAt
-    requires { OwnAsks (plan_in plan.now) code.now w.old start }
-    ensures { RanNow (plan_in plan.now) code.now start w.old w.new result }
+pub fn run_state(code: &[u8], w: &mut [u8], plan: &Plan, start: usize) -> StateAt
+    requires { OwnAsks plan.now code.now w.old start }
+    ensures { RanNow plan.now code.now start w.old w.new result }
 {
     let own = run_block(code, w, plan, start);
     hold(w, plan, start, own.at, own.n);
@@ -90,13 +89,12 @@ pub fn run_state(code: &[u8], w: &mut [u8], plan: &[usize; PLAN], start: usize) 
 }
 
 // The own state of the block at `start`: as it is held, or run now.
-pub fn own_state(code: &[u8], w: &mut [u8], plan: &[usize; PLAN], start: usize) -> StateAt
-    requires { OwnAsks (plan_in plan.now) code.now w.old start }
-    ensures { Gave (plan_in plan.now) code.now start w.old w.new result }
+pub fn own_state(code: &[u8], w: &mut [u8], plan: &Plan, start: usize) -> StateAt
+    requires { OwnAsks plan.now code.now w.old start }
+    ensures { Gave plan.now code.now start w.old w.new result }
 {
-    let held = held_state(w, plan, start);
-    if held.n == 0 {
-        return run_state(code, w, plan, start);
+    match held_state(w, plan, start) {
+        Some(held) => held,
+        None => run_state(code, w, plan, start),
     }
-    held
 }

@@ -12,27 +12,35 @@ use layout::record::{ENDS, RECORD};
 use layout::row::ROW;
 use lent::{copy, get16, get32, put16, put32};
 use parents::link::parent_start;
+use refusal::Shortage;
 use tables::end_before;
 
-// Puts the path of the parent at `at` behind the np addresses in hand; gives how many there are then, or 0 if the room is short.
-pub fn grow(p: &mut [u8], r: &[u8], q: &[u8], room: usize, np: usize, at: usize) -> usize
+// Puts the path of the parent at `at` behind the np addresses in hand; gives how many there are then.
+pub fn grow(
+    p: &mut [u8],
+    r: &[u8],
+    q: &[u8],
+    room: usize,
+    np: usize,
+    at: usize,
+) -> Result<usize, Shortage>
     requires { Growing p.old r.now q.now room np at }
     ensures { Grown p.old np room (path_cursor r.now q.now at) p.new result }
 {
     if at < FOUND {
         if room < np + 1 {
-            return 0;
+            return Err(Shortage::P);
         }
         put16(p, 2 * np, parent_start(at));
-        return np + 1;
+        return Ok(np + 1);
     }
     let from = end_before(r, at - FOUND);
     let len = get32(r, RECORD * (at - FOUND) + ENDS) - from;
     if room < np + len {
-        return 0;
+        return Err(Shortage::P);
     }
     copy(p, 2 * np, q, 2 * from, 2 * len);
-    np + len
+    Ok(np + len)
 }
 
 // Whether an address is on the path in hand.
@@ -48,11 +56,9 @@ pub fn count(w: &mut [u8], size: usize, p: &[u8], from: usize, to: usize)
     requires { Counting size w.old p.now from to }
     ensures { Counted size w.old p.now to w.new }
 {
-    let mut i = from;
-    while i < to {
+    for i in from..to {
         let at = ROW * (size + 1 + get16(p, 2 * i)) + COUNT;
         put32(w, at, get32(w, at) + 1);
-        i += 1;
     }
 }
 
@@ -61,9 +67,7 @@ pub fn uncount(w: &mut [u8], size: usize, p: &[u8], from: usize, to: usize)
     requires { Uncounting size w.old p.now from to }
     ensures { Counted size w.old p.now from w.new }
 {
-    let mut i = to;
-    while from < i {
-        i -= 1;
+    for i in (from..to).rev() {
         let at = ROW * (size + 1 + get16(p, 2 * i)) + COUNT;
         put32(w, at, get32(w, at) - 1);
     }

@@ -4,24 +4,24 @@ ghost use Rattle.std.specs.Prelude.{◌≡◌, ◌*◌, ◌≤◌, ◌<◌, leng
 ghost use Rattle.layout.specs.Records.{record_place, kept_of};
 ghost use Rattle.steps.specs.Cursors.{stack_cursor};
 ghost use Rattle.steps.specs.States.{Composing, Took};
-ghost use Rattle.steps.specs.Plans.{plan_in};
+ghost use Rattle.steps.specs.Plans.{mode_in};
 
 use crate::Level;
 use crate::cursor::FOUND;
-use crate::own::{held_state, run_state};
-use crate::plan::{PLAN, ROOM_S};
+use crate::own::own_state;
+use crate::plan::Plan;
 use layout::record::{KEPT, RECORD};
 use lent::get32;
 use parents::link::parent_start;
+use refusal::Shortage;
 use state::compose::{compose_kept, compose_own, composed_len};
 use state::read::{base_at, symbol_at};
 use state::sym::StackSym;
 use tables::Counts;
 
-// 0 or 5 where S is short, how many cells the new state has, right after those in use, and the symbol.
+// How many cells the new state has, right after those in use, and the symbol.
 #[derive(Clone, Copy)]
 pub struct Taken {
-    pub code: usize,
     pub cells: usize,
     pub symbol: StackSym,
 }
@@ -32,30 +32,23 @@ fn take_direct(
     w: &mut [u8],
     s: &mut [u8],
     r: &[u8],
-    plan: &[usize; PLAN],
+    plan: &Plan,
     counts: Counts,
     level: Level,
     at: usize,
-) -> Taken
-    requires composing { Composing code.now w.old s.old r.now (plan_in plan.now) counts level at }
+) -> Result<Taken, Shortage>
+    requires composing { Composing code.now w.old s.old r.now plan.now counts level at }
     requires at_bound { at < 0x10000 }
-    ensures { Took code.now w.old s.old (plan_in plan.now) counts level (stack_cursor (plan_in plan.now).mode code.now r.now s.old (plan_in plan.now).rooms.s at)
+    ensures { Took code.now w.old s.old plan.now counts level (stack_cursor (mode_in plan.now) code.now r.now s.old plan.now.rooms.s at)
         w.new s.new result }
 {
     let start = parent_start(at);
-    let mut own = held_state(w, plan, start);
-    if own.n == 0 {
-        own = run_state(code, w, plan, start);
-    }
+    let own = own_state(code, w, plan, start);
     let symbol = symbol_at(w, own.at, own.n, level.position);
     let cells = composed_len(level.cells, base_at(s, 9 * level.from, level.cells), own.n);
-    let room = plan[ROOM_S];
+    let room = plan.rooms.s;
     if room < counts.kept + counts.used + cells {
-        return Taken {
-            code: 5,
-            cells,
-            symbol,
-        };
+        return Err(Shortage::S);
     }
     let made = compose_own(
         w,
@@ -66,11 +59,10 @@ fn take_direct(
         own.at,
         own.n,
     );
-    Taken {
-        code: 0,
+    Ok(Taken {
         cells: made,
         symbol,
-    }
+    })
 }
 
 // Takes the state that is kept for a found parent, in S.
@@ -79,28 +71,24 @@ fn take_found(
     w: &mut [u8],
     s: &mut [u8],
     r: &[u8],
-    plan: &[usize; PLAN],
+    plan: &Plan,
     counts: Counts,
     level: Level,
     at: usize,
-) -> Taken
-    requires composing { Composing code.now w.old s.old r.now (plan_in plan.now) counts level at }
+) -> Result<Taken, Shortage>
+    requires composing { Composing code.now w.old s.old r.now plan.now counts level at }
     requires le_at { 0x10000 ≤ at }
-    ensures { Took code.now w.old s.old (plan_in plan.now) counts level (stack_cursor (plan_in plan.now).mode code.now r.now s.old (plan_in plan.now).rooms.s at)
+    ensures { Took code.now w.old s.old plan.now counts level (stack_cursor (mode_in plan.now) code.now r.now s.old plan.now.rooms.s at)
         w.new s.new result }
 {
-    let room = plan[ROOM_S];
+    let room = plan.rooms.s;
     let kept = get32(r, RECORD * (at - FOUND) + KEPT);
     let theirs = kept - kept_before(r, at - FOUND);
     let from = 9 * (room - kept);
     let symbol = symbol_at(s, from, theirs, level.position);
     let cells = composed_len(level.cells, base_at(s, 9 * level.from, level.cells), theirs);
     if room < counts.kept + counts.used + cells {
-        return Taken {
-            code: 5,
-            cells,
-            symbol,
-        };
+        return Err(Shortage::S);
     }
     let made = compose_kept(
         s,
@@ -110,11 +98,10 @@ fn take_found(
         from,
         theirs,
     );
-    Taken {
-        code: 0,
+    Ok(Taken {
         cells: made,
         symbol,
-    }
+    })
 }
 
 // The kept cells of the records before a record.
@@ -134,13 +121,13 @@ pub fn take_state(
     w: &mut [u8],
     s: &mut [u8],
     r: &[u8],
-    plan: &[usize; PLAN],
+    plan: &Plan,
     counts: Counts,
     level: Level,
     at: usize,
-) -> Taken
-    requires { Composing code.now w.old s.old r.now (plan_in plan.now) counts level at }
-    ensures { Took code.now w.old s.old (plan_in plan.now) counts level (stack_cursor (plan_in plan.now).mode code.now r.now s.old (plan_in plan.now).rooms.s at)
+) -> Result<Taken, Shortage>
+    requires { Composing code.now w.old s.old r.now plan.now counts level at }
+    ensures { Took code.now w.old s.old plan.now counts level (stack_cursor (mode_in plan.now) code.now r.now s.old plan.now.rooms.s at)
         w.new s.new result }
 {
     if at < FOUND {

@@ -1,5 +1,5 @@
 -- The laws of paths: their addresses, their sums, and comparing two. Assumes nothing.
-use Rattle.std.proofs.Common.{◌≡◌, ℕ, zero, suc, ◌+◌, ◌-◌, ◌*◌, ◌%◌, ◌^◌, ◌<◌, ◌≤◌, Bool, true, false, ◌&&◌, eqb, List, [], ◌∷◌, length, take, drop, sym, refl, ap, ◌∙◌, ap₂, add-zero, arith, eq-eqb, ne_eqb, eqb-true}
+use Rattle.std.proofs.Common.{◌≡◌, ℕ, zero, suc, ◌+◌, ◌-◌, ◌*◌, ◌/◌, ◌%◌, ◌^◌, ◌<◌, ◌≤◌, Bool, true, false, ◌&&◌, eqb, List, [], ◌∷◌, length, take, drop, sym, refl, ap, ◌∙◌, ap₂, add-zero, arith, eq-eqb, ne_eqb, eqb-true}
 use native.Mathlib.Nat.{sub-zero}
 use native.Mathlib.Decide.{dec_lt}
 use Rattle.spec.specs.Lists.{same}
@@ -62,9 +62,6 @@ addrs-copied p at np {q} {q'} s = addrs-within q' p at 0 np (read_all s)
 -- ---- sums
 
 module _ (p : List ℕ) (np : ℕ) where
-  pub sum_first : turns 0 0 0 0 (addrs p (0 + 0) (np - 0)) ≡ path_sum (addrs p 0 np)
-  sum_first = ap (turns 0 0 0 0) (left-all p 0 np)
-
   module _ (first second third fourth i : ℕ) (e : turns first second third fourth (addrs p (0 + i) (np - i)) ≡ path_sum (addrs p 0 np)) where
     pub sum-again : {x y r : ℕ} → i < np → Holds 2 p (2 * i) x → y ≡ x % 2 ^ 32 → r ≡ mixed 37 first y
         → turns second third fourth r (addrs p (0 + (i + 1)) (np - (i + 1))) ≡ path_sum (addrs p 0 np)
@@ -153,6 +150,13 @@ left-four {p} {q} {np} {at} {i} {x} {y} l h f g e =
     let fourth : i + 2 + 1 ≡ i + 3 = omega arith in
     let end : i + 3 + 1 ≡ i + 4 = omega arith in
     rw end at (left_one p q np at (rw fourth at more) (omega arith) (rw (place 3, other 3) rest.1))
+
+-- and so on by fours
+module _ {p q : List ℕ} {np at i : ℕ} (l : Left p np q at (4 * i)) where
+  pub left-fours : {x y : ℕ} → i < np / 4 → Packed p (4 * i) x → Packed q (at + 4 * i) y → x ≡ y → Left p np q at (4 * (i + 1))
+  left-fours h f g e =
+      let next : 4 * i + 4 ≡ 4 * (i + 1) = omega arith in
+      rw next at (left-four l (omega arith) f g e)
 
 module _ (p q : List ℕ) (np at : ℕ) {i : ℕ} (l : Left p np q at i) where
   step : {x y : ℕ} → i < np → Holds 2 p (2 * i) x → Holds 2 q (2 * (at + i)) y

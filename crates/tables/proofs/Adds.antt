@@ -1,5 +1,5 @@
 -- The laws of a record more. Assumes nothing.
-use Rattle.std.proofs.Common.{◌≡◌, ℕ, ◌+◌, ◌-◌, ◌*◌, ◌<◌, ◌≤◌, eqb, ◌⊎◌, List, [], ◌∷◌, ◌++◌, length, take, drop, sym, refl, ap, ◌∙◌, inl, inr, add-one, arith, eq-eqb}
+use Rattle.std.proofs.Common.{◌≡◌, ℕ, ◌+◌, ◌-◌, ◌*◌, ◌<◌, ◌≤◌, eqb, ◌⊎◌, List, [], ◌∷◌, ◌++◌, length, take, drop, sym, refl, ap, ◌∙◌, inl, inr, add-one, arith, unwrap_or, ne_eqb}
 use Rattle.spec.specs.Lists.{if}
 use Rattle.spec.specs.Search.{nowhere, found}
 use Rattle.lent.specs.Bytes.{Stored}
@@ -10,8 +10,8 @@ use Rattle.state.specs.Cells.{stack_at, State, Lies}
 use Rattle.state.proofs.States.{state-lies, lies-copied}
 use Rattle.tables.specs.Addrs.{addrs, path_sum}
 use Rattle.tables.specs.Records.{path_at, found_at, rec_at, recs_of, Row}
-use Rattle.tables.specs.Links.{Links, Linked}
-use Rattle.tables.specs.Tables.{mem, Goes, leads_nowhere, leads, Within, Tables, new_found, new_rec, Enters, enters_nowhere, enters, fields, Counting, Keeps, Adds, counted, Added}
+use Rattle.tables.specs.Links.{Linked}
+use Rattle.tables.specs.Tables.{mem, Goes, leads_nowhere, leads, Within, Tables, new_found, new_rec, Enters, enters_nowhere, enters, fields, Adds, counted, Added}
 use Rattle.tables.specs.declared.Rooms.{Rooms}
 use Rattle.tables.specs.declared.Counts.{Counts}
 use Rattle.tables.specs.declared.Entry.{Entry}
@@ -21,34 +21,8 @@ use Rattle.tables.proofs.Orders.{below}
 use Rattle.tables.proofs.Frames.{ends_same, kept_same, row_kept, goes_kept, recs-kept}
 
 module _ {p w r q s : List ℕ} {np n buckets sum : ℕ} {k : Rooms} {c : Counts} {e : Entry} (a : Adds p np n buckets k (mem w r q s) c e sum) where
-  leads_to : Enters n s e → (e.to ≡ NOWHERE) ⊎ (e.to ≤ n)
-  leads_to (enters_nowhere z y) = inl z
-  leads_to (enters z t) = inr z
-
-  pub adds-counting : Counting c np e
-  adds-counting = let i = a.ready.tables.within in record { records = omega arith; addresses = omega arith; kept = omega arith }
-
   adds-path : 2 * (c.addresses + np) ≤ length q
   adds-path = omega (arith, a.room_q, a.ready.tables.within)
-
-  module _ {f : Fields} (says : f ≡ fields c np e sum) where
-    pub adds-links : Links n buckets w r c.records f
-    adds-links =
-        let t = a.ready.tables in
-        let i = t.within in
-        rw says (record {
-          chains = t.chains;
-          parents = t.parents;
-          says = record { start = a.ready.start; to = leads_to a.ready.entry; ends = omega arith; kept = omega arith; sum = a.summed.small; energy = a.ready.energy };
-          in_r = omega arith;
-          few = t.few;
-          small = omega arith;
-        })
-
-    pub adds-state : Keeps s k.s f.kept e.from e.cells
-    adds-state =
-        let i = a.ready.tables.within in
-        rw says (record { source = omega (arith, a.ready.inside, a.room_s); fits = omega arith; most = omega (arith, a.room_s); lent = i.lent_s })
 
   module _ {w' r' q' s' : List ℕ} (l : Linked n buckets w r c.records (fields c np e sum) w' r')
       (tq : Stored (2 * np) q (2 * c.addresses) (take (2 * np) (drop 0 p)) q')
@@ -97,16 +71,17 @@ module _ {p w r q s : List ℕ} {np n buckets sum : ℕ} {k : Rooms} {c : Counts
     new-goes = go a.ready.entry
       where
         go : Enters n s e → Goes n k.s r' s' c.records
-        go (enters_nowhere z y) = leads_nowhere (l.says.to ∙ z) (omega (arith, l.says.kept, kept-before))
-        go (enters z h) = leads (rw l.says.to z) (rw (l.says.kept, kept-before, count) (new-state h).state)
+        go (enters_nowhere z y) = leads_nowhere (rw l.says.to (rw z refl)) (omega (arith, l.says.kept, kept-before))
+        go (enters z i h) = leads (rw l.says.to (rw z i)) (rw (l.says.kept, kept-before, count) (new-state h).state)
 
     new-found : found_at r' s' k.s c.records ≡ new_found s e
     unfolding found_at if
     new-found = rw (l.says.to, l.says.kept, kept-before, count) (go a.ready.entry)
       where
-        go : Enters n s e → if (eqb e.to NOWHERE) nowhere (found e.to (stack_at s' (9 * (k.s - (c.kept + e.cells))) e.cells)) ≡ new_found s e
-        go (enters_nowhere z y) = rw (eq-eqb e.to NOWHERE z)
-        go (enters z h) = rw (new-state h).is
+        go : Enters n s e
+            → if (eqb (unwrap_or e.to NOWHERE) NOWHERE) nowhere (found (unwrap_or e.to NOWHERE) (stack_at s' (9 * (k.s - (c.kept + e.cells))) e.cells)) ≡ new_found s e
+        go (enters_nowhere z y) = rw z refl
+        go (enters {to} z i h) = rw z (rw (ne_eqb to NOWHERE (λ d. omega (arith, t.few)), (new-state h).is))
 
     new-rec : rec_at r' q' s' k.s c.records ≡ new_rec s e (addrs p 0 np)
     unfolding rec_at

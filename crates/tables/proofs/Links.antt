@@ -1,5 +1,5 @@
 -- The laws of a new record's row and its links. Assumes nothing.
-use Rattle.std.proofs.Common.{◌≡◌, ℕ, suc, ◌+◌, ◌-◌, ◌*◌, ◌^◌, ◌<◌, ◌≤◌, ◌⊎◌, List, length, sym, refl, ap, ◌∙◌, inl, inr, add-zero, add-one, arith}
+use Rattle.std.proofs.Common.{◌≡◌, ℕ, suc, ◌+◌, ◌-◌, ◌*◌, ◌^◌, ◌<◌, ◌≤◌, ◌⊎◌, List, length, sym, refl, ap, ◌∙◌, inl, inr, add-zero, add-one, arith, Option, Some, None, IfSome, unwrap_or, subst}
 use Rattle.spec.specs.Lists.{little}
 use Rattle.lent.specs.Bytes.{num_at, Holds, Stored}
 use Rattle.lent.proofs.Parts.{part-suffix, drop_more}
@@ -19,10 +19,10 @@ use Rattle.tables.proofs.Orders.{chained_same, chained_more, ordered_same, order
 -- ---- the row
 
 module _ {at : ℕ} {r r₁ r₂ r₃ : List ℕ} where
-  pub says-stored : (f : Fields) {r₄ : List ℕ} → Stored 2 r at (little 2 f.start) r₁ → Stored 2 r₁ (at + R-TO) (little 2 f.to) r₂
+  pub says-stored : (f : Fields) {r₄ : List ℕ} → Stored 2 r at (little 2 f.start) r₁ → {to : ℕ} → to ≡ unwrap_or f.to NOWHERE → Stored 2 r₁ (at + R-TO) (little 2 to) r₂
       → Stored 4 r₂ (at + R-ENDS) (little 4 f.ends) r₃ → Stored 4 r₃ (at + R-KEPT) (little 4 f.kept) r₄ → Stored 12 r at (says_bytes f) r₄
   unfolding says_bytes
-  says-stored f a b c d = stored-join (stored-join (stored-join a b) c) d
+  says-stored f a e b c d = stored-join (stored-join (stored-join a (rw e at b)) c) d
 
 module _ (at link sum energy : ℕ) {r r₁ r₂ r₃ r₄ : List ℕ} where
   pub links-stored : Stored 4 r (at + R-NEXT) (little 4 0) r₁ → Stored 4 r₁ (at + R-LINK) (little 4 link) r₂ → Stored 4 r₂ (at + R-SUM) (little 4 sum) r₃
@@ -84,16 +84,16 @@ module _ (m : ℕ) (f : Fields) (link : ℕ) {r r' : List ℕ} (s : Stored 28 r 
   row-says {n} h g =
       record {
         start = ap (num_at 2 r') (sym (add-zero (record_place m))) ∙ read-num s 2 0 (omega arith) ∙ number-little 2 f.start h.start;
-        to = read-num s 2 R-TO (omega arith) ∙ number-little 2 f.to (fits h.to);
+        to = read-num s 2 R-TO (omega arith) ∙ number-little 2 (unwrap_or f.to NOWHERE) (fits f.to h.to);
         ends = read-num s 4 R-ENDS (omega arith) ∙ number-little 4 f.ends h.ends;
         kept = read-num s 4 R-KEPT (omega arith) ∙ number-little 4 f.kept h.kept;
         sum = read-num s 4 R-SUM (omega arith) ∙ number-little 4 f.sum h.sum;
         energy = read-num s 4 R-ENERGY (omega arith) ∙ number-little 4 f.energy h.energy;
       }
     where
-      fits : (f.to ≡ NOWHERE) ⊎ (f.to ≤ n) → f.to < 2 ^ 16
-      fits (inl e) = omega arith
-      fits (inr e) = omega arith
+      fits : (to : Option ℕ) → IfSome to (λ a. a ≤ n) → unwrap_or to NOWHERE < 2 ^ 16
+      fits None e = omega arith
+      fits (Some a) e = omega arith
 
   -- the rows before it
   row_same : (i : ℕ) → i < m → SameRow r r' i
@@ -250,11 +250,12 @@ module _ {n buckets m : ℕ} {w r : List ℕ} {f : Fields} (l : Links n buckets 
         back = kept-drop t (bucket_place n buckets) (omega arith);
       }
 
-  pub linked-none : f.to ≡ NOWHERE → Linked n buckets w r m f w₁ r₁
+  pub linked-none : f.to ≡ None → Linked n buckets w r m f w₁ r₁
   linked-none z =
+      let to : to_at r₁ m ≡ NOWHERE = says.to ∙ ap (λ (o : Option ℕ). unwrap_or o NOWHERE) z in
       record {
         chains = chains-more;
-        parents = ordered-none parents-same (omega (arith, says.to, l.few)) (row_next m f x s);
+        parents = ordered-none parents-same (omega (arith, to, l.few)) (row_next m f x s);
         says = says;
         rows = row_same m f x s;
         tail = kept-drop s (record_place m + R-FREE) (omega arith);
@@ -262,21 +263,17 @@ module _ {n buckets m : ℕ} {w r : List ℕ} {f : Fields} (l : Links n buckets 
         beyond = beyond-head;
       }
 
-  pub links-parent : (f.to ≡ NOWHERE → ⊥) → Joins n w₁ r₁ f.to m
-  links-parent d =
+  pub links-parent : {a : ℕ} → f.to ≡ Some a → Joins n w₁ r₁ a m
+  links-parent z =
       record {
         parents = parents-same;
-        inside = inside l.says.to;
-        to = says.to;
+        inside = subst (λ (o : Option ℕ). IfSome o (λ b. b ≤ n)) z l.says.to;
+        to = says.to ∙ ap (λ (o : Option ℕ). unwrap_or o NOWHERE) z;
         next = row_next m f x s;
         in_w = omega (arith, l.chains.in_w, t.kept);
         in_r = omega (arith, l.in_r, s.kept);
         small = l.small;
       }
-    where
-      inside : (f.to ≡ NOWHERE) ⊎ (f.to ≤ n) → f.to ≤ n
-      inside (inl z) = absurd (d z)
-      inside (inr z) = z
 
   pub linked-found : {w₂ r₂ : List ℕ} → Joined n w₁ r₁ m w₂ r₂ → Linked n buckets w r m f w₂ r₂
   linked-found {w₂} {r₂} j =

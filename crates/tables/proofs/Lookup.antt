@@ -4,14 +4,11 @@ use Rattle.spec.specs.Lists.{same}
 use Rattle.lent.specs.Bytes.{Holds}
 use Rattle.laws.proofs.Branch.{and-false}
 use Rattle.laws.proofs.Members.{and_both}
-use Rattle.layout.specs.Parts.{bucket_place}
-use Rattle.layout.specs.Records.{record_place, R-TO, R-ENDS, R-LINK, R-SUM, to_at, end_of}
+use Rattle.layout.specs.Records.{record_place, R-TO, R-ENDS, R-SUM, to_at, end_of}
 use Rattle.tables.specs.Sums.{bucket_of}
 use Rattle.tables.specs.Addrs.{addrs, path_sum, Beside}
-use Rattle.tables.specs.Chains.{Left}
-use Rattle.tables.specs.Records.{bucket_at, path_at, is_rec, has_rec, Seek, Compare}
+use Rattle.tables.specs.Records.{bucket_at, path_at, is_rec, Seek, Compare}
 use Rattle.tables.proofs.Addrs.{addrs-length, same_true, same_false}
-use Rattle.tables.proofs.Orders.{left-first, left-none, left_below, left-hit, left_less, left-more}
 
 -- ---- where a path begins and ends
 
@@ -64,33 +61,12 @@ module _ {p w r q : List ℕ} {np n buckets m sum : ℕ} (s : Seek p np w r q n 
   abbrev path : List ℕ
   path = addrs p 0 np
 
-  inside : (i : ℕ) → i < m → is_rec r q to path i ≡ true → bucket_at buckets r i ≡ bucket_of buckets sum
+  pub inside : (i : ℕ) → i < m → is_rec r q to path i ≡ true → bucket_at buckets r i ≡ bucket_of buckets sum
   unfolding is_rec bucket_at
   inside i l e =
       let same-path = same_true path (path_at r q i) (and_both (eqb to (to_at r i)) (same path (path_at r q i)) e).1 in
       ap (bucket_of buckets) ((s.rows i l).sum ∙ ap path_sum (sym same-path) ∙ sym s.summed.is)
 
-  -- the chain of its bucket
-  pub first-left : (h : ℕ) {x : ℕ} → h ≡ bucket_of buckets sum → h < buckets → Holds 4 w (bucket_place n h) x → Left (bucket_at buckets r) (is_rec r q to path) m h x
-  first-left h e l g = left-first s.chains.chained (is_rec r q to path) h (λ i b f. inside i b f ∙ sym e) l g.is
-
-  module _ {h cur : ℕ} (e : h ≡ bucket_of buckets sum) (l : Left (bucket_at buckets r) (is_rec r q to path) m h cur) where
-    in-bucket : (i : ℕ) → i < m → is_rec r q to path i ≡ true → bucket_at buckets r i ≡ h
-    in-bucket i b f = inside i b f ∙ sym e
-
-    pub none_left : cur ≡ 0 → false ≡ has_rec r q to path m
-    none_left = left-none s.chains.chained (is_rec r q to path) h in-bucket l
-
-    module _ (d : cur ≡ 0 → ⊥) where
-      pub left-compare : Compare p np r q (cur - 1) sum
-      left-compare = record { path = s.path; summed = s.summed; row = s.rows (cur - 1) (left_below s.chains.chained (is_rec r q to path) h in-bucket l d) }
-
-      pub hit-left : {b : Bool} → b ≡ is_rec r q to path (cur - 1) → b ≡ true → true ≡ has_rec r q to path m
-      hit-left = left-hit s.chains.chained (is_rec r q to path) h in-bucket l d
-
-      module _ {x : ℕ} (g : Holds 4 r (record_place (cur - 1) + R-LINK) x) where
-        pub less-left : x < cur
-        less-left = left_less s.chains.chained (is_rec r q to path) h in-bucket l d g.is
-
-        pub more_left : {b : Bool} → b ≡ is_rec r q to path (cur - 1) → b ≡ false → Left (bucket_at buckets r) (is_rec r q to path) m h x
-        more_left = left-more s.chains.chained (is_rec r q to path) h in-bucket l d g.is
+-- what comparing with one of them asks
+pub compare : {p w r q : List ℕ} {np n buckets m sum i : ℕ} → Seek p np w r q n buckets m sum → i < m → Compare p np r q i sum
+compare s l = record { path = s.path; summed = s.summed; row = s.rows _ l }

@@ -1,5 +1,5 @@
 -- The laws of recording, one for each way out. Assumes nothing.
-use Rattle.std.proofs.Common.{◌≡◌, ℕ, suc, ◌+◌, ◌*◌, ◌<◌, ◌≤◌, Bool, true, false, ◌⊎◌, List, [], ◌∷◌, ◌++◌, length, sym, refl, ap, ◌∙◌, inl, inr, add-one, arith, eq-eqb, ne_eqb}
+use Rattle.std.proofs.Common.{◌≡◌, ℕ, suc, ◌+◌, ◌*◌, Bool, true, false, ◌⊎◌, List, [], ◌∷◌, ◌++◌, length, sym, refl, ap, ◌∙◌, inl, inr, add-one, arith, Option, Some, None, unwrap_or}
 use Rattle.spec.specs.Lists.{if, total}
 use Rattle.spec.specs.Stacks.{cells}
 use Rattle.spec.specs.Search.{Found, nowhere, found, Rec, kept, R, Q, Need, St, Turn, in_use, addresses, record_nowhere, record_found}
@@ -10,14 +10,14 @@ use Rattle.layout.specs.Marks.{NOWHERE}
 use Rattle.state.specs.Cells.{stack_at}
 use Rattle.state.proofs.States.{state-lies, lies-count}
 use Rattle.tables.specs.Addrs.{addrs, Summed}
-use Rattle.tables.specs.Records.{has_rec}
+use Rattle.tables.specs.Records.{has_rec, Seek}
 use Rattle.tables.specs.Links.{Beyond}
-use Rattle.tables.specs.Tables.{Mem, mem, recs, new_found, new_rec, Enters, enters_nowhere, enters, Ready, Adds, counted, Stays, Added}
+use Rattle.tables.specs.Tables.{Mem, mem, recs, found_by, new_found, new_rec, Enters, enters_nowhere, enters, Ready, Adds, counted, Stays, Added}
 use Rattle.tables.specs.Recording.{Lends, short_of, entry_needs, noted, Holding, recorded?, Recorded}
 use Rattle.tables.specs.declared.Rooms.{Rooms}
 use Rattle.tables.specs.declared.Counts.{Counts}
 use Rattle.tables.specs.declared.Entry.{Entry}
-use Rattle.tables.specs.declared.Reply.{Reply}
+use Rattle.tables.specs.Replies.{Reply}
 use Rattle.tables.proofs.Addrs.{addrs-length}
 use Rattle.tables.proofs.Chains.{keyed}
 use Rattle.tables.proofs.Links.{same-all}
@@ -44,13 +44,11 @@ beyond-all n buckets w =
     record { apart = record { front = refl; marks = λ a l. refl; rests = λ a l. refl; long = refl }; work = refl; back = refl }
 
 -- where an entry leads
-pub new-nowhere : (s : List ℕ) (e : Entry) → e.to ≡ NOWHERE → new_found s e ≡ nowhere
-unfolding if
-new-nowhere s e z = rw (eq-eqb e.to NOWHERE z)
+pub new-nowhere : (s : List ℕ) (e : Entry) → e.to ≡ None → new_found s e ≡ nowhere
+new-nowhere s e z = ap (λ (o : Option ℕ). found_by o (stack_at s (9 * e.from) e.cells)) z
 
-pub new-at : (s : List ℕ) (e : Entry) {n : ℕ} → n < NOWHERE → e.to ≤ n → new_found s e ≡ found e.to (stack_at s (9 * e.from) e.cells)
-unfolding if
-new-at s e few z = rw (ne_eqb e.to NOWHERE (λ d. omega arith))
+pub new-at : (s : List ℕ) (e : Entry) {to : ℕ} → e.to ≡ Some to → new_found s e ≡ found to (stack_at s (9 * e.from) e.cells)
+new-at s e z = ap (λ (o : Option ℕ). found_by o (stack_at s (9 * e.from) e.cells)) z
 
 module _ {p w r q s : List ℕ} {np n buckets : ℕ} {k : Rooms} {c : Counts} {e : Entry} (y : Ready p np n buckets k (mem w r q s) c e) where
   abbrev path : List ℕ
@@ -59,10 +57,14 @@ module _ {p w r q s : List ℕ} {np n buckets : ℕ} {k : Rooms} {c : Counts} {e
   abbrev M : Mem
   M = mem w r q s
 
+  -- what looking the path up asks
+  pub ready-seek : {sum : ℕ} → Summed path sum → Seek p np w r q n buckets c.records sum
+  ready-seek h = record { path = y.path; summed = h; rows = y.tables.rows; chains = y.tables.chains }
+
   -- what a record more asks
-  pub ready-adds : {sum x : ℕ} → Summed path sum → x ≡ short_of k (entry_needs c np e.cells) → x ≡ 0 → Adds p np n buckets k M c e sum
-  ready-adds h f z =
-      let o = short-fits k c np e.cells (sym f ∙ z) in
+  pub ready-adds : {sum : ℕ} → Summed path sum → 0 ≡ short_of k (entry_needs c np e.cells) → Adds p np n buckets k M c e sum
+  ready-adds h f =
+      let o = short-fits k c np e.cells (sym f) in
       record { ready = y; summed = h; room_r = o.r; room_q = o.q; room_s = o.s }
 
   -- ---- the entry in document 01's words: the cells that it keeps, and whether it is recorded already
@@ -72,17 +74,18 @@ module _ {p w r q s : List ℕ} {np n buckets : ℕ} {k : Rooms} {c : Counts} {e
     where
       go : Enters n s e → kept (new_found s e) ≡ e.cells
       go (enters_nowhere z o) = ap kept (new-nowhere s e z) ∙ sym o
-      go (enters z o) = ap kept (new-at s e y.tables.few z) ∙ sym (lies-count (state-lies s (9 * e.from) e.cells o))
+      go (enters z i o) = ap kept (new-at s e z) ∙ sym (lies-count (state-lies s (9 * e.from) e.cells o))
 
-  known : has_rec r q e.to path c.records ≡ recorded? (new_found s e) path (recs k M c)
+  known : has_rec r q (unwrap_or e.to NOWHERE) path c.records ≡ recorded? (new_found s e) path (recs k M c)
   known = go y.entry
     where
-      go : Enters n s e → has_rec r q e.to path c.records ≡ recorded? (new_found s e) path (recs k M c)
+      go : Enters n s e → has_rec r q (unwrap_or e.to NOWHERE) path c.records ≡ recorded? (new_found s e) path (recs k M c)
       go (enters_nowhere z _) =
-          ap (λ (a : ℕ). has_rec r q a path c.records) z
+          ap (λ (o : Option ℕ). has_rec r q (unwrap_or o NOWHERE) path c.records) z
           ∙ sym (ap (λ (x : Found). recorded? x path (recs k M c)) (new-nowhere s e z) ∙ recs-nowhere r q s k.s path c.records)
-      go (enters z _) =
-          sym (ap (λ (x : Found). recorded? x path (recs k M c)) (new-at s e y.tables.few z) ∙ recs-at r q s k.s e.to (λ d. omega (arith, y.tables.few)) path c.records)
+      go (enters {to} z i _) =
+          ap (λ (o : Option ℕ). has_rec r q (unwrap_or o NOWHERE) path c.records) z
+          ∙ sym (ap (λ (x : Found). recorded? x path (recs k M c)) (new-at s e z) ∙ recs-at r q s k.s to (λ d. omega (arith, y.tables.few)) path c.records)
 
   -- ---- what document 01 does
 
@@ -99,18 +102,18 @@ module _ {p w r q s : List ℕ} {np n buckets : ℕ} {k : Rooms} {c : Counts} {e
       is : noted t (new_found s e) path st ≡ record { recs = st.recs ++ new_rec s e path ∷ []; energy = st.energy; met = st.met; needs = more ++ st.needs }
       short : short_of k more ≡ short_of k (entry_needs c np e.cells)
 
-    known_by : {b : Bool} → has_rec r q e.to path c.records ≡ b → recorded? (new_found s e) path st.recs ≡ b
+    known_by : {b : Bool} → has_rec r q (unwrap_or e.to NOWHERE) path c.records ≡ b → recorded? (new_found s e) path st.recs ≡ b
     known_by b = ap (recorded? (new_found s e) path) h.recs ∙ sym known ∙ b
 
-    doc-known : has_rec r q e.to path c.records ≡ true → noted t (new_found s e) path st ≡ st
+    doc-known : has_rec r q (unwrap_or e.to NOWHERE) path c.records ≡ true → noted t (new_found s e) path st ≡ st
     unfolding record_nowhere record_found
     doc-known b = go y.entry
       where
         go : Enters n s e → noted t (new_found s e) path st ≡ st
         go (enters_nowhere z _) = rw (new-nowhere s e z) (if-true _ _ _ (rw (new-nowhere s e z) at (known_by b)))
-        go (enters z _) = rw (new-at s e y.tables.few z) (if-true _ _ _ (rw (new-at s e y.tables.few z) at (known_by b)))
+        go (enters z i _) = rw (new-at s e z) (if-true _ _ _ (rw (new-at s e z) at (known_by b)))
 
-    doc-made : has_rec r q e.to path c.records ≡ false → Made
+    doc-made : has_rec r q (unwrap_or e.to NOWHERE) path c.records ≡ false → Made
     unfolding record_nowhere record_found
     doc-made b = go y.entry
       where
@@ -121,25 +124,28 @@ module _ {p w r q s : List ℕ} {np n buckets : ℕ} {k : Rooms} {c : Counts} {e
               is = rw (new-nowhere s e z) (if-false _ _ _ (rw (new-nowhere s e z) at (known_by b)) ∙ rw (count-addresses, addrs-length p 0 np, count-recs, h.turn, h.counted));
               short = sym (short-rest k c np e.cells (omega (arith, y.tables.within)));
             }
-        go (enters z o) =
+        go (enters z i o) =
             let count : in_use t st + cells (stack_at s (9 * e.from) e.cells) ≡ c.kept + c.used + e.cells =
             omega (arith, h.cells, lies-count (state-lies s (9 * e.from) e.cells o)) in
             record {
               more = entry_needs c np e.cells;
-              is = rw (new-at s e y.tables.few z) (if-false _ _ _ (rw (new-at s e y.tables.few z) at (known_by b)) ∙ rw (count, count-addresses, addrs-length p 0 np, count-recs, h.turn, h.counted));
+              is = rw (new-at s e z) (if-false _ _ _ (rw (new-at s e z) at (known_by b)) ∙ rw (count, count-addresses, addrs-length p 0 np, count-recs, h.turn, h.counted));
               short = refl;
             }
 
-  module _ {b : Bool} (found_it : b ≡ has_rec r q e.to path c.records) where
+  module _ {to : ℕ} (is : to ≡ unwrap_or e.to NOWHERE) {b : Bool} (found_to : b ≡ has_rec r q to path c.records) where
+    found_it : b ≡ has_rec r q (unwrap_or e.to NOWHERE) path c.records
+    found_it = found_to ∙ ap (λ (a : ℕ). has_rec r q a path c.records) is
+
     known_so : {v : Bool} → b ≡ v → recorded? (new_found s e) path (recs k M c) ≡ v
     known_so z = sym known ∙ sym found_it ∙ z
 
     pub recorded_known : b ≡ true → Recorded p np n buckets k M c e.start e.energy (new_found s e) M (record { code = 0; counts = c })
     recorded_known z =
-        let is = sym found_it ∙ z in
+        let old = sym found_it ∙ z in
         record {
-          code = λ t st h l o. ap (λ (x : St). shortage l x.needs) (doc-known h is) ∙ sym (or-else-zero (shortage l st.needs));
-          made = λ t st h o. ap clear (doc-known h is) ∙ rw h.recs;
+          code = λ t st h l o. ap (λ (x : St). shortage l x.needs) (doc-known h old) ∙ sym (or-else-zero (shortage l st.needs));
+          made = λ t st h o. ap clear (doc-known h old) ∙ rw h.recs;
           tells = sym (if-true _ _ _ (known_so z));
           holds = λ o. sym (if-true _ _ _ (known_so z));
           counts = λ o. sym (if-true _ _ _ (known_so z));
@@ -174,21 +180,21 @@ module _ {p w r q s : List ℕ} {np n buckets : ℕ} {k : Rooms} {c : Counts} {e
             beyond = beyond-all n buckets w;
           }
 
-      pub recorded-made : {m' : Mem} {d : Counts} → x ≡ 0 → Added p np n buckets k M c e m' d
-          → Recorded p np n buckets k M c e.start e.energy (new_found s e) m' (record { code = 0; counts = d })
-      recorded-made o a =
-          record {
-            code = λ t st h l i. noted-code t st h l i ∙ ap (or_else (shortage l st.needs)) o;
-            made = λ t st h i. ap clear (doc-made h (sym found_it ∙ z)).is ∙ rw (h.recs, a.records);
-            tells = sym o ∙ noted-tells;
-            holds = λ i. a.records ∙ sym (if-false _ _ _ (known_so z));
-            counts = λ i. a.counts ∙ ap (counted c np) (sym new-kept) ∙ sym (if-false _ _ _ (known_so z));
-            known = λ i. let o = known_so z in cc;
-            refused = λ i. absurd (i refl);
-            tables = a.tables;
-            stays = a.stays;
-            beyond = a.beyond;
-          }
+    pub recorded-made : {m' : Mem} {d : Counts} → 0 ≡ short_of k (entry_needs c np e.cells) → b ≡ false → Added p np n buckets k M c e m' d
+        → Recorded p np n buckets k M c e.start e.energy (new_found s e) m' (record { code = 0; counts = d })
+    recorded-made short z a =
+        record {
+          code = noted-code short z;
+          made = λ t st h i. ap clear (doc-made h (sym found_it ∙ z)).is ∙ rw (h.recs, a.records);
+          tells = noted-tells short z;
+          holds = λ i. a.records ∙ sym (if-false _ _ _ (known_so z));
+          counts = λ i. a.counts ∙ ap (counted c np) (sym new-kept) ∙ sym (if-false _ _ _ (known_so z));
+          known = λ i. let o = known_so z in cc;
+          refused = λ i. absurd (i refl);
+          tables = a.tables;
+          stays = a.stays;
+          beyond = a.beyond;
+        }
 
 -- ---- for the caller: all is as it was, or there is a record more
 

@@ -1,6 +1,7 @@
 -- The contracts leave no choice: two results of one call are the same, byte for byte. Assumes nothing.
-use Rattle.std.proofs.Common.{◌≡◌, ℕ, suc, ◌+◌, ◌*◌, ◌<◌, Bool, true, false, ◌⊎◌, List, length, sym, refl, ap, ◌∙◌, inl, inr, arith}
+use Rattle.std.proofs.Common.{◌≡◌, ℕ, suc, ◌+◌, ◌*◌, ◌<◌, Bool, true, false, ◌⊎◌, List, length, sym, refl, ap, ◌∙◌, inl, inr, arith, Result, Ok, Err, eqb}
 use native.Mathlib.Decide.{dec_lt}
+use Rattle.spec.specs.Lists.{if}
 use Rattle.spec.specs.Search.{Found, kept}
 use Rattle.laws.proofs.Branch.{if-false}
 use Rattle.lent.specs.Bytes.{num_at}
@@ -8,6 +9,9 @@ use Rattle.lent.proofs.Once.{Bytes, Same, same-num, same-both, same-as, same_the
 use Rattle.layout.specs.Fields.{COUNT}
 use Rattle.layout.specs.Parts.{fields_place, list_place}
 use Rattle.layout.specs.Seens.{SEEN, seen_place, T-MARK, T-FROM, T-CELLS, T-SUM, T-LINK, T-HEAD, top_at}
+use Rattle.refusal.specs.Numbers.{short_number}
+use Rattle.refusal.specs.declared.Shortage.{Shortage}
+use Rattle.refusal.specs.declared.Shortage.TheVariants as short
 use Rattle.tables.specs.Sums.{bucket_of}
 use Rattle.tables.specs.Addrs.{addrs}
 use Rattle.tables.specs.Chains.{newest}
@@ -17,14 +21,37 @@ use Rattle.tables.specs.Rows.{shelf_at, Stamped, Pushed}
 use Rattle.tables.specs.Mets.{Memorized, Emptied}
 use Rattle.tables.specs.declared.Rooms.{Rooms}
 use Rattle.tables.specs.declared.Counts.{Counts}
-use Rattle.tables.specs.declared.Reply.{Reply}
+use Rattle.tables.specs.Replies.{Reply, reply_of}
 use Rattle.tables.specs.declared.row.Seen.{Seen}
 use Rattle.tables.proofs.Chains.{keyed, newest-same}
 use Rattle.tables.proofs.Shelves.{tells-stamp, shelf-same}
+use Rattle.tables.proofs.Shorts.{short-some}
 use Rattle.tables.proofs.Alike.{AllBytes, AllLong, one-tables, one_more}
 
 pub one_answer : {a b : Reply} → a.code ≡ b.code → a.counts ≡ b.counts → a ≡ b
 one_answer p q = λ i. record { code = p i; counts = q i }
+
+-- a number is one room's
+room : ℕ → Shortage
+room n = if (eqb n 4) short.P (if (eqb n 5) short.S (if (eqb n 6) short.T (if (eqb n 7) short.R short.Q)))
+
+room-is : (x : Shortage) → room (short_number x) ≡ x
+unfolding if room
+room-is short.P = refl
+room-is short.S = refl
+room-is short.T = refl
+room-is short.R = refl
+room-is short.Q = refl
+
+pub one-short : (x y : Shortage) → short_number x ≡ short_number y → x ≡ y
+one-short x y e = sym (room-is x) ∙ ap room e ∙ room-is y
+
+-- and so a code and counts are one answer's
+pub one-result : (c : Counts) (x y : Result Counts Shortage) → reply_of c x ≡ reply_of c y → x ≡ y
+one-result c (Ok a) (Ok b) e = ap Ok (ap (λ (r : Reply). r.counts) e)
+one-result c (Ok a) (Err y) e = absurd (short-some y (sym (ap (λ (r : Reply). r.code) e)))
+one-result c (Err x) (Ok b) e = absurd (short-some x (ap (λ (r : Reply). r.code) e))
+one-result c (Err x) (Err y) e = ap Err (one-short x y (ap (λ (r : Reply). r.code) e))
 
 pub one-stamped : {s : List ℕ} {x : Seen} {a b : ℕ} → Stamped s x a → Stamped s x b → a ≡ b
 one-stamped p q = p.is ∙ sym q.is

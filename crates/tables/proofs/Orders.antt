@@ -1,7 +1,7 @@
 -- A row more on its chain: the laws of `Chained` and `Ordered`. Assumes nothing.
 use Rattle.std.proofs.Common.{◌≡◌, ℕ, zero, suc, ◌-◌, ◌<◌, ◌≤◌, Bool, true, false, ◌||◌, ◌⊎◌, sym, refl, ap, ◌∙◌, inl, inr, arith}
 use native.Mathlib.Decide.{dec_lt}
-use Rattle.tables.specs.Chains.{newest, following, any, Chained, Ordered, Left}
+use Rattle.tables.specs.Chains.{newest, following, any, Chained, Ordered, Keyed, Left}
 use Rattle.tables.proofs.Chains.{keyed, newest-le, newest-again, newest-key, any-newest, newest-here, newest-other, newest-is, newest-last, newest-same, following-new, following-other, following-stays, following-same, following-end, ends-following}
 
 -- below m + 1 is below m, or m
@@ -54,6 +54,30 @@ module _ {key link head : ℕ → ℕ} {b m : ℕ} (c : Chained key link head b 
 
         pub left-more : {t : Bool} → t ≡ f (cur - 1) → t ≡ false → Left key f m h x
         left-more g z = left-newest (cur - 1) x (omega (arith, left_below)) stepped (rw (← g, z) at all)
+
+-- ---- the same by the rows alone: a link is the newest row before, with the same key
+
+module _ {key : ℕ → ℕ} {f : ℕ → Bool} {m h : ℕ} (k : Keyed key f m h) where
+  hung : Chained key (λ (i : ℕ). newest key (key i) i) (λ (k : ℕ). newest key k m) (suc h) m
+  hung = record { links = λ i l. refl; heads = λ k l. refl }
+
+  pub walk-first : {x : ℕ} → x ≡ newest key h m → Left key f m h x
+  walk-first e = left-first hung f h k.inside (omega arith) e
+
+  module _ {cur : ℕ} (l : Left key f m h cur) where
+    pub walk-none : cur ≡ 0 → false ≡ any f m
+    walk-none = left-none hung f h k.inside l
+
+    module _ (d : cur ≡ 0 → ⊥) where
+      pub walk-hit : {t : Bool} → t ≡ f (cur - 1) → t ≡ true → true ≡ any f m
+      walk-hit = left-hit hung f h k.inside l d
+
+      module _ {x : ℕ} (e : x ≡ newest key (key (cur - 1)) (cur - 1)) where
+        pub walk-less : x < cur
+        walk-less = left_less hung f h k.inside l d e
+
+        pub walk-more : {t : Bool} → t ≡ f (cur - 1) → t ≡ false → Left key f m h x
+        walk-more = left-more hung f h k.inside l d e
 
 -- ---- newest first
 

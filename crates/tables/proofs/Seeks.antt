@@ -1,5 +1,5 @@
 -- The laws of looking a remembered row up. Assumes nothing.
-use Rattle.std.proofs.Common.{◌≡◌, ℕ, ◌+◌, ◌-◌, ◌*◌, ◌%◌, ◌^◌, ◌<◌, Bool, true, false, not, ◌&&◌, eqb, List, get_or, sym, refl, ap, ◌∙◌, ap₂, arith, eq-eqb, eqb-true}
+use Rattle.std.proofs.Common.{◌≡◌, ℕ, ◌+◌, ◌*◌, ◌%◌, ◌^◌, ◌<◌, Bool, true, false, not, ◌&&◌, eqb, List, get_or, sym, refl, ap, ◌∙◌, ap₂, arith, eq-eqb, eqb-true}
 use borrow.Author.Tests.{not-true, not-false}
 use Rattle.spec.specs.Stacks.{cells, eq_sym, eq_stack}
 use Rattle.spec.specs.Search.{Met}
@@ -7,18 +7,15 @@ use Rattle.laws.proofs.Branch.{and-false}
 use Rattle.laws.proofs.Members.{and_both}
 use Rattle.lent.specs.Bytes.{Holds}
 use Rattle.lent.proofs.Numbers.{num-small}
-use Rattle.layout.specs.Seens.{seen_place, T-SYMBOL, T-MARK, T-FROM, T-CELLS, T-SUM, T-LINK, T-HEAD, block_at, place_at, cells_at, row_sum_at, mark_at, stamp_at}
+use Rattle.layout.specs.Seens.{seen_place, T-SYMBOL, T-MARK, T-FROM, T-CELLS, T-SUM, block_at, place_at, cells_at, row_sum_at, mark_at, stamp_at}
 use Rattle.state.specs.Symbols.{sym_of}
 use Rattle.state.specs.Cells.{sym_at, syms_at, stack_at, stored}
-use Rattle.state.specs.Compared.{TwoStates}
 use Rattle.state.specs.declared.sym.StackSym.{StackSym}
 use Rattle.state.proofs.States.{state-lies, state-syms, lies-count}
-use Rattle.tables.specs.Chains.{any, Left}
 use Rattle.tables.specs.Rows.{shelf_at, met_at, seen_met, equal_met, is_met, MetRow, Stamped, Compares, Finds}
 use Rattle.tables.specs.Sums.{mixed, weight, sym_sums, summed, stamp, bucket_of, SumsWith}
 use Rattle.tables.specs.declared.row.Sums.{Sums}
 use Rattle.tables.specs.declared.row.Seen.{Seen}
-use Rattle.tables.proofs.Orders.{left-first, left-none, left_below, left-hit, left_less, left-more}
 use Rattle.tables.proofs.Stamps.{eq-sym-true, eq-stack-true}
 use Rattle.tables.proofs.Sums.{mix-low, bucket-few}
 
@@ -91,9 +88,9 @@ module _ {t s : List ℕ} {i : ℕ} {x : Seen} {sum : ℕ} (c : Compares t s i x
   unfolding met_at
   row_last h d = false_of (is_met t s (seen_met s x) i) (λ e. d (h.is ∙ sym (same_row e).last))
 
-  pub row-symbol : (y : StackSym) {b : Bool} → sym_of y ≡ sym_at t (seen_place i + T-SYMBOL) → b ≡ eq_sym (sym_of x.symbol) (sym_of y) → not b ≡ true → false ≡ is_met t s (seen_met s x) i
+  pub row-symbol : (y : StackSym) {b : Bool} → sym_of y ≡ sym_at t (seen_place i + T-SYMBOL) → b ≡ not (eq_sym (sym_of x.symbol) (sym_of y)) → b ≡ true → false ≡ is_met t s (seen_met s x) i
   unfolding met_at
-  row-symbol y {b} e f z = rw (← e, ← f, not-true b z, and-false (eqb x.last (block_at t i)) refl)
+  row-symbol y e f z = rw (← e, not-true (eq_sym (sym_of x.symbol) (sym_of y)) (sym f ∙ z), and-false (eqb x.last (block_at t i)) refl)
 
   pub row-cells : {y : ℕ} → Holds 4 t (seen_place i + T-CELLS) y → (y ≡ x.cells → ⊥) → false ≡ is_met t s (seen_met s x) i
   unfolding met_at
@@ -102,44 +99,20 @@ module _ {t s : List ℕ} {i : ℕ} {x : Seen} {sum : ℕ} (c : Compares t s i x
       (λ e. d (h.is ∙ lies-count (state-lies s (9 * place_at t i) (cells_at t i) c.row.state) ∙ ap cells (sym (same_row e).stack) ∙ sym (lies-count (state-lies s (9 * x.from) x.cells c.state))))
 
   module _ {y z : ℕ} (h : Holds 4 t (seen_place i + T-CELLS) y) (same : y ≡ x.cells) (g : Holds 4 t (seen_place i + T-FROM) z) where
-    pub row-states : TwoStates s (9 * x.from) (9 * z) x.cells
-    row-states = record { first = c.state; second = rw (g.is, sym same ∙ h.is) c.row.state }
-
-    pub row_same : (v : StackSym) {k : ℕ} {b d : Bool} → Holds 2 t (seen_place i) k → k ≡ x.last → sym_of v ≡ sym_at t (seen_place i + T-SYMBOL) → b ≡ eq_sym (sym_of x.symbol) (sym_of v) → not b ≡ false
+    pub row_same : (v : StackSym) {k : ℕ} {b d : Bool} → Holds 2 t (seen_place i) k → k ≡ x.last → sym_of v ≡ sym_at t (seen_place i + T-SYMBOL) → b ≡ not (eq_sym (sym_of x.symbol) (sym_of v)) → b ≡ false
         → d ≡ eq_stack (stack_at s (9 * x.from) x.cells) (stack_at s (9 * z) x.cells) → d ≡ is_met t s (seen_met s x) i
     unfolding met_at
     row_same v {k} {b} {d} hk ek ev eb tb ed =
         let its : stack_at s (9 * z) x.cells ≡ stack_at s (9 * place_at t i) (cells_at t i) = ap₂ (λ (u v : ℕ). stack_at s (9 * u) v) g.is (sym same ∙ h.is) in
-        rw (← hk.is, ek, eq-eqb x.last x.last refl, ← ev, ← eb, not-false b tb) (ed ∙ ap (eq_stack (stack_at s (9 * x.from) x.cells)) its)
+        rw (← hk.is, ek, eq-eqb x.last x.last refl, ← ev, not-false (eq_sym (sym_of x.symbol) (sym_of v)) (sym eb ∙ tb)) (ed ∙ ap (eq_stack (stack_at s (9 * x.from) x.cells)) its)
 
 -- ---- along the chain
 
 module _ {t s : List ℕ} {buckets m : ℕ} {x : Seen} {sum : ℕ} (f : Finds t s buckets m x sum) where
-  compare : (i : ℕ) → i < m → Compares t s i x sum
-  compare i l = record { state = f.state; stamped = f.stamped; row = f.rows i l }
+  -- what comparing with one of the rows asks
+  pub compare : {i : ℕ} → i < m → Compares t s i x sum
+  compare l = record { state = f.state; stamped = f.stamped; row = f.rows _ l }
 
-  module _ {h : ℕ} (e : h ≡ bucket_of buckets sum) where
-    on-shelf : (i : ℕ) → i < m → is_met t s (seen_met s x) i ≡ true → shelf_at buckets t i ≡ h
-    unfolding shelf_at
-    on-shelf i l g = ap (bucket_of buckets) (same-stamp (compare i l) g) ∙ sym e
-
-    pub first-row : {y : ℕ} → h < buckets → Holds 4 t (seen_place h + T-HEAD) y → Left (shelf_at buckets t) (is_met t s (seen_met s x)) m h y
-    first-row l g = left-first f.shelves.chained (is_met t s (seen_met s x)) h on-shelf l g.is
-
-    module _ {cur : ℕ} (l : Left (shelf_at buckets t) (is_met t s (seen_met s x)) m h cur) where
-      pub none_row : cur ≡ 0 → false ≡ any (is_met t s (seen_met s x)) m
-      none_row = left-none f.shelves.chained (is_met t s (seen_met s x)) h on-shelf l
-
-      module _ (d : cur ≡ 0 → ⊥) where
-        pub row-compare : Compares t s (cur - 1) x sum
-        row-compare = compare (cur - 1) (left_below f.shelves.chained (is_met t s (seen_met s x)) h on-shelf l d)
-
-        pub hit-row : {b : Bool} → b ≡ is_met t s (seen_met s x) (cur - 1) → b ≡ true → true ≡ any (is_met t s (seen_met s x)) m
-        hit-row = left-hit f.shelves.chained (is_met t s (seen_met s x)) h on-shelf l d
-
-        module _ {y : ℕ} (g : Holds 4 t (seen_place (cur - 1) + T-LINK) y) where
-          pub less-row : y < cur
-          less-row = left_less f.shelves.chained (is_met t s (seen_met s x)) h on-shelf l d g.is
-
-          pub more-row : {b : Bool} → b ≡ is_met t s (seen_met s x) (cur - 1) → b ≡ false → Left (shelf_at buckets t) (is_met t s (seen_met s x)) m h y
-          more-row = left-more f.shelves.chained (is_met t s (seen_met s x)) h on-shelf l d g.is
+  pub on-shelf : (i : ℕ) → i < m → is_met t s (seen_met s x) i ≡ true → shelf_at buckets t i ≡ bucket_of buckets sum
+  unfolding shelf_at
+  on-shelf i l g = ap (bucket_of buckets) (same-stamp (compare l) g)

@@ -6,6 +6,9 @@ use Rattle.spec.specs.Lists.{if}
 use Rattle.spec.specs.Search.{R, Q, Need}
 use Rattle.spec.specs.Rooms.{Lent, or_else, shortage}
 use Rattle.theorems.proofs.Shortage.{shortage-append}
+use Rattle.refusal.specs.Numbers.{short_number}
+use Rattle.refusal.specs.declared.Shortage.{Shortage}
+use Rattle.refusal.specs.declared.Shortage.TheVariants as short
 use Rattle.tables.specs.Recording.{Lends, short_of, entry_needs}
 use Rattle.tables.specs.declared.Rooms.{Rooms}
 use Rattle.tables.specs.declared.Counts.{Counts}
@@ -18,6 +21,14 @@ lends-short e (n ∷ ns) = rw (lends-short e ns, e.is n.room)
 -- needs noted after others
 pub short-after : {l : Lent} {k : Rooms} → Lends l k → (more ns : List Need) → shortage l (more ++ ns) ≡ or_else (shortage l ns) (short_of k more)
 short-after {l} e more ns = shortage-append l more ns ∙ ap (or_else (shortage l ns)) (lends-short e more)
+
+-- the number of a room that is short is not 0
+pub short-some : (x : Shortage) → short_number x ≡ 0 → ⊥
+short-some short.P e = omega arith
+short-some short.S e = omega arith
+short-some short.T e = omega arith
+short-some short.R e = omega arith
+short-some short.Q e = omega arith
 
 pub or-else-zero : (a : ℕ) → or_else a 0 ≡ a
 or-else-zero zero = refl

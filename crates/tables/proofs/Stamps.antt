@@ -1,12 +1,13 @@
 -- The laws of symbols in cells: their sums, and comparing them. Assumes nothing.
-use Rattle.std.proofs.Common.{◌≡◌, ℕ, zero, suc, ◌+◌, ◌-◌, ◌*◌, ◌<◌, ◌≤◌, true, false, eqb, List, [], ◌∷◌, sym, refl, ap, ◌∙◌, ap₂, add-zero, arith, eq-eqb, ne_eqb, eqb-true}
+use Rattle.std.proofs.Common.{◌≡◌, ℕ, zero, suc, ◌+◌, ◌-◌, ◌*◌, ◌<◌, ◌≤◌, true, eqb, List, [], ◌∷◌, sym, refl, ap, ◌∙◌, ap₂, add-zero, arith, eqb-true}
 use native.Mathlib.Nat.{sub-zero}
 use Rattle.spec.specs.Stacks.{Sym, before, constant, jumpdest, other, Stack, eq_sym, eq_syms, eq_stack}
 use Rattle.laws.proofs.Members.{and_both}
 use Rattle.state.specs.Symbols.{sym_of}
-use Rattle.state.specs.Cells.{tag, value, sym_at, syms_at}
+use Rattle.state.specs.Cells.{sym_at, syms_at}
 use Rattle.state.specs.declared.sym.StackSym.{StackSym}
-use Rattle.state.proofs.Comparing.{eq-parts}
+use Rattle.state.specs.declared.sym.StackSym.TheVariants.{Before, Constant, Jumpdest, Other}
+use Rattle.state.specs.contracts.sym.StackSymPartialEq as symbols
 use Rattle.tables.specs.Sums.{mixed, weight, sym_sums, SumsWith}
 use Rattle.tables.specs.declared.row.Sums.{Sums}
 
@@ -38,9 +39,6 @@ module _ (s : List ℕ) (from n : ℕ) where
 -- ---- sums
 
 module _ (k : ℕ) (s : List ℕ) (from n sum : ℕ) where
-  pub cells-first : sym_sums k sum (syms_at s (9 * (from + 0)) (n - 0)) ≡ sym_sums k sum (syms_at s (9 * from) n)
-  cells-first = ap (sym_sums k sum) (left-all s from n)
-
   module _ (acc i : ℕ) (e : sym_sums k acc (syms_at s (9 * (from + i)) (n - i)) ≡ sym_sums k sum (syms_at s (9 * from) n)) where
     pub cells-again : (x : StackSym) {v r : ℕ} → i < n → sym_of x ≡ sym_at s (9 * (from + i)) → v ≡ weight (sym_of x) → r ≡ mixed k acc v
         → sym_sums k r (syms_at s (9 * (from + (i + 1))) (n - (i + 1))) ≡ sym_sums k sum (syms_at s (9 * from) n)
@@ -60,12 +58,24 @@ both-done s from n i a b h e f = record { sum = cells-done 37 s from n a.sum b.s
 
 -- ---- comparing two symbols
 
-module _ (x y : Sym) {a b : ℕ} (p : a ≡ tag x) (q : b ≡ tag y) where
-  pub tags-differ : (a ≡ b → ⊥) → false ≡ eq_sym x y
-  tags-differ d = rw (eq-parts x y, ← p, ← q, ne_eqb a b d)
-
-  pub values_same : {v w : ℕ} → a ≡ b → v ≡ value x → w ≡ value y → eqb v w ≡ eq_sym x y
-  values_same e f g = rw (eq-parts x y, ← p, ← q, eq-eqb a b e, ← f, ← g)
+-- the derived comparison of two symbols
+pub eq-symbol : (x y : StackSym) → (symbols.TheImpl.ghosts).eq x y ≡ eq_sym (sym_of x) (sym_of y)
+eq-symbol (Before a) (Before b) = refl
+eq-symbol (Before a) (Constant b) = refl
+eq-symbol (Before a) (Jumpdest b) = refl
+eq-symbol (Before a) (Other b) = refl
+eq-symbol (Constant a) (Before b) = refl
+eq-symbol (Constant a) (Constant b) = refl
+eq-symbol (Constant a) (Jumpdest b) = refl
+eq-symbol (Constant a) (Other b) = refl
+eq-symbol (Jumpdest a) (Before b) = refl
+eq-symbol (Jumpdest a) (Constant b) = refl
+eq-symbol (Jumpdest a) (Jumpdest b) = refl
+eq-symbol (Jumpdest a) (Other b) = refl
+eq-symbol (Other a) (Before b) = refl
+eq-symbol (Other a) (Constant b) = refl
+eq-symbol (Other a) (Jumpdest b) = refl
+eq-symbol (Other a) (Other b) = refl
 
 pub eq-sym-true : (x y : Sym) → eq_sym x y ≡ true → x ≡ y
 eq-sym-true (before a) (before b) e = ap before (eqb-true a b e)

@@ -1,5 +1,5 @@
 -- The laws of sums. Assumes nothing.
-use Rattle.std.proofs.Common.{◌≡◌, ℕ, ◌+◌, ◌*◌, ◌/◌, ◌%◌, ◌^◌, ◌<◌, ◌≤◌, min, [], ◌∷◌, refl, ap, ◌∙◌, ap₂, mod-lt, div-lt_iff_lt-mul, mul-le-mul, mul-lt-mul_of_pos_right, arith}
+use Rattle.std.proofs.Common.{◌≡◌, ℕ, ◌+◌, ◌*◌, ◌/◌, ◌%◌, ◌^◌, ◌<◌, ◌≤◌, min, [], ◌∷◌, refl, ap, ◌∙◌, ap₂, mod-lt, div-lt_iff_lt-mul, mul-lt-mul_of_pos_right, arith}
 use native.Mathlib.Nat.{min-le_left}
 use Rattle.spec.specs.Stacks.{Sym, before, constant, jumpdest}
 use Rattle.state.specs.Cells.{tag, value}
@@ -14,6 +14,14 @@ mix-low k sum x = low-more (sum * k) x
     low-more a x = omega arith
 
 -- ---- sums that wrap, worked out one after the other, wrap as one
+
+-- a factor, and a number
+pub factored : (k sum x : ℕ) → (sum * k % 2 ^ 32 + x) % 2 ^ 32 ≡ mixed k sum x
+unfolding mixed
+factored k sum x = plus (sum * k) x
+  where
+    plus : (a x : ℕ) → (a % 2 ^ 32 + x) % 2 ^ 32 ≡ (a + x) % 2 ^ 32
+    plus a x = omega arith
 
 abbrev wrapped : ℕ → ℕ → Type 0
 wrapped r k = r ≡ k % 2 ^ 32
@@ -54,9 +62,6 @@ spread sum = sum % 2 ^ 32 * 2654435769 % 2 ^ 32
 
 spread-small : (sum : ℕ) → spread sum < 2 ^ 32
 spread-small sum = mod-lt (sum % 2 ^ 32 * 2654435769) (omega arith)
-
-pub product-fits : (sum : ℕ) {k : ℕ} → k ≤ 2 ^ 32 → spread sum * k ≤ 4294967295 * 2 ^ 32
-product-fits sum l = let h : spread sum ≤ 4294967295 = omega (arith, spread-small sum) in mul-le-mul h l
 
 pub scaled : (sum : ℕ) {k : ℕ} → 1 ≤ k → spread sum * k / 2 ^ 32 < k
 scaled sum {k} some =

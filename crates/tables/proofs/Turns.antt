@@ -191,9 +191,6 @@ emptied b o z =
 
 module _ {buckets : ℕ} {t : List ℕ} where
   -- all of them, before the first turn
-  pub wiped-none : Begins buckets t → Wiped buckets t 0 t
-  wiped-none b = record { most = omega arith; zeros = λ h l. absurd (omega arith); heads = heads-none buckets t }
-
   module _ {h : ℕ} {t₁ : List ℕ} (o : Wiped buckets t h t₁) where
     pub wiped-more : {t₂ : List ℕ} → h < buckets → Stored 4 t₁ (seen_place h + T-HEAD) (little 4 0) t₂ → Wiped buckets t (h + 1) t₂
     wiped-more {t₂} l s = record { most = omega arith; zeros = λ k b. go k (below h k (omega arith)); heads = heads-then h 0 l o.heads s }
@@ -210,10 +207,6 @@ module _ {buckets : ℕ} {t : List ℕ} where
     pub forgets-none : Forgetting buckets t m 0 t
     unfolding newest
     forgets-none = record { most = omega arith; keeps = λ h l e. refl; zeros = λ h l d. absurd (d refl); heads = heads-none buckets t }
-
-    -- a row in hand stands on a shelf
-    pub forgets-some : {i : ℕ} → i < m → 1 ≤ buckets
-    forgets-some l = c.some (λ z. omega arith)
 
     module _ {i : ℕ} {t₁ : List ℕ} (o : Forgetting buckets t m i t₁) where
       pub forgets-more : {v h : ℕ} {t₂ : List ℕ} → i < m → v ≡ stamp_at t₁ i → h ≡ bucket_of buckets v → h < buckets → Stored 4 t₁ (seen_place h + T-HEAD) (little 4 0) t₂

@@ -1,5 +1,5 @@
 -- Chains of rows that share a key, in a table whose rows are only added: a link holds one more than an index, and 0 ends the chain. Assumes nothing.
-use Rattle.std.specs.Prelude.{◌≡◌, ℕ, zero, suc, ◌<◌, ◌≤◌, Bool, false, ◌&&◌, ◌||◌, ◌==◌, nat_le}
+use Rattle.std.specs.Prelude.{◌≡◌, ℕ, zero, suc, ◌<◌, ◌≤◌, Bool, true, false, ◌&&◌, ◌||◌, ◌==◌, nat_le}
 use Rattle.spec.specs.Lists.{if}
 use Rattle.spec.specs.Rooms.{or_else}
 
@@ -29,6 +29,10 @@ pub record Ordered (key next first last : ℕ → ℕ) (n m : ℕ) : Type 0 wher
   pub stops : (i : ℕ) → i < m → n < key i → next i ≡ 0
   pub firsts : (a : ℕ) → a ≤ n → first a ≡ following key a 0 m
   pub lasts : (a : ℕ) → a ≤ n → last a ≡ newest key a m
+
+-- what passes the test has the key h
+pub record Keyed (key : ℕ → ℕ) (f : ℕ → Bool) (m h : ℕ) : Type 0 where
+  pub inside : (i : ℕ) → i < m → f i ≡ true → key i ≡ h
 
 -- along the chain of h: what is left of it from `cur` on is all that the test can find among m rows
 pub record Left (key : ℕ → ℕ) (f : ℕ → Bool) (m h cur : ℕ) : Type 0 where

@@ -4,6 +4,7 @@ pub mod Chains
 pub mod Records
 pub mod Links
 pub mod Tables
+pub mod Replies
 pub mod Recording
 pub mod Rows
 pub mod Mets

@@ -1,5 +1,6 @@
 -- A new record's row and its links: what is stored, and what it leaves as it was. Assumes nothing.
-use Rattle.std.specs.Prelude.{◌≡◌, ℕ, suc, ◌+◌, ◌^◌, ◌<◌, ◌≤◌, ◌⊎◌, List, ◌++◌, length, drop}
+use Rattle.std.specs.Prelude.{◌≡◌, ℕ, suc, ◌+◌, ◌^◌, ◌<◌, ◌≤◌, List, ◌++◌, length, drop, IfSome}
+use Rattle.std.specs.Option.{unwrap_or}
 use Rattle.spec.specs.Lists.{little}
 use Rattle.layout.specs.Fields.{COUNT, first_found_at, last_found_at}
 use Rattle.layout.specs.Marks.{NOWHERE}
@@ -11,7 +12,7 @@ use Rattle.tables.specs.declared.link.Fields.{Fields}
 
 -- the first 28 bytes of a row, of a record with no next parent; the other 4 are free
 unfoldable pub says_bytes : Fields → List ℕ
-says_bytes f = ((little 2 f.start ++ little 2 f.to) ++ little 4 f.ends) ++ little 4 f.kept
+says_bytes f = ((little 2 f.start ++ little 2 (unwrap_or f.to NOWHERE)) ++ little 4 f.ends) ++ little 4 f.kept
 
 unfoldable pub link_bytes : ℕ → ℕ → ℕ → List ℕ
 link_bytes link sum energy = ((little 4 0 ++ little 4 link) ++ little 4 sum) ++ little 4 energy
@@ -33,7 +34,7 @@ pub record SameRow (r r' : List ℕ) (i : ℕ) : Type 0 where
 -- record m says f
 pub record Says (r : List ℕ) (m : ℕ) (f : Fields) : Type 0 where
   pub start : start_at r m ≡ f.start
-  pub to : to_at r m ≡ f.to
+  pub to : to_at r m ≡ unwrap_or f.to NOWHERE
   pub ends : end_of r (suc m) ≡ f.ends
   pub kept : kept_of r (suc m) ≡ f.kept
   pub sum : sum_at r m ≡ f.sum
@@ -78,7 +79,7 @@ pub record Joined (n : ℕ) (w r : List ℕ) (m : ℕ) (w' r' : List ℕ) : Type
 -- what is to be said fits its fields
 pub record Sayable (n : ℕ) (f : Fields) : Type 0 where
   pub start : f.start < 2 ^ 16
-  pub to : (f.to ≡ NOWHERE) ⊎ (f.to ≤ n)
+  pub to : IfSome f.to (λ a. a ≤ n)
   pub ends : f.ends < 2 ^ 32
   pub kept : f.kept < 2 ^ 32
   pub sum : f.sum < 2 ^ 32

@@ -8,7 +8,7 @@ use Rattle.tables.specs.Recording.{short_of}
 use Rattle.tables.specs.Rows.{shelf_at, met_of, seen_met, stamp_of, used_of, MetRow, Shelves, Stamped, SameTold, Pushed}
 use Rattle.tables.specs.declared.Rooms.{Rooms}
 use Rattle.tables.specs.declared.Counts.{Counts}
-use Rattle.tables.specs.declared.Reply.{Reply}
+use Rattle.tables.specs.Replies.{Reply}
 use Rattle.tables.specs.declared.row.Seen.{Seen}
 
 -- all that holds of the remembered rows: each lies in T, its state within the cells in use at the bottom of S

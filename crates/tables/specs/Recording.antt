@@ -9,7 +9,7 @@ use Rattle.tables.specs.Links.{Beyond}
 use Rattle.tables.specs.Tables.{Mem, recs, counted, Tables, Stays}
 use Rattle.tables.specs.declared.Rooms.{Rooms}
 use Rattle.tables.specs.declared.Counts.{Counts}
-use Rattle.tables.specs.declared.Reply.{Reply}
+use Rattle.tables.specs.Replies.{Reply}
 
 -- ---- rooms by value
 

@@ -1,6 +1,6 @@
 -- The records as a whole: what holds of the buffers, and what a record more leaves. Assumes nothing.
-use Rattle.std.specs.Prelude.{◌≡◌, ℕ, suc, ◌+◌, ◌-◌, ◌*◌, ◌^◌, ◌<◌, ◌≤◌, List, [], ◌∷◌, ◌++◌, length, take, drop, ◌==◌}
-use Rattle.spec.specs.Lists.{if}
+use Rattle.std.specs.Prelude.{◌≡◌, ℕ, suc, ◌+◌, ◌-◌, ◌*◌, ◌^◌, ◌<◌, ◌≤◌, List, [], ◌∷◌, ◌++◌, length, take, drop, Option, Some, None}
+use Rattle.spec.specs.Stacks.{Stack}
 use Rattle.spec.specs.Search.{Found, nowhere, found, Rec}
 use Rattle.layout.specs.Fields.{first_found_at, last_found_at, newest_at}
 use Rattle.layout.specs.Marks.{NOWHERE}
@@ -80,16 +80,21 @@ pub record NoLinks (n buckets : ℕ) (w : List ℕ) : Type 0 where
 
 -- ---- a record more
 
+-- where a destination, or none, and a state lead
+abbrev pub found_by : Option ℕ → Stack → Found
+found_by None x = nowhere
+found_by (Some to) x = found to x
+
 abbrev pub new_found : List ℕ → Entry → Found
-new_found s e = if (e.to == NOWHERE) nowhere (found e.to (stack_at s (9 * e.from) e.cells))
+new_found s e = found_by e.to (stack_at s (9 * e.from) e.cells)
 
 abbrev pub new_rec : List ℕ → Entry → List ℕ → Rec
 new_rec s e path = record { start = e.start; to = new_found s e; path = path; energy = e.energy }
 
 -- there is no destination and nothing to keep, or a state stands in S
 pub data Enters (n : ℕ) (s : List ℕ) (e : Entry) : Type 0 where
-  enters_nowhere : e.to ≡ NOWHERE → e.cells ≡ 0 → Enters n s e
-  enters : e.to ≤ n → State s (9 * e.from) e.cells → Enters n s e
+  enters_nowhere : e.to ≡ None → e.cells ≡ 0 → Enters n s e
+  enters : {to : ℕ} → e.to ≡ Some to → to ≤ n → State s (9 * e.from) e.cells → Enters n s e
 
 -- what can be recorded: a path, and an entry
 pub record Ready (p : List ℕ) (np n buckets : ℕ) (k : Rooms) (m : Mem) (c : Counts) (e : Entry) : Type 0 where
@@ -103,7 +108,7 @@ pub record Ready (p : List ℕ) (np n buckets : ℕ) (k : Rooms) (m : Mem) (c : 
 
 -- the entry of a path that leads nowhere
 abbrev pub no_entry : ℕ → ℕ → Entry
-no_entry start energy = record { start = start; to = NOWHERE; from = 0; cells = 0; energy = energy }
+no_entry start energy = record { start = start; to = None; from = 0; cells = 0; energy = energy }
 
 -- and there is room for it
 pub record Adds (p : List ℕ) (np n buckets : ℕ) (k : Rooms) (m : Mem) (c : Counts) (e : Entry) (sum : ℕ) : Type 0 where

@@ -2,6 +2,7 @@
 #![tactic(auto)]
 
 mod add;
+mod chain;
 mod link;
 pub mod met;
 mod path;
@@ -24,7 +25,7 @@ pub struct Rooms {
     pub q: usize,
 }
 
-// How much is in use: records, addresses in Q, kept cells at the top of S, other cells at its bottom, and remembered rows.
+// How much of the lent buffers is in use (no heap, fixed memory): records, addresses in Q, kept cells at the top of S, other cells at its bottom, and remembered rows.
 #[derive(Clone, Copy)]
 pub struct Counts {
     pub records: usize,
@@ -34,19 +35,12 @@ pub struct Counts {
     pub rows: usize,
 }
 
-// What is to be recorded: the turn's start, the destination or `NOWHERE`, the place and the length in S, in cells, of the state to keep, and the energy so far.
+// What is to be recorded: the turn's start, the destination if there is one, the place and the length in S, in cells, of the state to keep, and the energy so far.
 #[derive(Clone, Copy)]
 pub struct Entry {
     pub start: usize,
-    pub to: usize,
+    pub to: Option<usize>,
     pub from: usize,
     pub cells: usize,
     pub energy: usize,
-}
-
-// 0 or the number of a refusal, and the counts.
-#[derive(Clone, Copy)]
-pub struct Reply {
-    pub code: usize,
-    pub counts: Counts,
 }

@@ -13,12 +13,12 @@ use layout::record::{ENDS, ENERGY, KEPT, LINK, NEXT, RECORD, SUM, TO};
 use layout::row::ROW;
 use lent::{get32, put16, put32};
 
-// What a record's row says: its turn's start, its destination or `NOWHERE`, the ends of its path in Q and of its kept cells in S, its path's sum, and
+// What a record's row says: its turn's start, its destination if there is one, the ends of its path in Q and of its kept cells in S, its path's sum, and
 // its number.
 #[derive(Clone, Copy)]
 pub struct Fields {
     pub start: usize,
-    pub to: usize,
+    pub to: Option<usize>,
     pub ends: usize,
     pub kept: usize,
     pub sum: usize,
@@ -31,7 +31,7 @@ fn put_says(r: &mut [u8], at: usize, fields: Fields)
     ensures { Stored 12 r.old at (says_bytes fields) r.new }
 {
     put16(r, at, fields.start);
-    put16(r, at + TO, fields.to);
+    put16(r, at + TO, fields.to.unwrap_or(NOWHERE));
     put32(r, at + ENDS, fields.ends);
     put32(r, at + KEPT, fields.kept);
 }
@@ -86,8 +86,7 @@ pub fn link_record(
     let head = get32(w, at);
     put_row(r, row, fields, head);
     put32(w, at, row + 1);
-    if fields.to == NOWHERE {
-        return;
+    if let Some(to) = fields.to {
+        link_parent(w, r, size, to, row);
     }
-    link_parent(w, r, size, fields.to, row)
 }

@@ -2,14 +2,16 @@
 // "when a turn ends, T and the cells of its first and remembered states are free and used again"
 ghost use Rattle.std.specs.Prelude.{◌≡◌, ◌+◌, ◌^◌, ◌<◌};
 ghost use Rattle.tables.specs.Rows.{Shelves};
+ghost use Rattle.tables.specs.Replies.{reply_of};
 ghost use Rattle.tables.specs.Mets.{Memorizes, Memorized, Begins, Emptied, remembering};
 
 use crate::record::bucket_of;
 use crate::row::Seen;
 use crate::shelf::{push_row, stamp_at};
-use crate::{Counts, Reply, Rooms};
+use crate::{Counts, Rooms};
 use layout::seen::{HEAD, SEEN};
 use lent::put32;
+use refusal::Shortage;
 
 // The counts with a row more.
 fn counted_row(counts: Counts, seen: Seen) -> Counts
@@ -17,15 +19,13 @@ fn counted_row(counts: Counts, seen: Seen) -> Counts
     ensures { result ≡ remembering counts seen }
 {
     Counts {
-        records: counts.records,
-        addresses: counts.addresses,
-        kept: counts.kept,
         used: counts.used + seen.cells,
         rows: counts.rows + 1,
+        ..counts
     }
 }
 
-// Remembers what was seen, whose sum is given, where T has room.
+// Remembers what was seen, whose sum is given, where T has room. A refusal leaves T as it was.
 pub fn remember(
     s: &[u8],
     t: &mut [u8],
@@ -34,16 +34,15 @@ pub fn remember(
     buckets: usize,
     seen: Seen,
     sum: usize,
-) -> Reply
+) -> Result<Counts, Shortage>
     requires { Memorizes buckets rooms t.old s.now counts seen sum }
-    ensures { Memorized buckets rooms t.old s.now counts seen t.new result }
+    ensures { Memorized buckets rooms t.old s.now counts seen t.new (reply_of counts result) }
 {
     if rooms.t < counts.rows + 1 {
-        return Reply { code: 6, counts };
+        return Err(Shortage::T);
     }
     push_row(t, buckets, counts.rows, seen, sum);
-    let counts = counted_row(counts, seen);
-    Reply { code: 0, counts }
+    Ok(counted_row(counts, seen))
 }
 
 // Empties the buckets before the first turn.
@@ -51,10 +50,8 @@ pub fn begin_rows(t: &mut [u8], buckets: usize)
     requires { Begins buckets t.old }
     ensures { Emptied buckets t.old t.new }
 {
-    let mut bucket = 0;
-    while bucket < buckets {
+    for bucket in 0..buckets {
         put32(t, SEEN * bucket + HEAD, 0);
-        bucket += 1;
     }
 }
 
@@ -63,10 +60,8 @@ pub fn forget(t: &mut [u8], buckets: usize, rows: usize)
     requires { Shelves buckets t.old rows }
     ensures { Emptied buckets t.old t.new }
 {
-    let mut row = 0;
-    while row < rows {
+    for row in 0..rows {
         let bucket = bucket_of(stamp_at(t, row), buckets);
         put32(t, SEEN * bucket + HEAD, 0);
-        row += 1;
     }
 }

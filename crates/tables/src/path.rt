@@ -4,29 +4,8 @@ ghost use Rattle.std.specs.Prelude.{◌≡◌};
 ghost use Rattle.spec.specs.Lists.{same};
 ghost use Rattle.tables.specs.Addrs.{addrs, Path, Summed, Beside, Packed, Left};
 
-use crate::sum::{low, mix, wide};
+use crate::sum::{SUM, low, mix};
 use lent::get16;
-
-// The sum of the np addresses of p: four sums take turns, so that none waits for the one before it.
-pub fn path_sum(p: &[u8], np: usize) -> usize
-    requires { Path p.now 0 np }
-    ensures { Summed (addrs p.now 0 np) result }
-{
-    let mut first: u32 = 0;
-    let mut second: u32 = 0;
-    let mut third: u32 = 0;
-    let mut fourth: u32 = 0;
-    let mut i = 0;
-    while i < np {
-        let sum = mix(first, low(get16(p, 2 * i)));
-        first = second;
-        second = third;
-        third = fourth;
-        fourth = sum;
-        i += 1;
-    }
-    wide(mix(mix(mix(first, second), third), fourth))
-}
 
 // The four addresses of `path` from `at` on, as one number, for which the compiler makes one load.
 fn four(path: &[u8], at: usize) -> usize
@@ -38,32 +17,59 @@ fn four(path: &[u8], at: usize) -> usize
     front + back * 4294967296
 }
 
-// So many addresses, by fours, that what is behind them decides whether the np addresses of p are those of q from `at` on.
-fn alike(p: &[u8], np: usize, q: &[u8], at: usize) -> usize
-    requires { Beside p.now np q.now at }
-    ensures { Left p.now np q.now at result }
-{
-    let mut i = 0;
-    while 4 <= np - i {
-        if four(p, i) != four(q, at + i) {
-            return i;
-        }
-        i += 4;
-    }
-    i
+// How many addresses are compared at once.
+const STEP: usize = 4;
+
+// The path in hand: the first np addresses of P, which is lent whole, since the path grows and shrinks in place (no heap, fixed memory).
+#[derive(Clone, Copy)]
+pub struct PathInHand<'a> {
+    pub p: &'a [u8],
+    pub np: usize,
 }
 
-// Whether the np addresses of p are those of q from `at` on.
-pub fn same_path(p: &[u8], np: usize, q: &[u8], at: usize) -> bool
-    requires { Beside p.now np q.now at }
-    ensures { result ≡ same (addrs p.now 0 np) (addrs q.now at np) }
-{
-    let mut i = alike(p, np, q, at);
-    while i < np {
-        if get16(p, 2 * i) != get16(q, 2 * (at + i)) {
-            return false;
+impl PathInHand<'_> {
+    // The sum of its addresses: four sums take turns, so that none waits for the one before it.
+    pub fn sum(&self) -> usize
+        requires { Path self.now.p.now 0 self.now.np }
+        ensures { Summed (addrs self.now.p.now 0 self.now.np) result }
+    {
+        let mut first: u32 = 0;
+        let mut second: u32 = 0;
+        let mut third: u32 = 0;
+        let mut fourth: u32 = 0;
+        for i in 0..self.np {
+            let sum = mix::<SUM>(first, low(get16(self.p, 2 * i)));
+            first = second;
+            second = third;
+            third = fourth;
+            fourth = sum;
         }
-        i += 1;
+        mix::<SUM>(mix::<SUM>(mix::<SUM>(first, second), third), fourth) as usize
     }
-    true
+
+    // So many addresses, by fours, that what is behind them decides whether its addresses are those of q from `at` on.
+    fn alike(&self, q: &[u8], at: usize) -> usize
+        requires { Beside self.now.p.now self.now.np q.now at }
+        ensures { Left self.now.p.now self.now.np q.now at result }
+    {
+        for i in 0..self.np / STEP {
+            if four(self.p, STEP * i) != four(q, at + STEP * i) {
+                return STEP * i;
+            }
+        }
+        self.np - self.np % STEP
+    }
+
+    // Whether its addresses are those of q from `at` on.
+    pub fn is_at(&self, q: &[u8], at: usize) -> bool
+        requires { Beside self.now.p.now self.now.np q.now at }
+        ensures { result ≡ same (addrs self.now.p.now 0 self.now.np) (addrs q.now at self.now.np) }
+    {
+        for i in self.alike(q, at)..self.np {
+            if get16(self.p, 2 * i) != get16(q, 2 * (at + i)) {
+                return false;
+            }
+        }
+        true
+    }
 }

@@ -1,12 +1,13 @@
 // Looking a record up: along the chain of its bucket.
 // "recorded unless that destination has that path already"
-ghost use Rattle.std.specs.Prelude.{◌≡◌, ◌*◌, ◌^◌, ◌<◌, ◌≤◌, min, length};
+ghost use Rattle.std.specs.Prelude.{◌≡◌, ◌*◌, ◌^◌, ◌<◌, ◌≤◌, length};
 ghost use Rattle.layout.specs.Records.{record_place, end_of};
 ghost use Rattle.tables.specs.Sums.{bucket_of};
 ghost use Rattle.tables.specs.Addrs.{addrs};
-ghost use Rattle.tables.specs.Records.{is_rec, has_rec, Compare, Seek};
+ghost use Rattle.tables.specs.Records.{bucket_at, is_rec, Seek};
 
-use crate::path::same_path;
+use crate::chain::Chain;
+use crate::path::PathInHand;
 use layout::part::{BUCKET, BUCKETS};
 use layout::record::{ENDS, LINK, RECORD, SUM, TO};
 use lent::{get16, get32};
@@ -22,71 +23,65 @@ pub fn end_before(r: &[u8], row: usize) -> usize
     get32(r, RECORD * (row - 1) + ENDS)
 }
 
-// Whether a record leads to `to` by the path in hand, whose sum is given.
-fn is_record(p: &[u8], np: usize, r: &[u8], q: &[u8], row: usize, to: usize, sum: usize) -> bool
-    requires { Compare p.now np r.now q.now row sum }
-    ensures { result ≡ is_rec r.now q.now to (addrs p.now 0 np) row }
-{
-    if get32(r, RECORD * row + SUM) != sum {
-        return false;
-    }
-    if get16(r, RECORD * row + TO) != to {
-        return false;
-    }
-    let at = end_before(r, row);
-    if get32(r, RECORD * row + ENDS) - at != np {
-        return false;
-    }
-    same_path(p, np, q, at)
-}
-
 // The factor that spreads a sum's 32 bits, 2^32 over the golden ratio; so buckets are found by two products, and by no division.
 const SPREAD: usize = 2654435769;
 
-// As many buckets as 32 bits can be scaled down to.
-fn scale(buckets: usize) -> usize
-    ensures { (result ≡ min buckets (2 ^ 32)) × (result ≤ 2 ^ 32) }
-{
-    if buckets < 0x1_0000_0000 {
-        buckets
-    } else {
-        0x1_0000_0000
-    }
-}
-
-// The bucket of a sum.
+// The bucket of a sum; more buckets than 32 bits can be scaled down to are not used.
 pub fn bucket_of(sum: usize, buckets: usize) -> usize
     requires { 1 ≤ buckets }
     ensures { (result ≡ bucket_of buckets sum) × (result < buckets) }
 {
     let spread = sum % 0x1_0000_0000 * SPREAD % 0x1_0000_0000;
-    spread * scale(buckets) / 0x1_0000_0000
+    spread * buckets.min(0x1_0000_0000) / 0x1_0000_0000
 }
 
-// Whether one of the records leads to `to` by the path in hand, whose sum is given.
-pub fn recorded(
-    w: &[u8],
-    p: &[u8],
-    r: &[u8],
-    q: &[u8],
-    np: usize,
-    size: usize,
-    buckets: usize,
-    records: usize,
-    to: usize,
-    sum: usize,
-) -> bool
-    requires { Seek p.now np w.now r.now q.now size buckets records sum }
-    ensures { result ≡ has_rec r.now q.now to (addrs p.now 0 np) records }
-{
-    let bucket = bucket_of(sum, buckets);
-    let mut cur = get32(w, BUCKETS * (size + 1) + BUCKET * bucket);
-    while cur != 0 {
-        let row = cur - 1;
-        cur = get32(r, RECORD * row + LINK);
-        if is_record(p, np, r, q, row, to, sum) {
-            return true;
-        }
+// What is looked up among the records: the path in hand, with its sum, and where it leads, as the bytes of a record have it.
+#[derive(Clone, Copy)]
+pub struct PathLookup<'a> {
+    pub w: &'a [u8],
+    pub path: PathInHand<'a>,
+    pub r: &'a [u8],
+    pub q: &'a [u8],
+    pub size: usize,
+    pub buckets: usize,
+    pub records: usize,
+    pub to: usize,
+    pub sum: usize,
+}
+
+impl Chain for PathLookup<'_> {
+    ghost key = { λ x. bucket_at x.buckets x.r.now };
+
+    ghost own = { λ x. bucket_of x.buckets x.sum };
+
+    ghost rows = { λ x. x.records };
+
+    ghost hit = { λ x. is_rec x.r.now x.q.now x.to (addrs x.path.p.now 0 x.path.np) };
+
+    ghost holds = { λ x. Seek x.path.p.now x.path.np x.w.now x.r.now x.q.now x.size x.buckets x.records x.sum };
+
+    fn newest(&self) -> usize {
+        get32(
+            self.w,
+            BUCKETS * (self.size + 1) + BUCKET * bucket_of(self.sum, self.buckets),
+        )
     }
-    false
+
+    fn link(&self, row: usize) -> usize {
+        get32(self.r, RECORD * row + LINK)
+    }
+
+    fn fits(&self, row: usize) -> bool {
+        if get32(self.r, RECORD * row + SUM) != self.sum {
+            return false;
+        }
+        if get16(self.r, RECORD * row + TO) != self.to {
+            return false;
+        }
+        let at = end_before(self.r, row);
+        if get32(self.r, RECORD * row + ENDS) - at != self.path.np {
+            return false;
+        }
+        self.path.is_at(self.q, at)
+    }
 }

@@ -1,22 +1,21 @@
 // Looking a remembered row up: along the chain of its bucket.
 // "If last block, state and symbol were met in this turn"
 ghost use Rattle.std.specs.Prelude.{◌≡◌, ◌+◌, ◌*◌, ◌^◌, ◌<◌, ◌≤◌, length};
-ghost use Rattle.spec.specs.Stacks.{eq_sym};
 ghost use Rattle.state.specs.Symbols.{sym_of};
-ghost use Rattle.state.specs.Cells.{tag, value, syms_at, State};
+ghost use Rattle.state.specs.Cells.{syms_at, State};
 ghost use Rattle.tables.specs.Chains.{any};
-ghost use Rattle.tables.specs.Rows.{seen_met, is_met, Stamped, Compares, Finds};
-ghost use Rattle.tables.specs.Sums.{weight, SumsWith};
+ghost use Rattle.tables.specs.Rows.{shelf_at, seen_met, is_met, Stamped, Finds};
+ghost use Rattle.tables.specs.Sums.{weight, bucket_of, SumsWith};
 
+use crate::chain::{Chain, found};
 use crate::record::bucket_of;
 use crate::shelf::stamp_at;
-use crate::sum::{blend, low, mix, wide};
+use crate::sum::{MARK, SUM, low, mix};
 use layout::seen::{CELLS, FROM, HEAD, LINK, SEEN, SYMBOL};
 use lent::{get16, get32};
-use state::cell::{BEFORE, CONSTANT, JUMPDEST, OTHER, get_cell};
+use state::cell::{CELL, get_cell};
 use state::same::same_state;
 use state::sym::StackSym;
-use std::num::wrapping_add_u32;
 
 // What is remembered: the path's last block, the symbol read there, and the place and the length of the state in S, in cells.
 #[derive(Clone, Copy)]
@@ -34,45 +33,12 @@ struct Sums {
     mark: u32,
 }
 
-// A symbol's tag.
-fn tag_of(symbol: StackSym) -> usize
-    ensures { (result ≡ tag (sym_of symbol)) × (result < 4) }
-{
-    match symbol {
-        StackSym::Before(_) => BEFORE,
-        StackSym::Constant(_) => CONSTANT,
-        StackSym::Jumpdest(_) => JUMPDEST,
-        StackSym::Other(_) => OTHER,
-    }
-}
-
-// A symbol's number.
-fn value_of(symbol: StackSym) -> usize
-    ensures { result ≡ value (sym_of symbol) }
-{
-    match symbol {
-        StackSym::Before(number) => number,
-        StackSym::Constant(number) => number,
-        StackSym::Jumpdest(number) => number,
-        StackSym::Other(number) => number,
-    }
-}
-
-// What a symbol adds to a sum.
+// What a symbol adds to a sum: its number, and its tag a million times.
 fn weigh(symbol: StackSym) -> u32
     ensures { result ≡ weight (sym_of symbol) }
 {
-    wrapping_add_u32(low(value_of(symbol)), low(tag_of(symbol) * 1000000))
-}
-
-// Whether two symbols are the same.
-fn same_symbol(one: StackSym, other: StackSym) -> bool
-    ensures { result ≡ eq_sym (sym_of one) (sym_of other) }
-{
-    if tag_of(one) != tag_of(other) {
-        return false;
-    }
-    value_of(one) == value_of(other)
+    let (tag, number) = symbol.parts();
+    low(number).wrapping_add(low(tag * 1000000))
 }
 
 // Both sums with the symbols of so many cells of S from the cell `from` on.
@@ -82,12 +48,10 @@ fn sum_cells(s: &[u8], from: usize, cells: usize, sums: Sums) -> Sums
 {
     let mut sum = sums.sum;
     let mut mark = sums.mark;
-    let mut i = 0;
-    while i < cells {
-        let weight = weigh(get_cell(s, 9 * (from + i)));
-        sum = mix(sum, weight);
-        mark = blend(mark, weight);
-        i += 1;
+    for i in 0..cells {
+        let weight = weigh(get_cell(s, CELL * (from + i)));
+        sum = mix::<SUM>(sum, weight);
+        mark = mix::<MARK>(mark, weight);
     }
     Sums { sum, mark }
 }
@@ -100,39 +64,64 @@ pub fn stamp_of(s: &[u8], seen: Seen) -> usize
     requires { (State s.now (9 * seen.from) seen.cells) × (seen.last < 2 ^ 16) }
     ensures { Stamped s.now seen result }
 {
-    let symbol = seen.symbol;
     let last = low(seen.last);
-    let weight = weigh(symbol);
-    let sum = mix(mix(0, last), weight);
-    let mark = blend(blend(0, last), weight);
+    let weight = weigh(seen.symbol);
+    let sum = mix::<SUM>(mix::<SUM>(0, last), weight);
+    let mark = mix::<MARK>(mix::<MARK>(0, last), weight);
     let sums = sum_cells(s, seen.from, seen.cells, Sums { sum, mark });
-    wide(sums.sum) * 256 + bucket_of(wide(sums.mark), MARKS)
+    sums.sum as usize * 256 + bucket_of(sums.mark as usize, MARKS)
 }
 
-// Whether a row remembers `seen`, whose sum is given.
-fn is_row(s: &[u8], t: &[u8], row: usize, seen: Seen, sum: usize) -> bool
-    requires { Compares t.now s.now row seen sum }
-    ensures { result ≡ is_met t.now s.now (seen_met s.now seen) row }
-{
-    let symbol = seen.symbol;
-    if stamp_at(t, row) != sum {
-        return false;
+// What is looked up among the remembered rows, with its sum.
+#[derive(Clone, Copy)]
+struct StateLookup<'a> {
+    s: &'a [u8],
+    t: &'a [u8],
+    buckets: usize,
+    rows: usize,
+    seen: Seen,
+    sum: usize,
+}
+
+impl Chain for StateLookup<'_> {
+    ghost key = { λ x. shelf_at x.buckets x.t.now };
+
+    ghost own = { λ x. bucket_of x.buckets x.sum };
+
+    ghost rows = { λ x. x.rows };
+
+    ghost hit = { λ x. is_met x.t.now x.s.now (seen_met x.s.now x.seen) };
+
+    ghost holds = { λ x. Finds x.t.now x.s.now x.buckets x.rows x.seen x.sum };
+
+    fn newest(&self) -> usize {
+        get32(self.t, SEEN * bucket_of(self.sum, self.buckets) + HEAD)
     }
-    if get16(t, SEEN * row) != seen.last {
-        return false;
+
+    fn link(&self, row: usize) -> usize {
+        get32(self.t, SEEN * row + LINK)
     }
-    if !same_symbol(symbol, get_cell(t, SEEN * row + SYMBOL)) {
-        return false;
+
+    fn fits(&self, row: usize) -> bool {
+        if stamp_at(self.t, row) != self.sum {
+            return false;
+        }
+        if get16(self.t, SEEN * row) != self.seen.last {
+            return false;
+        }
+        if self.seen.symbol != get_cell(self.t, SEEN * row + SYMBOL) {
+            return false;
+        }
+        if get32(self.t, SEEN * row + CELLS) != self.seen.cells {
+            return false;
+        }
+        same_state(
+            self.s,
+            CELL * self.seen.from,
+            CELL * get32(self.t, SEEN * row + FROM),
+            self.seen.cells,
+        )
     }
-    if get32(t, SEEN * row + CELLS) != seen.cells {
-        return false;
-    }
-    same_state(
-        s,
-        9 * seen.from,
-        9 * get32(t, SEEN * row + FROM),
-        seen.cells,
-    )
 }
 
 // Whether one of the rows remembers `seen`, whose sum is given.
@@ -140,14 +129,12 @@ pub fn find_row(s: &[u8], t: &[u8], buckets: usize, rows: usize, seen: Seen, sum
     requires { Finds t.now s.now buckets rows seen sum }
     ensures { result ≡ any (is_met t.now s.now (seen_met s.now seen)) rows }
 {
-    let bucket = bucket_of(sum, buckets);
-    let mut cur = get32(t, SEEN * bucket + HEAD);
-    while cur != 0 {
-        let row = cur - 1;
-        cur = get32(t, SEEN * row + LINK);
-        if is_row(s, t, row, seen, sum) {
-            return true;
-        }
-    }
-    false
+    found(&StateLookup {
+        s,
+        t,
+        buckets,
+        rows,
+        seen,
+        sum,
+    })
 }

@@ -46,8 +46,7 @@ fn put_met(t: &mut [u8], row: usize, seen: Seen, sum: usize, link: usize)
     requires { (seen_place row + SEEN ≤ length t.old) × (Tellable seen sum link) }
     ensures { RowPut t.old row seen sum link t.new }
 {
-    let symbol = seen.symbol;
-    put_seen(t, SEEN * row, seen.last, symbol);
+    put_seen(t, SEEN * row, seen.last, seen.symbol);
     put8(t, SEEN * row + MARK, sum % 256);
     put_place(t, SEEN * row, seen.from, seen.cells, sum / 256, link);
 }

@@ -2,8 +2,8 @@ use Rattle.parents.proofs.PrepareLoop.{walk_none, walk-read, walk-row, walk_more
 use Rattle.parents.proofs.Ends.{prepared-all}
 use Rattle.parents.proofs.prepare.Goals as goal
 
-pub loop-left-init : goal.loop-left-init
-loop-left-init c = search walk_none
+pub loop-place-init : goal.loop-place-init
+loop-place-init c = search walk_none
 
 pub start_at-start-requires : goal.start_at-start-requires
 start_at-start-requires c = search walk-read
@@ -11,8 +11,8 @@ start_at-start-requires c = search walk-read
 pub prepare_row-many-requires : goal.prepare_row-many-requires
 prepare_row-many-requires c = search walk-row
 
-pub loop-left-preserved : goal.loop-left-preserved
-loop-left-preserved c = search walk_more
+pub loop-place-preserved : goal.loop-place-preserved
+loop-place-preserved c = search walk_more
 
 pub returns : goal.returns
 returns c = search prepared-all

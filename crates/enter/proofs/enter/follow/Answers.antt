@@ -1,45 +1,38 @@
 -- `follow`: short of S, met before, short of T, or on by the symbol. Assumes nothing.
+use mathlib.Core.Path.{refl}
+use Rattle.std.proofs.lemmas.Result.{err_from_is_err_and}
+use Rattle.tables.proofs.Shorts.{short-some}
 use Rattle.enter.proofs.StepsFourToSix.{follow-composing}
 use Rattle.enter.proofs.FollowWays.{followed-short, followed-met, followed-full, follow-sees, follow-meets, follow-arriving, followed-arrived}
-use mathlib.Core.Path.{ap, ◌∙◌}
-use Rattle.enter.specs.Enters.{opening_of}
 use Rattle.enter.proofs.enter.follow.Goals as goal
 
-pub take_state-taken-requires : goal.take_state-taken-requires
-take_state-taken-requires c = follow-composing c.requires
+pub take_state-requires : goal.take_state-requires
+take_state-requires c = follow-composing c.requires
 
-pub returns-then-taken-ne0 : goal.returns-then-taken-ne0
-returns-then-taken-ne0 c = followed-short c.requires c.take_state-taken.ensures c.if-taken-ne0.true c.refuse.ensures (ap (opening_of _) c.shut.ensures)
+pub returns-in_err-taken-clause-followed : goal.returns-in_err-taken-clause-followed
+returns-in_err-taken-clause-followed c =
+    let p = err_from_is_err_and c.from_residual.result c.from_residual.ensures.1 in
+    rw (p.1, p.2) (followed-short c.requires c.in_err-taken.ensures)
 
 pub seen-seen-requires : goal.seen-seen-requires
-seen-seen-requires c = follow-sees c.requires c.take_state-taken.ensures
+seen-seen-requires c = follow-sees c.requires
 
-pub meet-meeting-requires : goal.meet-meeting-requires
-meet-meeting-requires c = follow-meets c.requires c.take_state-taken.ensures c.seen-seen.ensures c.if-taken-ne0.false
+pub meet-requires : goal.meet-requires
+meet-requires c = follow-meets c.requires c.in_ok-taken.ensures c.seen-seen.ensures
 
-pub shape_of-w-then-meeting : goal.shape_of-w-then-meeting
-shape_of-w-then-meeting c = c.take_state-taken.ensures.long_w
+pub returns-in_err-more-clause-followed : goal.returns-in_err-more-clause-followed
+returns-in_err-more-clause-followed c =
+    let p = err_from_is_err_and c.from_residual-in_err-more.result c.from_residual-in_err-more.ensures.1 in
+    rw (p.1, p.2) (followed-full c.requires c.in_ok-taken.ensures c.seen-seen.ensures c.in_err-more.ensures refl (short-some _))
 
-pub returns-then-meeting : goal.returns-then-meeting
-returns-then-meeting c = followed-met c.requires c.take_state-taken.ensures c.seen-seen.ensures c.if-taken-ne0.false c.meet-meeting.ensures c.if-meeting.true (ap (opening_of _) c.shut-then-meeting.ensures)
-
-pub shape_of-w-then-meeting-ne0 : goal.shape_of-w-then-meeting-ne0
-shape_of-w-then-meeting-ne0 c = c.take_state-taken.ensures.long_w
-
-pub shape_of-s-then-meeting-ne0 : goal.shape_of-s-then-meeting-ne0
-shape_of-s-then-meeting-ne0 c = c.take_state-taken.ensures.long_s
-
-pub returns-then-meeting-ne0 : goal.returns-then-meeting-ne0
-returns-then-meeting-ne0 c = followed-full c.requires c.take_state-taken.ensures c.seen-seen.ensures c.if-taken-ne0.false c.meet-meeting.ensures c.if-meeting.false c.if-meeting-ne0.true c.after.ensures (ap (opening_of _) c.shut-then-meeting-ne0.ensures)
+pub returns-in_default-clause-followed : goal.returns-in_default-clause-followed
+returns-in_default-clause-followed c = followed-met c.requires c.in_ok-taken.ensures c.seen-seen.ensures (rw c.in_default.is at c.in_ok-more.ensures) refl
 
 pub arrive-requires : goal.arrive-requires
-arrive-requires c = follow-arriving c.requires c.take_state-taken.ensures c.seen-seen.ensures c.if-taken-ne0.false c.meet-meeting.ensures c.if-meeting.false c.if-meeting-ne0.false c.after.ensures
+arrive-requires c = follow-arriving c.requires c.in_ok-taken.ensures c.seen-seen.ensures (rw c.in-Some.is at c.in_ok-more.ensures) refl refl
 
-pub shape_of-w : goal.shape_of-w
-shape_of-w c = c.arrive.auto.w ∙ c.take_state-taken.ensures.long_w
-
-pub shape_of-s : goal.shape_of-s
-shape_of-s c = c.arrive.auto.s ∙ c.take_state-taken.ensures.long_s
-
-pub returns : goal.returns
-returns c = followed-arrived c.requires c.take_state-taken.ensures c.seen-seen.ensures c.if-taken-ne0.false c.meet-meeting.ensures c.if-meeting.false c.if-meeting-ne0.false c.after.ensures c.arrive.ensures
+pub returns-clause-followed : goal.returns-clause-followed
+returns-clause-followed c =
+    let came = c.arrive.ensures in
+    rw (came.same.p, came.same.t)
+    (followed-arrived c.requires c.in_ok-taken.ensures c.seen-seen.ensures (rw c.in-Some.is at c.in_ok-more.ensures) refl refl came.arrived)

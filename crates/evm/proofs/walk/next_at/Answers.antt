@@ -2,8 +2,8 @@
 use Rattle.evm.proofs.Steps.{next-whole, next-none}
 use Rattle.evm.proofs.walk.next_at.Goals as goal
 
-pub returns-in-Whole : goal.returns-in-Whole
-returns-in-Whole c = search next-whole
+pub returns-in-Some : goal.returns-in-Some
+returns-in-Some c = search next-whole
 
-pub returns-in-End : goal.returns-in-End
-returns-in-End c = search next-none
+pub returns-in-None : goal.returns-in-None
+returns-in-None c = search next-none

@@ -1,25 +1,22 @@
--- `to_end` meets its contract: what is left to run ends where the whole run does. The measure is what is left of the code. Assumes nothing.
-use native.Mathlib.Omega.{arith}
-use Rattle.exec.proofs.Owns.{running-start, running-steps, running-less, running-on, ended-none, ended-ends, ended-jumps}
+-- `to_end` meets its contract: what is left to run ends where the whole run does. Assumes nothing.
+use mathlib.Core.Path.{refl, ◌∙◌}
+use Rattle.exec.proofs.Owns.{running-start, running-steps, running-on, ended-none, ended-ends, ended-jumps}
 use Rattle.exec.proofs.run.to_end.Goals as goal
 
-pub loop-pc-init : goal.loop-pc-init
-loop-pc-init c = search running-start
-
-pub returns-in-End : goal.returns-in-End
-returns-in-End c = search ended-none
+pub loop-instruction-init : goal.loop-instruction-init
+loop-instruction-init c = running-start c.requires (c.into_iter-instruction-iterator.ensures.into_iter_gives ∙ c.new-instruction-items.ensures) refl
 
 pub step-requires : goal.step-requires
 step-requires c = search running-steps
 
-pub loop-pc-smaller : goal.loop-pc-smaller
-loop-pc-smaller c = search running-less
-
-pub loop-pc-preserved : goal.loop-pc-preserved
-loop-pc-preserved c = search (running-on, arith)
+pub loop-instruction-preserved : goal.loop-instruction-preserved
+loop-instruction-preserved c = search (running-on, c.type_inv.code)
 
 pub returns-in-Ends : goal.returns-in-Ends
-returns-in-Ends c = search (ended-ends, arith)
+returns-in-Ends c = search (ended-ends, c.type_inv.code)
 
 pub returns-in-Jumps : goal.returns-in-Jumps
-returns-in-Jumps c = search (ended-jumps, arith)
+returns-in-Jumps c = search (ended-jumps, c.type_inv.code)
+
+pub returns : goal.returns
+returns c = search ended-none

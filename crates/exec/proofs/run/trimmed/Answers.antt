@@ -1,18 +1,15 @@
--- `trimmed` meets its contract: what is left to trim ends where the whole does. The measure is the cells that are left. Assumes nothing.
-use Rattle.exec.proofs.Trims.{trim_start, trim-some, trim-more, trim-stop, trim-done}
+-- `trimmed` meets its contract: what is left to trim ends where the whole does. Assumes nothing.
+use Rattle.exec.proofs.Trims.{passed-none, passed-more, passed-stop, passed-all}
 use Rattle.exec.proofs.run.trimmed.Goals as goal
 
-pub loop-left-init : goal.loop-left-init
-loop-left-init c = search trim_start
+pub loop-i-init : goal.loop-i-init
+loop-i-init c = search passed-none
 
-pub overflow_sub-low : goal.overflow_sub-low
-overflow_sub-low c = search trim-some
+pub loop-i-preserved : goal.loop-i-preserved
+loop-i-preserved c = search passed-more
 
-pub loop-left-preserved : goal.loop-left-preserved
-loop-left-preserved c = search trim-more
-
-pub returns-else-joined : goal.returns-else-joined
-returns-else-joined c = search trim-stop
+pub returns-then-not-joined : goal.returns-then-not-joined
+returns-then-not-joined c = search passed-stop
 
 pub returns : goal.returns
-returns c = search trim-done
+returns c = search passed-all

@@ -1,9 +1,6 @@
--- `trimmed` meets its contract: what is left to trim ends where the whole does. The measure is the cells that are left. Assumes nothing.
-use Rattle.exec.proofs.Trims.{Trimming}
+-- `trimmed` meets its contract: what is left to trim ends where the whole does. Assumes nothing.
+use Rattle.exec.proofs.Trims.{Passed}
 use Rattle.exec.proofs.run.trimmed.Given as goal
 
-abbrev pub invariant-loop-left : goal.invariant-loop-left
-invariant-loop-left l = Trimming l.w l.at l.count l.base l.left l.low
-
-abbrev pub decreases-loop-left : goal.decreases-loop-left
-decreases-loop-left l = l.left
+abbrev pub invariant-loop-i : goal.invariant-loop-i
+invariant-loop-i l = Passed l.w l.at l.count l.base l.i

@@ -1,4 +1,4 @@
--- `spell` meets its contract: the cells passed so far are spelled out. The measure is what is left of d. Assumes nothing.
+-- `spell` meets its contract: the cells passed so far are spelled out. Assumes nothing.
 use native.Mathlib.Omega.{arith}
 use borrow.Author.Rules.{rules}
 use Rattle.exec.proofs.Swaps.{spell-none, spell-more, spell-done}

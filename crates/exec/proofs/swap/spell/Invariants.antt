@@ -1,10 +1,7 @@
--- `spell` meets its contract: the cells passed so far are spelled out. The measure is what is left of d. Assumes nothing.
-use Prim.Native.Nat.{◌-◌, ◌≤◌}
+-- `spell` meets its contract: the cells passed so far are spelled out. Assumes nothing.
+use Prim.Native.Nat.{◌≤◌}
 use Rattle.state.specs.Cells.{befores, Wrote}
 use Rattle.exec.proofs.swap.spell.Given as goal
 
 abbrev pub invariant-loop-i : goal.invariant-loop-i
 invariant-loop-i l = (l.i ≤ l.count) × Wrote l.i l.initial.w l.at (befores l.base l.i) l.w
-
-abbrev pub decreases-loop-i : goal.decreases-loop-i
-decreases-loop-i l = l.count - l.i

@@ -1,29 +1,10 @@
-use Rattle.follow.proofs.Edging.{link_start, link_fits, link-place, link-sum, link-passed, link-less, link_on, link-kept, link-over}
+use Rattle.std.proofs.Common.{rules, ◌∙◌}
+use Rattle.follow.proofs.Placing.{choose-can}
+use Rattle.follow.proofs.Edging.{link_start, link_on}
 use Rattle.follow.proofs.edges.link.Goals as goal
 
 pub loop-to-init : goal.loop-to-init
-loop-to-init c = search link_start
-
-pub keep-requires-clause-rows_in_bounds : goal.keep-requires-clause-rows_in_bounds
-keep-requires-clause-rows_in_bounds c = search link_fits
-
-pub keep-requires-clause-place_bound : goal.keep-requires-clause-place_bound
-keep-requires-clause-place_bound c = search link-place
-
-pub overflow_add-count : goal.overflow_add-count
-overflow_add-count c = search link-sum
-
-pub overflow_add-passed : goal.overflow_add-passed
-overflow_add-passed c = search link-passed
-
-pub loop-to-smaller : goal.loop-to-smaller
-loop-to-smaller c = search link-less
+loop-to-init c = let new = c.into_iter-to-iterator.ensures.into_iter_gives ∙ c.new-to-items.ensures in (choose-can new c.requires.walking, tt, search link_start)
 
 pub loop-to-preserved : goal.loop-to-preserved
-loop-to-preserved c = search link_on
-
-pub shape_of-work-in-Over : goal.shape_of-work-in-Over
-shape_of-work-in-Over c = search link-kept
-
-pub returns-in-Over : goal.returns-in-Over
-returns-in-Over c = search link-over
+loop-to-preserved c = let on = link_on c.loop-to.invariant.2 c.next.new.self c.in-Some.ensures.steps c.requires.owned c.keep.ensures in search (rules, on)

@@ -2,11 +2,11 @@ use Rattle.follow.proofs.Moving.{edge-one}
 use Rattle.follow.proofs.Edging.{place-seek, place-known}
 use Rattle.follow.proofs.edges.place_of.Goals as goal
 
-pub overflow_add-slot : goal.overflow_add-slot
-overflow_add-slot c = search edge-one
+pub overflow_add-key : goal.overflow_add-key
+overflow_add-key c = edge-one c.requires.finds.ready c.requires.stood
 
-pub returns-then-found-eq0 : goal.returns-then-found-eq0
-returns-then-found-eq0 c = search place-seek
+pub returns-in-Some : goal.returns-in-Some
+returns-in-Some c = place-known c.args.finder.map.now c.args.at c.args.to c.requires.finds.index c.known.ensures c.in-Some.is
 
 pub returns : goal.returns
-returns c = search place-known
+returns c = search place-seek

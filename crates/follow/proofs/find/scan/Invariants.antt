@@ -1,9 +1,5 @@
-use Rattle.std.proofs.Common.{◌-◌, length}
 use Rattle.follow.proofs.Passing.{Scanning}
 use Rattle.follow.proofs.find.scan.Given as goal
 
 abbrev pub invariant-loop-block : goal.invariant-loop-block
-invariant-loop-block l = Scanning l.map l.start l.at l.slot
-
-abbrev pub decreases-loop-block : goal.decreases-loop-block
-decreases-loop-block l = length l.map - l.at
+invariant-loop-block l = (goal.iterator-loop-block).can_next l.block-iterator × (goal.iterator-loop-block).is_finite l.block-iterator × Scanning l.map l.start l.block-iterator l.slot

@@ -1,5 +1,6 @@
-use Rattle.follow.proofs.Indexing.{fill_none}
+use Rattle.std.proofs.Common.{rules}
+use Rattle.follow.proofs.Passing.{ready-walks}
 use Rattle.follow.proofs.index.fill.Goals as goal
 
-pub returns-then-work-start : goal.returns-then-work-start
-returns-then-work-start c = search fill_none
+pub last-requires-clause-can : goal.last-requires-clause-can
+last-requires-clause-can c = search (rules, ready-walks)

@@ -1,38 +1,25 @@
-use Rattle.follow.proofs.Indexing.{fill_start, fill-short, fill-next, fill-fits, fill_one, fill-walking, fill-few, fill-owned, fill-table, fill-sum, fill-less, fill_on, fill-ends}
+use Rattle.std.proofs.Common.{rules}
+use Rattle.follow.proofs.Passing.{go-start, ready-walks}
+use Rattle.follow.proofs.Indexing.{fill_start, fill_one, fill-owned, fill-table, fill-sum, fill_on}
 use Rattle.follow.proofs.index.fill_rows.Goals as goal
 
 pub loop-block-init : goal.loop-block-init
-loop-block-init c = search fill_start
+loop-block-init c = (search (go-start, ready-walks), tt, search fill_start)
 
-pub returns-then-rows-start : goal.returns-then-rows-start
-returns-then-rows-start c = search fill-short
-
-pub put_row-requires-clause-start_in_bounds : goal.put_row-requires-clause-start_in_bounds
-put_row-requires-clause-start_in_bounds c = search fill-fits
-
-pub put_row-requires-clause-own_bound : goal.put_row-requires-clause-own_bound
-put_row-requires-clause-own_bound c = search fill-next
+pub loop-block-init-derived : goal.loop-block-init-derived
+loop-block-init-derived c = (search (go-start, ready-walks), tt)
 
 pub overflow_add-key : goal.overflow_add-key
-overflow_add-key c = search fill_one
-
-pub link-requires-clause-walking : goal.link-requires-clause-walking
-link-requires-clause-walking c = search (fill-walking, fill-few)
+overflow_add-key c = fill_one c.loop-block.invariant.2 c.next.ensures.steps c.in-Some.is c.requires.ready
 
 pub link-requires-clause-owned : goal.link-requires-clause-owned
-link-requires-clause-owned c = search fill-owned
+link-requires-clause-owned c = fill-owned c.loop-block.invariant.2 c.next.ensures.steps c.in-Some.is
 
 pub link-requires-clause-table : goal.link-requires-clause-table
-link-requires-clause-table c = search fill-table
+link-requires-clause-table c = fill-table c.loop-block.invariant.2 c.next.ensures.steps c.in-Some.is c.if-rows-block.false c.put_row.ensures
 
 pub overflow_add-slot : goal.overflow_add-slot
-overflow_add-slot c = search fill-sum
-
-pub loop-block-smaller : goal.loop-block-smaller
-loop-block-smaller c = search fill-less
+overflow_add-slot c = fill-sum c.loop-block.invariant.2 c.next.ensures.steps c.in-Some.is c.requires.ready c.link.ensures
 
 pub loop-block-preserved : goal.loop-block-preserved
-loop-block-preserved c = search fill_on
-
-pub returns-in-Over : goal.returns-in-Over
-returns-in-Over c = search fill-ends
+loop-block-preserved c = let on = fill_on c.loop-block.invariant.2 c.next.ensures.steps c.in-Some.is c.if-rows-block.false c.put_row.ensures c.requires.ready c.link.ensures in search (rules, on)

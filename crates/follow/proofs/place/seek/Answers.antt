@@ -1,23 +1,15 @@
-use Rattle.follow.proofs.Placing.{seek-start, seek_hit, seek-sum, seek-passed, seek-less, seek-on, seek-over}
+use Rattle.std.proofs.Common.{inl, rules, tests, eqb}
+use Rattle.std.proofs.lemmas.Iterator.Consumers.{YieldsList-from_first}
+use Rattle.std.proofs.lemmas.Iterator.Search.{position_from_yields_List}
+use Rattle.follow.specs.Places.{distinct_left}
+use Rattle.follow.proofs.Placing.{choose-can, choose-fits, choose-all, place-position}
 use Rattle.follow.proofs.place.seek.Goals as goal
 
-pub loop-to-init : goal.loop-to-init
-loop-to-init c = search seek-start
+pub position-requires-clause-can : goal.position-requires-clause-can
+position-requires-clause-can c = choose-can c.new.ensures c.requires
 
-pub returns-then-hits : goal.returns-then-hits
-returns-then-hits c = search seek_hit
+pub position-requires-clause-fits : goal.position-requires-clause-fits
+position-requires-clause-fits c = inl (search choose-fits)
 
-pub overflow_add-count : goal.overflow_add-count
-overflow_add-count c = search seek-sum
-
-pub overflow_add-passed : goal.overflow_add-passed
-overflow_add-passed c = search seek-passed
-
-pub loop-to-smaller : goal.loop-to-smaller
-loop-to-smaller c = search seek-less
-
-pub loop-to-preserved : goal.loop-to-preserved
-loop-to-preserved c = search seek-on
-
-pub returns-in-Over : goal.returns-in-Over
-returns-in-Over c = search seek-over
+pub returns : goal.returns
+returns c = place-position c.args.asked _ (position_from_yields_List (λ x. eqb x c.args.asked) c.position.new.self _ c.position.result c.position.ensures.ran (YieldsList-from_first (λ x. x) distinct_left _ (choose-all c.new.ensures)) (λ x b q k. search (rules, tests)))

@@ -1,20 +1,12 @@
-use Rattle.follow.proofs.Passing.{room-start, room_short, room-less, room-on, room_fits, room-walking, room-few}
+use Rattle.std.proofs.Common.{rules}
+use Rattle.follow.proofs.Passing.{go-start, room-start, room_short, room-on}
 use Rattle.follow.proofs.room.room_for.Goals as goal
 
 pub loop-block-init : goal.loop-block-init
-loop-block-init c = search room-start
-
-pub many-more-requires : goal.many-more-requires
-many-more-requires c = search (room-walking, room-few)
+loop-block-init c = (search (rules, go-start), tt, search room-start)
 
 pub returns-then-lent-slots : goal.returns-then-lent-slots
-returns-then-lent-slots c = search room_short
-
-pub loop-block-smaller : goal.loop-block-smaller
-loop-block-smaller c = search room-less
+returns-then-lent-slots c = room_short c.loop-block.invariant.2 c.next.ensures.steps c.in-Some.is c.many-more.ensures c.if-lent-slots.true
 
 pub loop-block-preserved : goal.loop-block-preserved
-loop-block-preserved c = search room-on
-
-pub returns-in-Over : goal.returns-in-Over
-returns-in-Over c = search room_fits
+loop-block-preserved c = let on = room-on c.loop-block.invariant.2 c.next.ensures.steps c.in-Some.is c.many-more.ensures c.if-lent-slots.false in search (rules, on)

@@ -4,8 +4,8 @@ use Rattle.follow.proofs.step.begin.Goals as goal
 pub returns-then-to-ne0 : goal.returns-then-to-ne0
 returns-then-to-ne0 c = search begin-other
 
-pub returns-in-At : goal.returns-in-At
-returns-in-At c = search begin-at
+pub returns-in_err-first : goal.returns-in_err-first
+returns-in_err-first c = rw c.from_residual.ensures (let none = c.in_err-first.was in search begin-none)
 
-pub returns-in-Nowhere : goal.returns-in-Nowhere
-returns-in-Nowhere c = search begin-none
+pub returns : goal.returns
+returns c = let some = c.in_ok-first.was in search begin-at

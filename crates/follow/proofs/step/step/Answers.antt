@@ -1,11 +1,11 @@
 use Rattle.follow.proofs.Moving.{step-stood, step-begins, step-inside}
 use Rattle.follow.proofs.step.step.Goals as goal
 
-pub inside-requires : goal.inside-requires
-inside-requires c = search step-stood
+pub inside-requires-clause-stood : goal.inside-requires-clause-stood
+inside-requires-clause-stood c = search step-stood
 
-pub returns-in-Outside : goal.returns-in-Outside
-returns-in-Outside c = search step-begins
+pub returns-in-None : goal.returns-in-None
+returns-in-None c = search step-begins
 
-pub returns-in-Inside : goal.returns-in-Inside
-returns-in-Inside c = search step-inside
+pub returns-in-Some : goal.returns-in-Some
+returns-in-Some c = search step-inside

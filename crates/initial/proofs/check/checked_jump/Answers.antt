@@ -5,5 +5,5 @@ use Rattle.initial.proofs.check.checked_jump.Goals as goal
 pub returns-then-lands : goal.returns-then-lands
 returns-then-lands c = search jump_kept
 
-pub returns : goal.returns
-returns c = search jump-ends
+pub returns-else-lands : goal.returns-else-lands
+returns-else-lands c = search jump-ends

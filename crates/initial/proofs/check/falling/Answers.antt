@@ -5,5 +5,5 @@ use Rattle.initial.proofs.check.falling.Goals as goal
 pub returns-then-lands : goal.returns-then-lands
 returns-then-lands c = search jumpi-kept
 
-pub returns : goal.returns
-returns c = search jumpi-falls
+pub returns-else-lands : goal.returns-else-lands
+returns-else-lands c = search jumpi-falls

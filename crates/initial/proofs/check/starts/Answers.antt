@@ -1,9 +1,10 @@
--- `starts` meets its contract: past the code, and by the kind byte of the row. Assumes nothing.
-use Rattle.initial.proofs.Checking.{starts-past, starts-tag}
+-- `starts` meets its contract: by the type in the row, and past the code. Assumes nothing.
+use Rattle.initial.proofs.Checking.{starts-past, starts-type}
+use mathlib.Core.Path.{◌∙◌}
 use Rattle.initial.proofs.check.starts.Goals as goal
 
-pub returns-then-code-to : goal.returns-then-code-to
-returns-then-code-to c = search starts-past
+pub returns-then-to-code : goal.returns-then-to-code
+returns-then-to-code c = c.is_some.ensures ∙ starts-type _ _ _ c.if-to-code.true c.type_at.ensures
 
-pub returns : goal.returns
-returns c = search starts-tag
+pub returns-else-to-code : goal.returns-else-to-code
+returns-else-to-code c = search starts-past

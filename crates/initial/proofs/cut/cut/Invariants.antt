@@ -4,8 +4,8 @@ use lib.ListN.{length}
 use Rattle.initial.proofs.Cutting.{Going}
 use Rattle.initial.proofs.cut.cut.Given as goal
 
-abbrev pub invariant-loop-w : goal.invariant-loop-w
-invariant-loop-w l = Going l.code l.initial.w l.w l.walking l.prev l.at
+abbrev pub invariant-loop-pc : goal.invariant-loop-pc
+invariant-loop-pc l = Going l.code l.initial.w l.w l.walking l.prev l.at
 
-abbrev pub decreases-loop-w : goal.decreases-loop-w
-decreases-loop-w l = length l.code - l.at
+abbrev pub decreases-loop-pc : goal.decreases-loop-pc
+decreases-loop-pc l = length l.code - l.at

@@ -1,32 +1,35 @@
-use Rattle.parents.proofs.Leaves.{room-to, room-other, room-then, sides-jump, sides-once, sides-both, sides-other, sides-none}
+use Rattle.parents.proofs.Leaves.{room-to, room-other, room-once, room-then, room-false, sides-empty, sides-jump, sides-once, sides-both, sides-false, sides-none}
 use Rattle.parents.proofs.link.link_sides.Goals as goal
+
+pub returns-in_default : goal.returns-in_default
+returns-in_default c = search sides-empty
 
 pub link-requires : goal.link-requires
 link-requires c = search room-to
 
-pub returns-then-block-eq-JUMP : goal.returns-then-block-eq-JUMP
-returns-then-block-eq-JUMP c = search sides-jump
+pub link-requires-then-to-other : goal.link-requires-then-to-other
+link-requires-then-to-other c = search room-once
 
-pub link-requires-then-block : goal.link-requires-then-block
-link-requires-then-block c = search room-to
+pub returns-then-to-other : goal.returns-then-to-other
+returns-then-to-other c = search sides-once
 
-pub returns-then-block : goal.returns-then-block
-returns-then-block c = search sides-once
+pub link-requires-in-Jumpi : goal.link-requires-in-Jumpi
+link-requires-in-Jumpi c = search room-other
 
-pub link-requires-then-block-eq-JUMPI : goal.link-requires-then-block-eq-JUMPI
-link-requires-then-block-eq-JUMPI c = search room-other
+pub link-requires-in-Jumpi-2 : goal.link-requires-in-Jumpi-2
+link-requires-in-Jumpi-2 c = search room-then
 
-pub link-requires-then-block-eq-JUMPI-2 : goal.link-requires-then-block-eq-JUMPI-2
-link-requires-then-block-eq-JUMPI-2 c = search room-then
+pub link-requires-in-DynamicJumpi : goal.link-requires-in-DynamicJumpi
+link-requires-in-DynamicJumpi c = search room-false
 
-pub returns-then-block-eq-JUMPI : goal.returns-then-block-eq-JUMPI
-returns-then-block-eq-JUMPI c = search sides-both
+pub returns-in-Jump : goal.returns-in-Jump
+returns-in-Jump c = search sides-jump
 
-pub link-requires-then-block-eq-DYNAMIC_JUMPI : goal.link-requires-then-block-eq-DYNAMIC_JUMPI
-link-requires-then-block-eq-DYNAMIC_JUMPI c = search room-other
+pub returns-else-to-other : goal.returns-else-to-other
+returns-else-to-other c = search sides-both
 
-pub returns-then-block-eq-DYNAMIC_JUMPI : goal.returns-then-block-eq-DYNAMIC_JUMPI
-returns-then-block-eq-DYNAMIC_JUMPI c = search sides-other
+pub returns-in-DynamicJumpi : goal.returns-in-DynamicJumpi
+returns-in-DynamicJumpi c = search sides-false
 
-pub returns-else-block-eq-DYNAMIC_JUMPI : goal.returns-else-block-eq-DYNAMIC_JUMPI
-returns-else-block-eq-DYNAMIC_JUMPI c = search sides-none
+pub returns-in_default-block : goal.returns-in_default-block
+returns-in_default-block c = search (sides-none, c.in_default-block.not-Jump, c.in_default-block.not-Jumpi, c.in_default-block.not-DynamicJumpi)

@@ -1,4 +1,4 @@
-use Rattle.parents.proofs.Leaves.{place-jumpdest, place-before, place-constant, place_other}
+use Rattle.parents.proofs.Leaves.{place-jumpdest, place-before, place-stays}
 use Rattle.parents.proofs.settle.place.Goals as goal
 
 pub returns-in-Jumpdest : goal.returns-in-Jumpdest
@@ -8,7 +8,4 @@ pub returns-in-Before : goal.returns-in-Before
 returns-in-Before c = search place-before
 
 pub returns-in-Constant : goal.returns-in-Constant
-returns-in-Constant c = search place-constant
-
-pub returns-in-Other : goal.returns-in-Other
-returns-in-Other c = search place_other
+returns-in-Constant c = search place-stays

@@ -1,17 +1,14 @@
-use Rattle.parents.proofs.Leaves.{settle-static, settle-runs, settle-room, settle-nowhere, settle-placed}
+use Rattle.parents.proofs.Leaves.{settle-none, settle-static, settle-nowhere, settle-placed}
 use Rattle.parents.proofs.settle.settle.Goals as goal
 
-pub returns-then-block-lt-DYNAMIC_JUMP : goal.returns-then-block-lt-DYNAMIC_JUMP
-returns-then-block-lt-DYNAMIC_JUMP c = search settle-static
+pub returns-in_default : goal.returns-in_default
+returns-in_default c = search settle-none
 
-pub run-own-requires : goal.run-own-requires
-run-own-requires c = search settle-runs
+pub returns-then-not-is_dynamic : goal.returns-then-not-is_dynamic
+returns-then-not-is_dynamic c = search settle-static
 
-pub place-requires : goal.place-requires
-place-requires c = search settle-room
+pub returns-in-None : goal.returns-in-None
+returns-in-None c = search settle-nowhere
 
-pub returns-in-Nowhere : goal.returns-in-Nowhere
-returns-in-Nowhere c = search settle-nowhere
-
-pub returns-in-To : goal.returns-in-To
-returns-in-To c = search settle-placed
+pub returns-in-Some-goes : goal.returns-in-Some-goes
+returns-in-Some-goes c = search settle-placed

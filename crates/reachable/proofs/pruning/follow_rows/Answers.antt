@@ -1,25 +1,24 @@
--- `follow_rows`: the rows of the key below k are followed; k rises. Assumes nothing.
-use borrow.Author.Rules.{rules}
+-- `follow_rows`: the rows of the key below the next one are followed; that rises. Assumes nothing.
 use Rattle.reachable.proofs.Leading.{walk-address, walk_start, walk-going, walk-room, walk_turn, walk-less, walk-done}
 use Rattle.reachable.proofs.pruning.follow_rows.Goals as goal
 
-pub first_row-link-requires : goal.first_row-link-requires
-first_row-link-requires c = record { address = search walk-address; key = search rules }
+pub first_row-next-requires : goal.first_row-next-requires
+first_row-next-requires c = search walk-address
 
-pub loop-link-init : goal.loop-link-init
-loop-link-init c = search walk_start
+pub loop-next-init : goal.loop-next-init
+loop-next-init c = search walk_start
 
 pub follow_row-more-requires : goal.follow_row-more-requires
 follow_row-more-requires c = search walk-going
 
-pub next_row-link-requires : goal.next_row-link-requires
-next_row-link-requires c = record { row_in_bounds = search walk-room; key = search rules }
+pub next_row-next-requires : goal.next_row-next-requires
+next_row-next-requires c = search walk-room
 
-pub loop-link-smaller : goal.loop-link-smaller
-loop-link-smaller c = search walk-less
+pub loop-next-smaller : goal.loop-next-smaller
+loop-next-smaller c = search walk-less
 
-pub loop-link-preserved : goal.loop-link-preserved
-loop-link-preserved c = search walk_turn
+pub loop-next-preserved : goal.loop-next-preserved
+loop-next-preserved c = search walk_turn
 
 pub returns : goal.returns
 returns c = search walk-done

@@ -1,12 +1,22 @@
--- `numbered` meets its contract: each way out is a law of the body. Assumes nothing.
-use Rattle.reader.proofs.Bodies.{numbered-short, numbered-wrong, numbered-right}
+-- `numbered` meets its contract: the path is that of the body, and each way out is a law of the body. Assumes nothing.
+use Rattle.std.proofs.lemmas.Result.{err_from_is_err_and}
+use native.Mathlib.Omega.{arith}
+use Rattle.reader.proofs.Bodies.{path-room, numbered-wrong, numbered-right}
 use Rattle.reader.proofs.body.numbered.Goals as goal
 
-pub returns-then-long-lt12 : goal.returns-then-long-lt12
-returns-then-long-lt12 c = search numbered-short
+pub returns-in_err-path : goal.returns-in_err-path
+returns-in_err-path c =
+    let p = err_from_is_err_and c.from_residual.result c.from_residual.ensures.1 in
+    rw (p.1, p.2) (search (c.in_err-path.was, numbered-wrong))
 
-pub returns-then-long-count : goal.returns-then-long-count
-returns-then-long-count c = search numbered-wrong
+pub get16-start-requires : goal.get16-start-requires
+get16-start-requires c = omega (arith, path-room _ _ _ c.requires 8 c.path_of.ensures (c.in_ok-path.was {u = tt}))
+
+pub get16-requires : goal.get16-requires
+get16-requires c = omega (arith, path-room _ _ _ c.requires 8 c.path_of.ensures (c.in_ok-path.was {u = tt}))
+
+pub get32-energy-requires : goal.get32-energy-requires
+get32-energy-requires c = omega (arith, path-room _ _ _ c.requires 8 c.path_of.ensures (c.in_ok-path.was {u = tt}))
 
 pub returns : goal.returns
-returns c = search numbered-right
+returns c = search (c.in_ok-path.was, numbered-right)

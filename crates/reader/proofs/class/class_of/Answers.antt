@@ -5,14 +5,14 @@ use Rattle.reader.proofs.class.class_of.Goals as goal
 pub returns-in-Jump : goal.returns-in-Jump
 returns-in-Jump c = search class-jump
 
-pub returns-in-Jumpi : goal.returns-in-Jumpi
-returns-in-Jumpi c = search class-jumpi
+pub returns-in-Jump-2 : goal.returns-in-Jump-2
+returns-in-Jump-2 c = search class-jumpi
 
 pub returns-in-DynamicJump : goal.returns-in-DynamicJump
 returns-in-DynamicJump c = search class-dynamic_jump
 
-pub returns-in-DynamicJumpi : goal.returns-in-DynamicJumpi
-returns-in-DynamicJumpi c = search class-dynamic_jumpi
+pub returns-in-DynamicJump-2 : goal.returns-in-DynamicJump-2
+returns-in-DynamicJump-2 c = search class-dynamic_jumpi
 
 pub returns-in-Record : goal.returns-in-Record
 returns-in-Record c = search class-record

@@ -32,35 +32,35 @@ record-requires c = search lead-room
 pub numbered-requires : goal.numbered-requires
 numbered-requires c = search lead-room
 
-pub returns-in-Head : goal.returns-in-Head
-returns-in-Head c = search entry-sorted
+pub returns-in-Some-Head : goal.returns-in-Some-Head
+returns-in-Some-Head c = search entry-sorted
 
-pub returns-in-Terminate : goal.returns-in-Terminate
-returns-in-Terminate c = search entry-sorted
+pub returns-in-Some-Terminate : goal.returns-in-Some-Terminate
+returns-in-Some-Terminate c = search entry-sorted
 
-pub returns-in-Jump : goal.returns-in-Jump
-returns-in-Jump c = search entry-sorted
+pub returns-in-Some-Jump : goal.returns-in-Some-Jump
+returns-in-Some-Jump c = search entry-sorted
 
-pub returns-in-Jumpi : goal.returns-in-Jumpi
-returns-in-Jumpi c = search entry-sorted
+pub returns-in-Some-Jumpi : goal.returns-in-Some-Jumpi
+returns-in-Some-Jumpi c = search entry-sorted
 
-pub returns-in-DynamicJump : goal.returns-in-DynamicJump
-returns-in-DynamicJump c = search entry-sorted
+pub returns-in-Some-DynamicJump : goal.returns-in-Some-DynamicJump
+returns-in-Some-DynamicJump c = search entry-sorted
 
-pub returns-in-DynamicJumpi : goal.returns-in-DynamicJumpi
-returns-in-DynamicJumpi c = search entry-sorted
+pub returns-in-Some-DynamicJumpi : goal.returns-in-Some-DynamicJumpi
+returns-in-Some-DynamicJumpi c = search entry-sorted
 
-pub returns-in-Way : goal.returns-in-Way
-returns-in-Way c = search entry-sorted
+pub returns-in-Some-Way : goal.returns-in-Some-Way
+returns-in-Some-Way c = search entry-sorted
 
-pub returns-in-Record : goal.returns-in-Record
-returns-in-Record c = search entry-sorted
+pub returns-in-Some-Record : goal.returns-in-Some-Record
+returns-in-Some-Record c = search entry-sorted
 
-pub returns-in-Numbered : goal.returns-in-Numbered
-returns-in-Numbered c = search entry-sorted
+pub returns-in-Some-Numbered : goal.returns-in-Some-Numbered
+returns-in-Some-Numbered c = search entry-sorted
 
-pub returns-in-Unknown : goal.returns-in-Unknown
-returns-in-Unknown c = search entry-none
+pub returns-in-None : goal.returns-in-None
+returns-in-None c = search entry-none
 
-pub returns-in-Short : goal.returns-in-Short
-returns-in-Short c = search entry-cut
+pub returns-in_default : goal.returns-in_default
+returns-in_default c = search entry-cut

@@ -5,11 +5,11 @@ use Rattle.reader.proofs.lead.end_of.Goals as goal
 pub overflow_add-result : goal.overflow_add-result
 overflow_add-result c = search sum-6
 
-pub overflow_add-result-in-Says : goal.overflow_add-result-in-Says
-overflow_add-result-in-Says c = search sum_body
+pub overflow_add-result-in-Some : goal.overflow_add-result-in-Some
+overflow_add-result-in-Some c = search sum_body
 
-pub returns-in-Says : goal.returns-in-Says
-returns-in-Says c = search next-whole
+pub returns-in-Some : goal.returns-in-Some
+returns-in-Some c = search next-whole
 
-pub returns-in-Short : goal.returns-in-Short
-returns-in-Short c = search next-cut
+pub returns-in-None : goal.returns-in-None
+returns-in-None c = search next-cut

@@ -4,8 +4,8 @@ use lib.ListN.{length}
 use Rattle.reader.proofs.Onward.{Counting}
 use Rattle.reader.proofs.run.sevens.Given as goal
 
-abbrev pub invariant-loop-kind : goal.invariant-loop-kind
-invariant-loop-kind l = Counting l.map l.at l.count l.to
+abbrev pub invariant-loop-lead : goal.invariant-loop-lead
+invariant-loop-lead l = Counting l.map l.at l.count l.to
 
-abbrev pub decreases-loop-kind : goal.decreases-loop-kind
-decreases-loop-kind l = length l.map - l.to
+abbrev pub decreases-loop-lead : goal.decreases-loop-lead
+decreases-loop-lead l = length l.map - l.to

@@ -1,13 +1,15 @@
 -- `read` meets its contract: behind a head the rest decides; with any other first entry the offset is 0. Assumes nothing.
-use Rattle.reader.proofs.Resting.{read_head, read_none}
-use Rattle.reader.proofs.Turning.{one_in}
+use Rattle.std.proofs.lemmas.Result.{err_from_is_err_and}
+use Rattle.reader.proofs.Resting.{head-in, head-none, read-behind}
 use Rattle.reader.proofs.scan.read.Goals as goal
 
+pub returns-in_err-head : goal.returns-in_err-head
+returns-in_err-head c =
+    let p = err_from_is_err_and c.from_residual.result c.from_residual.ensures.1 in
+    rw (p.1, p.2) (search (c.in_err-head.was, head-none))
+
 pub rest-requires : goal.rest-requires
-rest-requires c = search one_in
+rest-requires c = search (c.in_ok-head.was, head-in)
 
-pub returns-in-Head : goal.returns-in-Head
-returns-in-Head c = search read_head
-
-pub returns-in_default : goal.returns-in_default
-returns-in_default c = read_none _ c.entry_at-entry.ensures c.in_default.not-Head
+pub returns : goal.returns
+returns c = search (c.in_ok-head.was, read-behind)

@@ -2,7 +2,7 @@
 use mathlib.Core.Path.{refl}
 use native.Mathlib.Omega.{arith}
 use Rattle.spec.specs.Report.{join}
-use Rattle.reader.specs.declared.entry.Entry.TheVariants.{Head, Terminate, Jump, Jumpi, DynamicJump, DynamicJumpi, Unknown, Wrong, Cut}
+use Rattle.reader.specs.declared.entry.Entry.TheVariants.{Head, Terminate, Jump, Jumpi, DynamicJump, DynamicJumpi}
 use Rattle.report.proofs.Counted.{with-entry, with-block, way-counted, record-counted}
 use Rattle.report.proofs.count.counted.Goals as goal
 
@@ -35,15 +35,3 @@ returns-in-Record c = search record-counted
 pub returns-in-Head : goal.returns-in-Head
 unfolding join
 returns-in-Head c = with-entry (Head _ _ _ _) c.in-Head.is (omega arith)
-
-pub returns-in-Unknown : goal.returns-in-Unknown
-unfolding join
-returns-in-Unknown c = with-entry Unknown c.in-Unknown.is (omega arith)
-
-pub returns-in-Wrong : goal.returns-in-Wrong
-unfolding join
-returns-in-Wrong c = with-entry Wrong c.in-Wrong.is (omega arith)
-
-pub returns-in-Cut : goal.returns-in-Cut
-unfolding join
-returns-in-Cut c = with-entry Cut c.in-Cut.is (omega arith)

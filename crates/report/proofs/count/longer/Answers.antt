@@ -4,10 +4,6 @@ use Rattle.spec.specs.Report.{join}
 use Rattle.report.proofs.Counted.{with-path}
 use Rattle.report.proofs.count.longer.Goals as goal
 
-pub returns-then-d-count : goal.returns-then-d-count
-unfolding join
-returns-then-d-count c = with-path (omega arith)
-
 pub returns : goal.returns
 unfolding join
 returns c = with-path (omega arith)

@@ -4,10 +4,10 @@ use Rattle.spec.specs.Report.{join}
 use Rattle.report.proofs.Counted.{with-record, nowhere-adds, found-adds}
 use Rattle.report.proofs.count.recorded.Goals as goal
 
-pub returns-in-Missing : goal.returns-in-Missing
+pub returns-in-None : goal.returns-in-None
 unfolding join
-returns-in-Missing c = with-record 10 (nowhere-adds _ c.in-Missing.is) (omega arith) c.longer.ensures
+returns-in-None c = with-record 10 (nowhere-adds _ c.in-None.is) (omega arith) c.longer.ensures
 
-pub returns-in-At : goal.returns-in-At
+pub returns-in-Some : goal.returns-in-Some
 unfolding join
-returns-in-At c = with-record 9 (found-adds _ c.in-At.is) (omega arith) c.longer-in-At.ensures
+returns-in-Some c = with-record 9 (found-adds _ c.in-Some.is) (omega arith) c.longer-in-Some.ensures

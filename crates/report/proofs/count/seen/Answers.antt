@@ -2,8 +2,8 @@
 use Rattle.report.proofs.Counted.{seen-missing, seen_at}
 use Rattle.report.proofs.count.seen.Goals as goal
 
-pub returns-in-Missing : goal.returns-in-Missing
-returns-in-Missing c = search seen-missing
+pub returns-in-None : goal.returns-in-None
+returns-in-None c = search seen-missing
 
-pub returns-in-At : goal.returns-in-At
-returns-in-At c = search seen_at
+pub returns-in-Some : goal.returns-in-Some
+returns-in-Some c = search seen_at

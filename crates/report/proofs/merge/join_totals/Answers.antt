@@ -8,8 +8,8 @@ loop-i-init c = search joining-start
 pub loop-i-preserved : goal.loop-i-preserved
 loop-i-preserved c = search joining-on
 
-pub returns-in-TooLarge : goal.returns-in-TooLarge
-returns-in-TooLarge c = search joining-large
+pub returns-in_default : goal.returns-in_default
+returns-in_default c = search joining-large
 
 pub returns : goal.returns
 returns c = search joining-end

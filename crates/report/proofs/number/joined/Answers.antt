@@ -1,12 +1,9 @@
 -- `joined` meets its contract. Assumes nothing.
-use Rattle.report.proofs.Sums.{joined-sum, joined-right, joined-left}
+use Rattle.report.proofs.Sums.{joined-sum, joined-longest}
 use Rattle.report.proofs.number.joined.Goals as goal
 
-pub returns-then-place-ne-LONGEST : goal.returns-then-place-ne-LONGEST
-returns-then-place-ne-LONGEST c = search joined-sum
+pub returns-then-place-eq-LONGEST : goal.returns-then-place-eq-LONGEST
+returns-then-place-eq-LONGEST c = search joined-longest
 
-pub returns-then-first-second : goal.returns-then-first-second
-returns-then-first-second c = search joined-right
-
-pub returns : goal.returns
-returns c = search joined-left
+pub returns-else-place-eq-LONGEST : goal.returns-else-place-eq-LONGEST
+returns-else-place-eq-LONGEST c = joined-sum _ _ _ c.if-place-eq-LONGEST.false c.checked_add.ensures

@@ -6,7 +6,7 @@ use Rattle.report.proofs.Scanned.{Passes}
 use Rattle.report.proofs.scan.entries.Given as goal
 
 abbrev pub invariant-loop-scan : goal.invariant-loop-scan
-invariant-loop-scan l = Passes l.map l.from l.scan l.counts l.hand
+invariant-loop-scan l = Passes l.map l.head.behind l.scan l.counts l.hand
 
 abbrev pub decreases-loop-scan : goal.decreases-loop-scan
 decreases-loop-scan l = length l.map - l.scan.at

@@ -1,33 +1,44 @@
 -- `rounds`: each round starts with what the last one's records lead to. Assumes nothing.
-use Rattle.resolver.proofs.RoundsLoop.{so-far-start, so-far-limit, so-far-settles, so-far-asks, so-far-short, so_far_last, so-far-next, so-far-done}
+use mathlib.Core.Path.{◌≡◌, refl}
+use Prim.Native.Nat.{◌+◌, ◌-◌}
 use native.Mathlib.Omega.{arith}
+use Rattle.std.proofs.lemmas.Result.{err_from_is_err_and}
+use Rattle.tables.proofs.Shorts.{short-some}
+use Rattle.enter.proofs.Lendings.{still-lent, lent-then}
+use Rattle.resolver.proofs.RoundsLoop.{so-far-start, so-far-limit, so-far-settles, so-far-asks, so-far-short, so_far_last, so-far-next, so-far-done, lent-but-w}
 use Rattle.resolver.proofs.rounds.rounds.Goals as goal
 
-pub loop-left-init : goal.loop-left-init
-loop-left-init c = search so-far-start
+pub loop-done-init : goal.loop-done-init
+loop-done-init c = record { lent = still-lent; so_far = so-far-start c.requires }
 
-pub returns-then-plan-cur : goal.returns-then-plan-cur
-returns-then-plan-cur c = search so-far-limit
+pub returns-then-plan-run-clause-rounds : goal.returns-then-plan-run-clause-rounds
+returns-then-plan-run-clause-rounds c = so-far-limit c.loop-done.invariant.so_far (λ z. omega (arith, z, c.loop-done-test.true)) c.if-plan-run.true
 
 pub hand_all-requires : goal.hand_all-requires
-hand_all-requires c = search so-far-settles
+hand_all-requires c = so-far-settles c.loop-done.invariant.so_far
 
-pub round-cur-requires : goal.round-cur-requires
-round-cur-requires c = so-far-asks c.loop-left.invariant c.hand_all.ensures
+pub round-requires : goal.round-requires
+round-requires c = so-far-asks c.loop-done.invariant.so_far c.hand_all.ensures
 
-pub returns-then-cur-ne0 : goal.returns-then-cur-ne0
-returns-then-cur-ne0 c = so-far-short c.loop-left.invariant c.hand_all.ensures c.loop-left-test.true c.if-plan-cur.false c.round-cur.ensures c.if-cur-ne0.true
+pub returns-in_err-round-clause-rounds : goal.returns-in_err-round-clause-rounds
+returns-in_err-round-clause-rounds c =
+    let p = err_from_is_err_and c.from_residual.result c.from_residual.ensures.1 in
+    rw (p.1, p.2)
+    (so-far-short c.loop-done.invariant.so_far c.hand_all.ensures (λ z. omega (arith, z, c.loop-done-test.true)) c.if-plan-run.false c.in_err-round.ensures.rounded (short-some _))
 
-pub returns-then-after-records : goal.returns-then-after-records
-returns-then-after-records c = so_far_last c.loop-left.invariant c.hand_all.ensures c.loop-left-test.true c.if-plan-cur.false c.round-cur.ensures c.if-cur-ne0.false c.if-after-records.true
+pub returns-then-run-records-clause-rounds : goal.returns-then-run-records-clause-rounds
+returns-then-run-records-clause-rounds c =
+    so_far_last c.loop-done.invariant.so_far c.hand_all.ensures (λ z. omega (arith, z, c.loop-done-test.true)) c.if-plan-run.false c.in_ok-round.ensures.rounded refl c.if-run-records.true
 
-pub loop-left-smaller : goal.loop-left-smaller
-loop-left-smaller c = omega (arith, c.loop-left-test.true)
+pub loop-done-preserved : goal.loop-done-preserved
+loop-done-preserved c =
+    let before = c.loop-done.invariant in
+    let left : 128 - (c.loop-done._done + 1) ≡ 128 - c.loop-done._done - 1 = omega arith in
+    record {
+      lent = lent-then (lent-but-w before.lent refl c.hand_all.auto.w) c.in_ok-round.ensures.lent;
+      so_far = rw left
+          (so-far-next before.so_far c.hand_all.ensures (λ z. omega (arith, z, c.loop-done-test.true)) c.if-plan-run.false c.in_ok-round.ensures.rounded refl c.if-run-records.false);
+    }
 
-pub loop-left-preserved : goal.loop-left-preserved
-loop-left-preserved c = let d = c.round-cur in
-    so-far-next c.loop-left.invariant c.hand_all.ensures c.loop-left-test.true c.if-plan-cur.false c.round-cur.ensures c.if-cur-ne0.false c.if-after-records.false
-    (record { w = d.auto.w; p = d.auto.p; s = d.auto.s; t = d.auto.t; r = d.auto.r; q = d.auto.q })
-
-pub returns : goal.returns
-returns c = search so-far-done
+pub returns-clause-rounds : goal.returns-clause-rounds
+returns-clause-rounds c = so-far-done c.loop-done.invariant.so_far (omega (arith, c.loop-done-test.false))

@@ -1,11 +1,13 @@
 -- `rounds`: each round starts with what the last one's records lead to. Assumes nothing.
+use Prim.Native.Nat.{◌-◌}
 use Rattle.resolver.proofs.RoundsLoop.{RoundsSoFar}
-use Rattle.layout.specs.Buffers.{buffers}
-use Rattle.steps.specs.Plans.{plan_in}
+use Rattle.layout.specs.Buffers.{held}
+use Rattle.steps.specs.Goings.{under_way}
+use Rattle.enter.specs.Lent.{StillLent}
 use Rattle.resolver.proofs.rounds.rounds.Given as goal
 
-abbrev pub invariant-loop-left : goal.invariant-loop-left
-invariant-loop-left l = RoundsSoFar l.code (plan_in l.plan) (buffers l.initial.w l.initial.p l.initial.s l.initial.t l.initial.r l.initial.q) l.initial.cur (buffers l.w l.p l.s l.t l.r l.q) l.cur l.since l.left
-
-abbrev pub decreases-loop-left : goal.decreases-loop-left
-decreases-loop-left l = l.left
+abbrev pub invariant-loop-done : goal.invariant-loop-done
+invariant-loop-done l = record {
+  lent : StillLent l.initial.buffers l.buffers;
+  so_far : RoundsSoFar l.code l.plan (held l.initial.buffers) (under_way l.initial.run) (held l.buffers) (under_way l.run) l.since (128 - l._done);
+}

@@ -11,8 +11,8 @@ same_cell-requires c = search compare-asks
 pub loop-i-preserved : goal.loop-i-preserved
 loop-i-preserved c = search compare-more
 
-pub returns-else-same_cell : goal.returns-else-same_cell
-returns-else-same_cell c = search compare-stop
+pub returns-then-not-same_cell : goal.returns-then-not-same_cell
+returns-then-not-same_cell c = search compare-stop
 
 pub returns : goal.returns
 returns c = search compare-done

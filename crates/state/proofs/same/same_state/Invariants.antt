@@ -1,10 +1,6 @@
 -- `same_state` meets its contract. Assumes nothing.
-use Prim.Native.Nat.{◌-◌}
 use Rattle.state.proofs.Comparing.{Comparing}
 use Rattle.state.proofs.same.same_state.Given as goal
 
 abbrev pub invariant-loop-i : goal.invariant-loop-i
 invariant-loop-i l = Comparing l.bytes l.one l.other l.cells l.i
-
-abbrev pub decreases-loop-i : goal.decreases-loop-i
-decreases-loop-i l = l.cells - l.i

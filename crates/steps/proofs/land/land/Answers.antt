@@ -1,6 +1,7 @@
--- `land`: there is no destination, the record is new and its destination is marked, or nothing is. Assumes nothing.
-use mathlib.Core.Path.{◌∙◌}
+-- `land`: a room is short, there is no destination, the record is new and its destination is marked, or nothing is. Assumes nothing.
+use mathlib.Core.Path.{refl}
 use borrow.Author.Rules.{rules}
+use Rattle.std.proofs.lemmas.Result.{err_from_is_err_and}
 use Rattle.steps.proofs.Lands.{lands-few, lands-address, lands_within, landed-nowhere, landed-new, landed-old}
 use Rattle.steps.proofs.land.land.Goals as goal
 
@@ -10,17 +11,19 @@ overflow_add-counts c = let few = lands-few c.requires in
 
 pub mark_found-requires : goal.mark_found-requires
 mark_found-requires c = let asks = c.requires in
-    let recorded = c.record_entry-answer.ensures in
-    record { address = lands-address asks recorded c.if-entry-eq-NOWHERE.false; sides_within = lands_within asks recorded }
+    let recorded = c.in_ok-after.ensures in
+    record { address = lands-address asks recorded c.in-Some.is; sides_within = lands_within asks recorded }
 
-pub returns-then-entry-eq-NOWHERE : goal.returns-then-entry-eq-NOWHERE
-returns-then-entry-eq-NOWHERE c = search landed-nowhere
+pub returns-in_err-after : goal.returns-in_err-after
+returns-in_err-after c =
+    let p = err_from_is_err_and c.from_residual.result c.from_residual.ensures.1 in
+    rw (p.1, p.2) (landed-old c.in_err-after.ensures refl)
+
+pub returns-in_default : goal.returns-in_default
+returns-in_default c = landed-nowhere c.requires c.in_ok-after.ensures c.in_default.is
 
 pub returns-then-after-counts : goal.returns-then-after-counts
-returns-then-after-counts c = landed-new c.requires c.record_entry-answer.ensures c.if-entry-eq-NOWHERE.false c.if-after-counts.true c.mark_found.ensures
+returns-then-after-counts c = landed-new c.requires c.in_ok-after.ensures c.in-Some.is c.if-after-counts.true c.mark_found.ensures
 
 pub returns-else-after-counts : goal.returns-else-after-counts
-returns-else-after-counts c = search landed-old
-
-pub shape_of-w-then-after-counts : goal.shape_of-w-then-after-counts
-shape_of-w-then-after-counts c = c.mark_found.auto.w ∙ c.record_entry-answer.auto.w
+returns-else-after-counts c = landed-old c.in_ok-after.ensures c.if-after-counts.false

@@ -1,4 +1,5 @@
 -- `meet`: T has no room, it was met, or it is new. Assumes nothing.
+use Rattle.std.proofs.lemmas.Result.{err_from_is_err_and}
 use Rattle.steps.proofs.Meets.{met-roomless, meets-finds, meets-memorizes, met-again, met-new}
 use Rattle.steps.proofs.meet.meet.Goals as goal
 
@@ -11,8 +12,13 @@ find_row-requires c = meets-finds c.requires c.if-plan-eq0.false c.stamp_of-sum.
 pub returns-then-find_row : goal.returns-then-find_row
 returns-then-find_row c = search met-again
 
-pub remember-answer-requires : goal.remember-answer-requires
-remember-answer-requires c = meets-memorizes c.requires c.if-plan-eq0.false c.stamp_of-sum.ensures
+pub remember-requires : goal.remember-requires
+remember-requires c = meets-memorizes c.requires c.if-plan-eq0.false c.stamp_of-sum.ensures
+
+pub returns-in_err-after : goal.returns-in_err-after
+returns-in_err-after c =
+    let p = err_from_is_err_and c.from_residual.result c.from_residual.ensures.1 in
+    rw (p.1, p.2) (met-new c.requires c.find_row.ensures c.if-find_row.false c.in_err-after.ensures)
 
 pub returns : goal.returns
-returns c = search met-new
+returns c = met-new c.requires c.find_row.ensures c.if-find_row.false c.in_ok-after.ensures

@@ -24,10 +24,6 @@ pub returns-then-link-eq0 : goal.returns-then-link-eq0
 returns-then-link-eq0 c = search held_none
 
 -- src/own.rt:85:32
-pub bounds-plan-0 : goal.bounds-plan-0
-bounds-plan-0 c = search rules
-
--- src/own.rt:85:32
 pub overflow_add-head : goal.overflow_add-head
 overflow_add-head c = search rules
 

@@ -4,6 +4,3 @@ use Rattle.steps.proofs.path.uncount.Given as goal
 
 abbrev pub invariant-loop-i : goal.invariant-loop-i
 invariant-loop-i l = Along l.size l.initial.w l.p l.from l.to l.i l.w
-
-abbrev pub decreases-loop-i : goal.decreases-loop-i
-decreases-loop-i l = l.i

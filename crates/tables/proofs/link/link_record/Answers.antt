@@ -2,11 +2,11 @@
 use Rattle.tables.proofs.Links.{linked-none, links-parent, linked-found}
 use Rattle.tables.proofs.link.link_record.Goals as goal
 
-pub returns-then-fields-eq-NOWHERE : goal.returns-then-fields-eq-NOWHERE
-returns-then-fields-eq-NOWHERE c = search linked-none
-
 pub link_parent-requires : goal.link_parent-requires
 link_parent-requires c = search links-parent
 
-pub returns : goal.returns
-returns c = search linked-found
+pub returns-in-Some : goal.returns-in-Some
+returns-in-Some c = search linked-found
+
+pub returns-in_default : goal.returns-in_default
+returns-in_default c = search linked-none

@@ -1,9 +1,6 @@
 -- `begin_rows`: the heads so far are 0. Assumes nothing.
-use Rattle.tables.proofs.Turns.{wiped-none, wiped-more, wiped-all}
+use Rattle.tables.proofs.Turns.{wiped-more, wiped-all}
 use Rattle.tables.proofs.met.begin_rows.Goals as goal
-
-pub loop-bucket-init : goal.loop-bucket-init
-loop-bucket-init c = search wiped-none
 
 pub loop-bucket-preserved : goal.loop-bucket-preserved
 loop-bucket-preserved c = search wiped-more

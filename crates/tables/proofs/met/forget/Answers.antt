@@ -1,12 +1,9 @@
 -- `forget`: a head is 0 once a row of its bucket was passed. Assumes nothing.
-use Rattle.tables.proofs.Turns.{forgets-none, forgets-some, forgets-more, forgets-all}
+use Rattle.tables.proofs.Turns.{forgets-none, forgets-more, forgets-all}
 use Rattle.tables.proofs.met.forget.Goals as goal
 
 pub loop-row-init : goal.loop-row-init
 loop-row-init c = search forgets-none
-
-pub bucket_of-bucket-requires : goal.bucket_of-bucket-requires
-bucket_of-bucket-requires c = search forgets-some
 
 pub loop-row-preserved : goal.loop-row-preserved
 loop-row-preserved c = search forgets-more

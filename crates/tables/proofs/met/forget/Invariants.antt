@@ -1,10 +1,6 @@
 -- `forget`: a head is 0 once a row of its bucket was passed. Assumes nothing.
-use Rattle.std.proofs.Common.{◌-◌}
 use Rattle.tables.specs.Mets.{Forgetting}
 use Rattle.tables.proofs.met.forget.Given as goal
 
 abbrev pub invariant-loop-row : goal.invariant-loop-row
 invariant-loop-row l = Forgetting l.buckets l.initial.t l.rows l.row l.t
-
-abbrev pub decreases-loop-row : goal.decreases-loop-row
-decreases-loop-row l = l.rows - l.row

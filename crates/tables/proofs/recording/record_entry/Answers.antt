@@ -1,15 +1,23 @@
 -- `record_entry`: it is known, a room is short, or it is made. Assumes nothing.
-use Rattle.tables.proofs.Noted.{ready-adds, recorded_known, recorded-short, recorded-made}
+use Rattle.std.proofs.lemmas.Result.{err_from_is_err_and}
+use Rattle.tables.proofs.Lookup.{inside}
+use Rattle.tables.proofs.Noted.{ready-seek, ready-adds, recorded_known, recorded-short, recorded-made}
+use Rattle.tables.proofs.Shorts.{short-some}
 use Rattle.tables.proofs.recording.record_entry.Goals as goal
 
-pub returns-then-recorded : goal.returns-then-recorded
-returns-then-recorded c = search recorded_known
+pub found-requires-clause-keyed : goal.found-requires-clause-keyed
+found-requires-clause-keyed c = record { inside = inside (ready-seek c.requires c.sum-sum.ensures) _ }
 
-pub returns-then-code-ne0 : goal.returns-then-code-ne0
-returns-then-code-ne0 c = search recorded-short
+pub returns-then-found : goal.returns-then-found
+returns-then-found c = recorded_known c.requires c.unwrap_or.ensures c.found.ensures c.if-found.true
 
-pub add_record-counts-requires : goal.add_record-counts-requires
-add_record-counts-requires c = ready-adds c.requires c.path_sum-sum.ensures c.shortage-code.ensures c.if-code-ne0.false
+pub returns-in_err-shortage : goal.returns-in_err-shortage
+returns-in_err-shortage c =
+    let p = err_from_is_err_and c.from_residual.result c.from_residual.ensures.1 in
+    rw (p.1, p.2) (recorded-short c.requires c.unwrap_or.ensures c.found.ensures c.in_err-shortage.ensures c.if-found.false (short-some _))
+
+pub add_record-requires : goal.add_record-requires
+add_record-requires c = ready-adds c.requires c.sum-sum.ensures c.in_ok-shortage.ensures
 
 pub returns : goal.returns
-returns c = recorded-made c.requires c.recorded.ensures c.shortage-code.ensures c.if-recorded.false c.if-code-ne0.false c.add_record-counts.ensures
+returns c = recorded-made c.requires c.unwrap_or.ensures c.found.ensures c.in_ok-shortage.ensures c.if-found.false c.add_record.ensures

@@ -7,6 +7,3 @@ use Rattle.tables.proofs.row.sum_cells.Given as goal
 abbrev pub invariant-loop-i : goal.invariant-loop-i
 invariant-loop-i l = (l.i ≤ l.cells) × (sym_sums 37 l.sum (syms_at l.s (9 * (l.from + l.i)) (l.cells - l.i)) ≡ sym_sums 37 l.initial.sum (syms_at l.s (9 * l.from) l.cells))
     × (sym_sums 3 l.mark (syms_at l.s (9 * (l.from + l.i)) (l.cells - l.i)) ≡ sym_sums 3 l.initial.mark (syms_at l.s (9 * l.from) l.cells))
-
-abbrev pub decreases-loop-i : goal.decreases-loop-i
-decreases-loop-i l = l.cells - l.i

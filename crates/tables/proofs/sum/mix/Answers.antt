@@ -1,6 +1,6 @@
--- `mix`: 37 times the sum by doubling it, and the number. Assumes nothing.
-use Rattle.tables.proofs.Sums.{mixing}
+-- `mix`: a product that wraps, and a sum that wraps, as one remainder. Assumes nothing.
+use Rattle.tables.proofs.Sums.{factored}
 use Rattle.tables.proofs.sum.mix.Goals as goal
 
 pub returns : goal.returns
-returns c = search mixing
+returns g c = factored g.row.K c.args.sum c.args.number

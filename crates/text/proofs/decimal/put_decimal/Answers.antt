@@ -1,4 +1,4 @@
--- `put_decimal`: with i digits left, those past them are stored. Assumes nothing.
+-- `put_decimal`: the last i digits are stored. Assumes nothing.
 use Rattle.text.proofs.Figures.{digits-start, digits-turn, digits-done}
 use Rattle.text.proofs.decimal.put_decimal.Goals as goal
 

@@ -2,8 +2,8 @@
 use Rattle.state.proofs.Symbols.{mask_value, mask-unknown}
 use Rattle.state.proofs.sym.StackSym.is_mask.Goals as goal
 
-pub returns-in-Value : goal.returns-in-Value
-returns-in-Value c = search mask_value
+pub returns-in-Some : goal.returns-in-Some
+returns-in-Some c = search mask_value
 
-pub returns-in-Unknown : goal.returns-in-Unknown
-returns-in-Unknown c = search mask-unknown
+pub returns-in-None : goal.returns-in-None
+returns-in-None c = search mask-unknown
