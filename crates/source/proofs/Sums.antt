@@ -3,7 +3,7 @@
 -- numbers that the Rust adds are far below 2^64. Assumes nothing.
 use Prim.Native.Nat.{ℕ, zero, suc, ◌+◌, ◌*◌, ◌/◌, ◌^◌, ◌≤◌}
 use native.Mathlib.Omega.{arith}
-use Rattle.std.proofs.Math.Nat.{mul-suc, mul-le-mul, min-le_right}
+use Rattle.std.proofs.Math.Nat.{mul-suc, mul-add, mul-le-mul, min-le_right}
 use mathlib.Core.Path.{◌≡◌, refl, sym, ap, subst, ◌∙◌}
 use mathlib.Core.Logic.{◌⊎◌, inl, inr}
 use mathlib.Core.Bool.{true}
@@ -15,7 +15,7 @@ use lib.ListN.{length, drop, replicate, length-append, length-map, length-drop, 
 use Rattle.spec.specs.Lists.{if}
 use Rattle.spec.specs.Opcodes.{argument, Row, Rules, row, in_mode}
 use Rattle.spec.specs.Walk.{Ins, walk}
-use Rattle.spec.specs.Stacks.{Sym, before, constant, jumpdest, other, from_value, known_value, Stack, entry, reads, read, span, pops, push, Does, pushes_value, pushes_pc, dups, swaps, ands, adds, jumps, jumpis, lands, halts, plain, does, is, mask, anded, summed, trade, swap, act, Ran, after, runs, joins, settle, trims, trim, through, compose}
+use Rattle.spec.specs.Stacks.{Sym, before, constant, jumpdest, other, from_value, known_value, Stack, entry, reads, read, span, pops, push, Does, pushes_value, pushes_pc, dups, swaps, ands, adds, jumps, jumpis, lands, halts, plain, does, is, mask, anded, summed, trade, swap, act, Ran, after, runs, joins, settle, trims, trim, through, compose, own}
 use Rattle.spec.specs.Search.{Room, P, Need, St}
 use Rattle.spec.specs.Rooms.{Lent, room}
 use Rattle.spec.specs.Entries.{Map}
@@ -180,6 +180,22 @@ after-within {m} start i s t on lands a b c = both (λ (r : Ran). Within m r.sta
 after-within start i s t on halts a b c = b
 after-within start i s t on plain a b c = c
 
+popped-low : {m : ℕ} {s : Stack} → Within m s → (x : Sym) → some (read s 0) ≡ some x → Low m x
+popped-low {m} {s} w x e = subst (Low m) (let q : read s 0 ≡ x = cc in q) (low-up (read s 0) (omega arith) (read-low w 0))
+
+after-goes : {m : ℕ} (start : ℕ) (i : Ins) (s t : Stack) (on : Ran) (d : Does) → Within m s → ((x : Sym) → on.goes ≡ some x → Low m x) → (x : Sym) → (after start i s t on d).goes ≡ some x → Low m x
+after-goes start i s t on pushes_value a h x e = h x e
+after-goes start i s t on pushes_pc a h x e = h x e
+after-goes start i s t on (dups n) a h x e = h x e
+after-goes start i s t on (swaps n) a h x e = h x e
+after-goes start i s t on ands a h x e = h x e
+after-goes start i s t on adds a h x e = h x e
+after-goes start i s t on jumps a h x e = popped-low a x e
+after-goes start i s t on jumpis a h x e = popped-low a x e
+after-goes {m} start i s t on lands a h x e = both (λ (r : Ran). r.goes ≡ some x → Low m x) (eqb i.pc start) (λ _. h x) (λ _ f. let z : ◌≡◌ {A = ℕ} 0 1 = cc in absurd (omega arith)) e
+after-goes start i s t on halts a h x e = let z : ◌≡◌ {A = ℕ} 0 1 = cc in absurd (omega arith)
+after-goes start i s t on plain a h x e = h x e
+
 -- ---- a block's run, trimmed
 
 module _ (r : Rules) (ok : Lawful r.row) (gives : (b : ℕ) → (r.row b).given ≤ 17) (code : List ℕ) (start : ℕ) where
@@ -189,6 +205,14 @@ module _ (r : Rules) (ok : Lawful r.row) (gives : (b : ℕ) → (r.row b).given 
       let t = act-within r.row code i (ok.few i.op) (gives i.op) (does r.mode i.op) (subst (λ (k : ℕ). k ≤ 17) (sym (takes-row ok r.mode i.op)) (ok.few i.op)) w in
       after-within start i s (act r.row code i (does r.mode i.op) s) (runs r code start is (act r.row code i (does r.mode i.op) s)) (does r.mode i.op)
       (within-up (omega arith) w) (within-up (omega arith) t) (within-up (omega arith) (runs-within (m + 17) is (act r.row code i (does r.mode i.op) s) t))
+
+  -- the symbol that its jump takes
+  goes-low : (m : ℕ) (is : List Ins) (s : Stack) → Within m s → (x : Sym) → (runs r code start is s).goes ≡ some x → Low (m + 17 * length is) x
+  goes-low m [] s w x e = let z : ◌≡◌ {A = ℕ} 0 1 = cc in absurd (omega arith)
+  goes-low m (i ∷ is) s w x e =
+      let t = act-within r.row code i (ok.few i.op) (gives i.op) (does r.mode i.op) (subst (λ (k : ℕ). k ≤ 17) (sym (takes-row ok r.mode i.op)) (ok.few i.op)) w in
+      after-goes start i s (act r.row code i (does r.mode i.op) s) (runs r code start is (act r.row code i (does r.mode i.op) s)) (does r.mode i.op)
+      (within-up (omega arith) w) (λ y f. low-up y (omega arith) (goes-low (m + 17) is (act r.row code i (does r.mode i.op) s) t y f)) x e
 
 settle-within : {m : ℕ} (x : Sym) (xs : List Sym) (b : ℕ) → b ≤ m → Low m x → ((y : Sym) → In y xs → Low m y) → suc (length xs) ≤ m → Within m (settle x xs b)
 settle-within {m} x [] b h l c t =
@@ -275,6 +299,18 @@ module _ (row : ℕ → Row) (ok : Lawful row) (gives : (b : ℕ) → (row b).gi
       subst (λ (p : List ℕ). Within (17 * length code * length p) s) (sym a.path-is)
       (subst (Within (17 * length code * suc (length a.rest))) (sym (a.stack_is ∙ ap (whole row code) a.path-is))
       (within-up (omega (arith, mul-suc (17 * length code) (length a.rest))) (composed-within (17 * length code) (own_of row code a.first) (own-within a.first) a.rest)))
+
+  -- A search's first position, which a block's jump takes,
+  pub first-position : (b : ℕ) (x : Sym) → (own (plainly row) code b).goes ≡ some x → Low (17 * length code) x
+  first-position b x e =
+      let is = walk (drop b code) b 0 in
+      let few : length is ≤ length code = omega (arith, walk-short (drop b code) b 0, length-drop b code) in
+      low-up x (omega arith) (goes-low (plainly row) ok gives code b 0 is entry (record { base = omega arith; cells = λ y i. elim i [ ]; tall = omega arith }) x e)
+
+  -- and the next one, which is read in a parent's stack, are within the same of the path so far.
+  pub next-position : (path : List ℕ) {q : List ℕ} {t : Stack} → Along row code q t → (position : ℕ) → position ≤ 17 * length code * length path → Low (17 * length code * length (path ++ q)) (read t position)
+  next-position path {q} {t} a position h =
+      low-up (read t position) (omega (arith, ap (λ (n : ℕ). 17 * length code * n) (length-append path q), mul-add (17 * length code) (length path) (length q))) (read-low (path-within a) position)
 
 -- ---- an answered run
 
