@@ -140,6 +140,7 @@ fn seen(p: &[u8], np: usize, taken: Taken, used: usize) -> Seen
     }
 }
 
+// A buffer that is only read beside one that is lent to be changed is bound before: the borrow checker has no rule for reading it through `buffers` then.
 // Steps 4 to 6, with the parent's path behind the level's: the symbol and the new state, which was met or is remembered, and where the symbol leads.
 fn follow(
     code: &[u8],

@@ -1,5 +1,5 @@
 -- What each function asks and promises, a record each. Assumes nothing.
-use Rattle.std.specs.Prelude.{◌≡◌, Bool, List, [], ◌∷◌, ◌++◌, ℕ, suc, ◌+◌, ◌*◌, ◌^◌, ◌≤◌, ◌<◌, eqb, leb, length, drop}
+use Rattle.std.specs.Prelude.{◌≡◌, Bool, Option, Some, None, List, [], ◌∷◌, ◌++◌, ℕ, suc, ◌+◌, ◌*◌, ◌^◌, ◌≤◌, ◌<◌, eqb, leb, length, drop}
 use Rattle.spec.specs.Opcodes.{in_mode}
 use Rattle.spec.specs.Lists.{keep}
 use Rattle.spec.specs.Search.{Rec}
@@ -7,24 +7,20 @@ use Rattle.spec.specs.Ending.{finals, pruned}
 use Rattle.spec.specs.Answer.{prepared}
 use Rattle.spec.specs.Rooms.{units, longest}
 use Rattle.spec.specs.Entries.{Map, bytes}
-use Rattle.lent.specs.Bytes.{patch}
-use Rattle.layout.specs.Edges.{end_at}
+use Rattle.layout.specs.Edges.{end_at, goal_of}
 use Rattle.layout.specs.Parts.{ROW, row_place}
 use Rattle.layout.specs.Records.{RECORD, record_place}
 use Rattle.layout.specs.Rows.{tag_at, type_at}
 use Rattle.layout.specs.declared.row.BlockType.{BlockType}
+use Rattle.initial.specs.Rows.{Listed}
+use Rattle.reachable.specs.Marks.{flagged}
 use Rattle.reachable.specs.Promises.{Room}
 use Rattle.reachable.specs.Pruning.{Chains}
 use Rattle.graph.specs.Border.{Finished}
-use Rattle.entries.specs.declared.row.Span.{Span}
+use Rattle.entries.specs.declared.found.Span.{Span}
+use Rattle.entries.specs.declared.found.Found.{Found}
+use Rattle.entries.specs.Families.{led_to}
 use Rattle.entries.specs.Rows.{steps_of, chosen, listed, kept, kept_below}
-
--- The k bytes bs are put at `at`, if they end within `out`; if they do not, what is put there is not said. They are counted in any case.
-pub record Puts (k : ℕ) (out : List ℕ) (at : ℕ) (bs out' : List ℕ) (end : ℕ) : Type 0 where
-  pub next : end ≡ at + k
-  pub long : length bs ≡ k
-  pub kept : length out' ≡ length out
-  pub stored : end ≤ length out → out' ≡ patch out at bs
 
 -- ---- rows of R
 
@@ -38,6 +34,11 @@ pub record RowIn (r q : List ℕ) (i : ℕ) : Type 0 where
   pub in_r : record_place i + RECORD ≤ length r
   pub rises : end_at r i ≤ end_at r (suc i)
   pub in_q : 2 * end_at r (suc i) ≤ length q
+
+-- t is the destination of row i, if it has one
+pub record GoalOf (r : List ℕ) (i : ℕ) (t : Option ℕ) : Type 0 where
+  pub is : t ≡ led_to (goal_of r i)
+  pub small : (to : ℕ) → t ≡ Some to → to < 65536
 
 -- where the path of row i stands
 pub record PathOf (r : List ℕ) (i : ℕ) (s : Span) : Type 0 where
@@ -74,11 +75,6 @@ pub record Lists (r : List ℕ) (tag : ℕ) (is : List ℕ) (count c : ℕ) : Ty
 pub record Counted (r : List ℕ) (m a tag c : ℕ) : Type 0 where
   pub count : c ≡ length (chosen r m a tag)
   pub few : c ≤ m
-
--- bytes are put, and they are not more than so many
-pub record PutsFew (most : ℕ) (out : List ℕ) (at : ℕ) (bs out' : List ℕ) (end : ℕ) : Type 0 where
-  pub puts : Puts (length bs) out at bs out' end
-  pub few : length bs ≤ most
 
 -- ---- blocks
 
@@ -121,6 +117,12 @@ pub record Writes (w r q : List ℕ) (n m energy : ℕ) : Type 0 where
   pub short : n ≤ longest
   pub small : energy < 2 ^ 32
 
+-- all that is asked of what the search left
+pub record Holds (f : Found) (energy : ℕ) : Type 0 where
+  pub writes : Writes f.w.now f.r.now f.q.now f.size f.rows energy
+  pub flags : f.flags ≡ length (flagged f.w.now f.size)
+  pub listed : Listed f.size f.w.now f.blocks
+
 abbrev pub map_of : ℕ → List ℕ → List Rec → ℕ → ℕ → Map
 map_of mode code recs energy choice =
     record { size = length code; energy = energy; blocks = pruned (finals (prepared (in_mode mode) code) recs); recs = recs; numbered = eqb choice 0 }
@@ -130,10 +132,10 @@ pub record FitsRoom (w r q : List ℕ) (n m choice room : ℕ) (b : Bool) : Type
   pub is : (mode : ℕ) (code : List ℕ) (recs : List Rec) (energy : ℕ) → Ends w r q n m mode code recs → b ≡ leb (length (bytes (map_of mode code recs energy choice))) room
 
 -- the bytes, where there is room for them, else nothing
-pub record Answered (bs out out' : List ℕ) (end : ℕ) : Type 0 where
-  pub fits : length bs ≤ units (length out) 1 → (end ≡ length bs) × (out' ≡ bs ++ drop (length bs) out)
-  pub short : units (length out) 1 < length bs → (end ≡ 0) × (out' ≡ out)
+pub record Answered (bs out out' : List ℕ) (end : Option ℕ) : Type 0 where
+  pub fits : length bs ≤ units (length out) 1 → (end ≡ Some (length bs)) × (out' ≡ bs ++ drop (length bs) out)
+  pub short : units (length out) 1 < length bs → (end ≡ None) × (out' ≡ out)
 
-pub record Written (w r q : List ℕ) (n m energy choice : ℕ) (out out' : List ℕ) (end : ℕ) : Type 0 where
+pub record Written (w r q : List ℕ) (n m energy choice : ℕ) (out out' : List ℕ) (end : Option ℕ) : Type 0 where
   pub answer : (mode : ℕ) (code : List ℕ) (recs : List Rec) → Ends w r q n m mode code recs → Answered (bytes (map_of mode code recs energy choice)) out out' end
   pub long : length out' ≡ length out

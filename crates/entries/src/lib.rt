@@ -4,13 +4,8 @@
 
 mod block;
 mod family;
-mod field;
+pub mod found;
 mod kept;
 mod listing;
 mod row;
-mod whole;
-
-pub use kept::is_kept;
-pub use listing::{first_row, is_listed, next_row};
-pub use row::{begin_of, path_of};
-pub use whole::{entries_fit, write_entries};
+pub mod whole;

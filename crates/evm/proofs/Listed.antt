@@ -1,18 +1,19 @@
 -- Document 01's list of taken and given, at the bytes that an arm of words_of is for: one test, computed at each of them. Assumes nothing.
-use mathlib.Core.Path.{◌≡◌, refl, sym, ap, ◌∙◌}
+use mathlib.Core.Path.{◌≡◌, refl, sym, ◌∙◌}
 use mathlib.Core.Logic.{⊎_elim}
-use mathlib.Core.Bool.{Bool, true, false, not, ◌||◌, beq}
+use mathlib.Core.Bool.{Bool, true, false, ◌||◌, beq}
 use mathlib.Core.List.{List, [], ◌∷◌}
 use Prim.Native.Nat.{ℕ, suc, ◌+◌, ◌-◌, ◌≤◌, ◌<◌}
 use native.Mathlib.Omega.{arith}
 use lib.ListN.{get_or}
 use lib.Dec.{T, leb, eqb, leb→le, eqb→eq}
-use borrow.Author.Tests.{ne_eqb}
 use mir.Facts.{or_yes}
 use mir.Val.{has_key}
 use types.Run.{OneOf, hit}
 use Rattle.spec.specs.Lists.{if}
 use Rattle.spec.specs.Opcodes.{argument, row}
+use Rattle.std.specs.Prelude.{Option, Some, None}
+use Rattle.evm.specs.declared.rows.Words.{Words}
 use Rattle.evm.specs.Rows.{RowIs, SizeIs, taken_in, given_in, known_in, WordsAre, each}
 use Rattle.evm.proofs.Table.{◌both◌, left, right, each_of, each_at, every, every-at, zero-below}
 
@@ -23,10 +24,10 @@ beq→eq false true t = absurd t
 beq→eq false false t = refl
 
 -- w is what the list says of the byte k, within the bounds
-abbrev pub fits : ℕ → ℕ → Bool
+abbrev pub fits : Option Words → ℕ → Bool
 fits w k = eqb (taken_in w) (row k).taken both eqb (given_in w) (row k).given both beq (known_in w) (row k).known both leb (taken_in w) 17 both leb (given_in w) 17
 
-words_are : (w k : ℕ) → T (fits w k) → WordsAre k w
+words_are : (w : Option Words) (k : ℕ) → T (fits w k) → WordsAre k w
 words_are w k t =
     record {
       taken = eqb→eq _ _ (left _ _ (left _ _ (left _ _ (left _ _ t))));
@@ -77,22 +78,22 @@ named =
     ∷ []
 
 -- the n-th of these arms, at its bytes
-pub keyed : (w n : ℕ) → T (each_of (fits w) (get_or named n [])) → {x r : ℕ} → OneOf (get_or named n []) x → r ≡ w → WordsAre x r
+pub keyed : (w : Option Words) (n : ℕ) → T (each_of (fits w) (get_or named n [])) → {x : ℕ} {r : Option Words} → OneOf (get_or named n []) x → r ≡ w → WordsAre x r
 keyed w n t {x} o e = rw e (words_are w x (each_at (fits w) (get_or named n []) x t o))
 
 -- an arm for the bytes of a range, n from a on, of which no arm names one; what it gives may go by the byte
-pub within : (w : ℕ → ℕ) (a n : ℕ) → T (every (λ (k : ℕ). fits (w k) k) a n) → {x r : ℕ} → a ≤ x → x < a + n → r ≡ w x → WordsAre x r
+pub within : (w : ℕ → Option Words) (a n : ℕ) → T (every (λ (k : ℕ). fits (w k) k) a n) → {x : ℕ} {r : Option Words} → a ≤ x → x < a + n → r ≡ w x → WordsAre x r
 within w a n t {x} h g e = rw e (words_are (w x) x (every-at (λ (k : ℕ). fits (w k) k) n a x t h g))
 
 or_else : (a b : Bool) → T (a || b) → (T a → ⊥) → T b
 or_else a b t n = ⊎_elim (λ h. absurd (n h)) (λ h. h) (or_yes a b t)
 
 -- the byte is named, or w is what the list says of it
-unfoldable pub named-or : (ℕ → ℕ) → ℕ → Bool
+unfoldable pub named-or : (ℕ → Option Words) → ℕ → Bool
 named-or w k = among named k || fits (w k) k
 
 -- the same for those of a range that no arm names, where some are named
-pub ranged : (w : ℕ → ℕ) (a n : ℕ) → T (every (named-or w) a n) → {x r : ℕ} → Others (Unit {0}) named x → a ≤ x → x < a + n → r ≡ w x → WordsAre x r
+pub ranged : (w : ℕ → Option Words) (a n : ℕ) → T (every (named-or w) a n) → {x : ℕ} {r : Option Words} → Others (Unit {0}) named x → a ≤ x → x < a + n → r ≡ w x → WordsAre x r
 unfolding named-or
 ranged w a n t {x} o h g e = rw e (words_are (w x) x (or_else (among named x) (fits (w x) x) (every-at (named-or w) n a x t h g) (unnamed (Unit {0}) named x o)))
 
@@ -110,7 +111,7 @@ module _ (x : ℕ) (h : 0xA0 ≤ x) (g : x < 0xA5) where
   log_given = omega (arith, log.given)
 
   pub log_known : (row x).known ≡ true
-  log_known = sym log.known ∙ ap not (let n : each (x - 0xA0 + 2) 0 ≡ 1024 → ⊥ = λ e. omega arith in ne_eqb (each (x - 0xA0 + 2) 0) 1024 n)
+  log_known = sym log.known
 
 pub ruleset log_row = (log_taken, log_given, log_known)
 
@@ -123,15 +124,24 @@ pub row-size : (x : ℕ) → x < 256 → (row x).size ≡ suc (argument x)
 unfolding sized every row if ◌both◌
 row-size x h = eqb→eq _ _ (every-at sized 256 0 x tt zero-below h)
 
-pub row_is : {x s w : ℕ} {b : Bool} → x < 256 → SizeIs x s → WordsAre x w → b ≡ known_in w → RowIs x (record { size = s; taken = taken_in w; given = given_in w; known = b })
-row_is {x} h s w e =
-    record {
-      size = s.size ∙ sym (row-size x h);
-      taken = w.taken;
-      given = w.given;
-      known = e ∙ w.known;
-      size_least = s.least;
-      size_most = s.most;
-      taken_most = w.taken_most;
-      given_most = w.given_most;
-    }
+module _ {x s : ℕ} {r : Option Words} (h : x < 256) (z : SizeIs x s) (w : WordsAre x r) where
+  row_is : RowIs x (record { size = s; taken = taken_in r; given = given_in r; known = known_in r })
+  row_is = record {
+    size = z.size ∙ sym (row-size x h);
+    taken = w.taken;
+    given = w.given;
+    known = w.known;
+    size_least = z.least;
+    size_most = z.most;
+    taken_most = w.taken_most;
+    given_most = w.given_most;
+  }
+
+  pub row-known : {ws : Words} → r ≡ Some ws → RowIs x (record { size = s; taken = ws.taken; given = ws.given; known = true })
+  row-known e = rw e at row_is
+
+  pub row-unknown : r ≡ None → RowIs x (record { size = s; taken = 0; given = 0; known = false })
+  row-unknown e = rw e at row_is
+
+  pub known-is : {b : Bool} → b ≡ known_in r → b ≡ (row x).known
+  known-is e = e ∙ w.known

@@ -5,10 +5,12 @@ use Prim.Native.Nat.{ℕ, ◌+◌, ◌*◌, ◌^◌, ◌≤◌, ◌<◌}
 use native.Mathlib.Nat.{zero-add, add-zero, pow-suc, pow-le-pow_right}
 use native.Mathlib.Numerals.{add-one}
 use native.Mathlib.Omega.{arith}
+use mir.Syntax.{w8}
+use mir.Val.{Fits}
 use lib.ListN.{length, get_or, take, drop, length-drop}
 use lib.Seq.{take-suc, get_or-drop}
 use Rattle.spec.specs.Walk.{big}
-use Rattle.evm.specs.Argument.{Follow, Spelled, Widened}
+use Rattle.evm.specs.Argument.{Follow, Spelled}
 
 big-more : (a : ℕ) (xs : List ℕ) (x : ℕ) → big a (xs ++ (x ∷ [])) ≡ big a xs * 256 + x
 big-more a [] x = refl
@@ -24,31 +26,32 @@ pub record Spells (code : List ℕ) (pc n i v : ℕ) : Type 0 where
 pub spells-none : (code : List ℕ) (pc n : ℕ) → Spells code pc n 0 0
 spells-none code pc n = record { within = omega arith; spelt = refl; small = omega arith; fits = omega arith }
 
-module _ {code : List ℕ} {pc n i v : ℕ} (f : Follow code pc n) (s : Spells code pc n i v) where
-  pub spells-more : {b : ℕ} → i < n → Widened (get_or code (pc + 1 + i) 0) b → Spells code pc n (i + 1) (v * 256 + b)
-  spells-more {b} h w =
+pub spelled : {code : List ℕ} {pc n i v : ℕ} → Spells code pc n i v → n ≤ i → Spelled code pc n v
+spelled {n = n} {i = i} s h = let e : n ≡ i = omega (arith, s.within) in record { spelt = rw e s.spelt; small = s.fits }
+
+module _ {code : List ℕ} {pc n : ℕ} (f : Follow code pc n) (bytes : (j : ℕ) → Fits w8 (get_or code j 0)) where
+  pub spells-more : {i v : ℕ} → Spells code pc n i v → i < n → Spells code pc n (i + 1) (v * 256 + get_or code (pc + 1 + i) 0)
+  spells-more {i} {v} s h =
       let l : i < length (drop (pc + 1) code) = simp length-drop (omega arith) in
       let few : i + 1 ≤ 4 = omega arith in
       let most : 256 ^ (i + 1) ≤ 256 ^ 4 = pow-le-pow_right (omega arith) few in
-      let less : v * 256 + b < 256 ^ (i + 1) = rw (add-one, pow-suc) (omega arith) in
+      let less : v * 256 + get_or code (pc + 1 + i) 0 < 256 ^ (i + 1) = rw (add-one i, pow-suc) (omega (arith, bytes (pc + 1 + i))) in
       record {
         within = omega arith;
-        spelt = rw (add-one i, take-suc (drop (pc + 1) code) i 0 l, big-more, ← s.spelt, get_or-drop, ← w.same);
+        spelt = rw (add-one i, take-suc (drop (pc + 1) code) i 0 l, big-more, ← s.spelt, get_or-drop);
         small = less;
         fits = omega arith;
       }
 
-  pub spelled : n ≤ i → Spelled code pc n v
-  spelled h = let e : n ≡ i = omega arith in record { spelt = rw e s.spelt; small = s.fits }
+  -- ---- the ways out of argument_at
 
--- ---- the ways out of argument_at
+  spells-first : 0 < n → Spells code pc n 1 (get_or code (pc + 1) 0)
+  spells-first h = simp (zero-add, add-zero) at (spells-more (spells-none code pc n) h)
 
-module _ {code : List ℕ} {pc n : ℕ} (f : Follow code pc n) {b : ℕ} (w : Widened (get_or code (pc + 1) 0) b) where
-  spells-first : 0 < n → Spells code pc n 1 b
-  spells-first h = simp zero-add at (spells-more f (spells-none code pc n) h (record { same = rw add-zero w.same; small = w.small }))
+  pub spelled-one : n ≡ 1 → Spelled code pc n (get_or code (pc + 1) 0)
+  spelled-one e = spelled (spells-first (omega arith)) (omega arith)
 
-  pub spelled-one : n ≡ 1 → Spelled code pc n b
-  spelled-one e = spelled f (spells-first (omega arith)) (omega arith)
-
-  pub spelled-two : {d : ℕ} → n ≡ 2 → Widened (get_or code (pc + 2) 0) d → Spelled code pc n (b * 256 + d)
-  spelled-two e x = spelled f (spells-more f (spells-first (omega arith)) (omega arith) (let k : pc + 1 + 1 ≡ pc + 2 = omega arith in record { same = rw k x.same; small = x.small })) (omega arith)
+  pub spelled-two : n ≡ 2 → Spelled code pc n (get_or code (pc + 1) 0 * 256 + get_or code (pc + 2) 0)
+  spelled-two e =
+      let k : pc + 1 + 1 ≡ pc + 2 = omega arith in
+      spelled (rw k at (spells-more (spells-first (omega arith)) (omega arith))) (omega arith)

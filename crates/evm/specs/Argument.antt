@@ -11,8 +11,3 @@ pub record Follow (code : List ℕ) (pc n : ℕ) : Type 0 where
 pub record Spelled (code : List ℕ) (pc n r : ℕ) : Type 0 where
   pub spelt : r ≡ big 0 (take n (drop (pc + 1) code))
   pub small : r < 2 ^ 32
-
--- r is the byte x, as a wider number
-pub record Widened (x r : ℕ) : Type 0 where
-  pub same : r ≡ x
-  pub small : r < 256

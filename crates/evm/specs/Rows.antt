@@ -1,7 +1,8 @@
 -- What the functions of rows.rt promise, in terms of the rows of document 01. Assumes nothing.
-use Rattle.std.specs.Prelude.{◌≡◌, Bool, not, ℕ, suc, ◌+◌, ◌*◌, ◌/◌, ◌%◌, ◌≤◌, eqb}
+use Rattle.std.specs.Prelude.{◌≡◌, Bool, true, false, ℕ, suc, ◌≤◌, Option, Some, None}
 use Rattle.spec.specs.Opcodes.{argument, row}
 use Rattle.evm.specs.declared.rows.Row.{Row}
+use Rattle.evm.specs.declared.rows.Words.{Words}
 
 -- r is the row of the byte op; the bounds are for the sums of callers
 pub record RowIs (op : ℕ) (r : Row) : Type 0 where
@@ -25,18 +26,21 @@ pub record ArgumentIs (op r : ℕ) : Type 0 where
   pub is : r ≡ argument op
   pub most : r ≤ 32
 
--- the words that are taken and given, and whether the byte is known, by the number that says all three
-abbrev pub taken_in : ℕ → ℕ
-taken_in w = w / 32 % 32
+-- the words that are taken and given, and whether the byte is known
+abbrev pub taken_in : Option Words → ℕ
+taken_in (Some w) = w.taken
+taken_in None = 0
 
-abbrev pub given_in : ℕ → ℕ
-given_in w = w % 32
+abbrev pub given_in : Option Words → ℕ
+given_in (Some w) = w.given
+given_in None = 0
 
-abbrev pub known_in : ℕ → Bool
-known_in w = not (eqb w 1024)
+abbrev pub known_in : Option Words → Bool
+known_in (Some w) = true
+known_in None = false
 
 -- w says the row of the byte op, but for its size
-pub record WordsAre (op w : ℕ) : Type 0 where
+pub record WordsAre (op : ℕ) (w : Option Words) : Type 0 where
   pub taken : taken_in w ≡ (row op).taken
   pub given : given_in w ≡ (row op).given
   pub known : known_in w ≡ (row op).known
@@ -44,5 +48,5 @@ pub record WordsAre (op w : ℕ) : Type 0 where
   pub given_most : given_in w ≤ 17
 
 -- a known byte that takes t words and gives g
-abbrev pub each : ℕ → ℕ → ℕ
-each t g = t * 32 + g
+abbrev pub each : ℕ → ℕ → Option Words
+each t g = Some (record { taken = t; given = g })

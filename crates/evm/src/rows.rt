@@ -12,21 +12,32 @@ pub struct Row {
     pub known: bool,
 }
 
-// What a row says beside the size is one number, 32 times the words taken and the words given: a struct would go through memory. Of an unknown byte it is
-// this.
-const UNKNOWN: usize = 1024;
+// The words that a known instruction takes and gives.
+#[derive(Clone, Copy, PartialEq, Eq)]
+struct Words {
+    taken: u8,
+    given: u8,
+}
 
 impl Row {
-    // The row of a byte.
+    // The row of a byte. "Every other byte is unknown: size 1, 0/0."
     pub fn of(op: u8) -> Row
         ensures { RowIs op result }
     {
-        let words = words_of(op);
-        Row {
-            size: size_of(op) as u8,
-            taken: (words / 32 % 32) as u8,
-            given: (words % 32) as u8,
-            known: words != UNKNOWN,
+        let size = size_of(op) as u8;
+        match words_of(op) {
+            Some(words) => Row {
+                size,
+                taken: words.taken,
+                given: words.given,
+                known: true,
+            },
+            None => Row {
+                size,
+                taken: 0,
+                given: 0,
+                known: false,
+            },
         }
     }
 }
@@ -51,7 +62,7 @@ fn argument_of(op: u8) -> usize
 
 // "Given as taken/given, bytes in hex", in the document's order. "Every other byte is unknown."
 #[tactic(auto, using(crate::proofs::Listed::log_row))]
-fn words_of(op: u8) -> usize
+fn words_of(op: u8) -> Option<Words>
     ensures { WordsAre op result }
 {
     match op {
@@ -85,7 +96,7 @@ fn words_of(op: u8) -> usize
         0xf1 | 0xf2 => each(7, 1),
         0xf4 | 0xfa => each(6, 1),
         0xf5 => each(4, 1),
-        _ => UNKNOWN,
+        _ => None,
     }
 }
 
@@ -93,12 +104,12 @@ fn words_of(op: u8) -> usize
 pub fn known(op: u8) -> bool
     ensures { result ≡ (row op).known }
 {
-    words_of(op) != UNKNOWN
+    words_of(op).is_some()
 }
 
 // A known byte, with the words that it takes and gives.
-fn each(taken: u8, given: u8) -> usize
+fn each(taken: u8, given: u8) -> Option<Words>
     ensures { result ≡ each taken given }
 {
-    taken as usize * 32 + given as usize
+    Some(Words { taken, given })
 }

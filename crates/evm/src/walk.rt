@@ -2,7 +2,7 @@
 // "walks whole instructions; stops before one that runs past the end"
 ghost use Rattle.std.specs.Prelude.{◌≡◌, leb, ltb};
 ghost use Rattle.spec.specs.Opcodes.{argument};
-ghost use Rattle.evm.specs.Argument.{Follow, Spelled, Widened};
+ghost use Rattle.evm.specs.Argument.{Follow, Spelled};
 ghost use Rattle.evm.specs.Step.{next_at, step_at};
 
 use crate::rows::size_of;
@@ -74,10 +74,10 @@ pub fn argument_at(code: &[u8], pc: usize, count: usize) -> u64
     ensures { Spelled code.now pc count result }
 {
     if count == 1 {
-        return wide(code[pc + 1]);
+        return code[pc + 1] as u64;
     }
     if count == 2 {
-        return wide(code[pc + 1]) * 256 + wide(code[pc + 2]);
+        return code[pc + 1] as u64 * 256 + code[pc + 2] as u64;
     }
     spell(code, pc, count)
 }
@@ -89,14 +89,7 @@ fn spell(code: &[u8], pc: usize, count: usize) -> u64
 {
     let mut value: u64 = 0;
     for i in 0..count {
-        value = value * 256 + wide(code[pc + 1 + i]);
+        value = value * 256 + code[pc + 1 + i] as u64;
     }
     value
-}
-
-// A byte as a number.
-fn wide(byte: u8) -> u64
-    ensures { Widened byte result }
-{
-    byte as u64
 }

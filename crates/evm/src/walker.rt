@@ -45,7 +45,7 @@ impl<'a> Iterator for Walker<'a> {
     }
 }
 
-// What a walker at a place of the code finds.
+// What a walker at a place of the code finds (kept: a public function that docs/PROOFS.md names; a loop over a Walker finds the same).
 pub fn step_from(code: &[u8], at: usize) -> Option<Instruction>
     ensures { result ≡ step_at code.now at }
 {

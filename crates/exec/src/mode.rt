@@ -37,7 +37,8 @@ impl From<Mode> for usize {
     }
 }
 
-// The mode of a number that is one.
+// The mode of a number that is one: what `try_from` gives, for those who have tested the number (kept, with `one-mode`: a public function that docs/PROOFS.md
+// names).
 pub fn mode_of(mode: usize) -> Mode
     requires { mode ≤ 1 }
     ensures { mode_of result ≡ mode }

@@ -40,7 +40,7 @@ fn to_end(mode: Mode, code: &[u8], start: usize, w: &mut [u8], end: usize) -> En
         base: 0,
     };
     for instruction in Walker::new(code, start) {
-        match step(mode, code, start, instruction.pc, instruction.op, w, top) {
+        match step(mode, code, start, instruction, w, top) {
             Stepped::On(after) => top = after,
             Stepped::Ends(after) => {
                 return End {

@@ -17,7 +17,7 @@ use evm::op::{
     ADD, AND, DUP1, DUP16, INVALID, JUMP, JUMPDEST, JUMPI, PC, PUSH0, PUSH1, PUSH4, RETURN, REVERT,
     SELFDESTRUCT, STOP, SWAP1, SWAP16,
 };
-use evm::walk::argument_at;
+use evm::walk::{Instruction, argument_at};
 use state::sym::StackSym;
 
 // What an instruction leaves: the run goes on, ends, or jumps to where a symbol says.
@@ -82,19 +82,20 @@ fn jumped(w: &[u8], top: Top, words: usize) -> Stepped
     Stepped::Jumps(top.pops(words), to)
 }
 
-// The step, in a mode, at the instruction op, which stands at pc, of the block that starts at `start`.
+// The step, in a mode, at an instruction of the block that starts at `start`.
 pub fn step(
     mode: Mode,
     code: &[u8],
     start: usize,
-    pc: usize,
-    op: u8,
+    instruction: Instruction,
     w: &mut [u8],
     top: Top,
 ) -> Stepped
-    requires { Steps code.now pc op w.old top }
-    ensures { Turns w.old top (next (mode_of mode) code.now start (ins pc op (drop (pc + 1) code.now)) (stack_of w.old top)) w.new result }
+    requires { Steps code.now instruction.pc instruction.op w.old top }
+    ensures { Turns w.old top (next (mode_of mode) code.now start
+        (ins instruction.pc instruction.op (drop (instruction.pc + 1) code.now)) (stack_of w.old top)) w.new result }
 {
+    let Instruction { pc, op, .. } = instruction;
     match op {
         PUSH1..=PUSH4 => Stepped::On(push_value(code, w, top, pc, past(PUSH0, op))),
         PUSH0 => Stepped::On(push_zero(mode, code, w, top, pc)),

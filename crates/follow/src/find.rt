@@ -37,28 +37,30 @@ fn scan(map: &[u8], start: usize) -> Option<Counted>
     None
 }
 
-// Reads its row.
-fn row(finder: Finder, rows: usize, start: usize) -> Option<Counted>
-    requires indexed { Indexed finder.map.now finder.work.now rows }
-    requires start_lt_rows { start < rows }
-    ensures { found_in finder.entry.map.now start result }
-{
-    let own = get64(finder.work, 16 * start).checked_sub(1)?;
-    let slot = get64(finder.work, 16 * start + 8);
-    let block = block_from(finder.map, own)?;
-    Some(Counted { block, slot })
-}
-
-// By the index, where there is one; else by looking for it.
-pub fn find(finder: Finder, start: usize) -> Option<Counted>
-    requires { Finds finder }
-    ensures { found_in finder.entry.map.now start result }
-{
-    let Some(rows) = finder.rows else {
-        return scan(finder.map, start);
-    };
-    if rows <= start {
-        return None;
+impl Finder<'_> {
+    // Reads the row of an address.
+    fn row(self, rows: usize, start: usize) -> Option<Counted>
+        requires indexed { Indexed self.map.now self.work.now rows }
+        requires start_lt_rows { start < rows }
+        ensures { found_in self.entry.map.now start result }
+    {
+        let own = get64(self.work, 16 * start).checked_sub(1)?;
+        let slot = get64(self.work, 16 * start + 8);
+        let block = block_from(self.map, own)?;
+        Some(Counted { block, slot })
     }
-    row(finder, rows, start)
+
+    // The block that starts at an address: by the index, where there is one; else by looking for it.
+    pub fn find(self, start: usize) -> Option<Counted>
+        requires { Finds self }
+        ensures { found_in self.entry.map.now start result }
+    {
+        let Some(rows) = self.rows else {
+            return scan(self.map, start);
+        };
+        if rows <= start {
+            return None;
+        }
+        self.row(rows, start)
+    }
 }

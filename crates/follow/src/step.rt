@@ -7,7 +7,7 @@ ghost use Rattle.follow.specs.Finding.{Finds};
 ghost use Rattle.follow.specs.Stepping.{Stood, Standing, BeginsSo, EdgeSo, InsideSo, StepsSo};
 
 use crate::edges::place_of;
-use crate::find::{Counted, Finder, find};
+use crate::find::{Counted, Finder};
 use evm::rows::size_of;
 
 // Behind a step at pc, in a block.
@@ -33,7 +33,7 @@ fn begin(finder: Finder, to: usize) -> Option<Move>
     if to != 0 {
         return None;
     }
-    let first = find(finder, 0)?;
+    let first = finder.find(0)?;
     Some(Move::Begins(first))
 }
 
@@ -44,7 +44,7 @@ fn edge(finder: Finder, from: Counted, to: usize) -> Option<Move>
     ensures { EdgeSo finder.entry.map.now from to result }
 {
     let place = place_of(finder, from, to)?;
-    let entered = find(finder, to)?;
+    let entered = finder.find(to)?;
     Some(Move::Takes {
         edge: from.slot + 1 + place,
         to: entered,

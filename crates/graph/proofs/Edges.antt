@@ -18,10 +18,10 @@ use Rattle.laws.proofs.Branch.{both}
 use Rattle.laws.proofs.Members.{In, here, in-only, in-keep, keep-in, in-gather, in_map}
 use Rattle.layout.specs.Edges.{key_at, to_at}
 use Rattle.layout.specs.Marks.{NOWHERE, to_number}
-use Rattle.layout.specs.Rows.{tag_at, type_at}
-use Rattle.layout.specs.declared.row.BlockType.{BlockType}
-use Rattle.initial.specs.Rows.{kind_of, block_at, blocks_at}
+use Rattle.layout.specs.Rows.{tag_at}
+use Rattle.initial.specs.Rows.{block_at, blocks_at}
 use Rattle.initial.proofs.Types.{kind-dynamic_jump}
+use Rattle.graph.proofs.Merging.{five}
 use Rattle.initial.proofs.Rows as laid
 use Rattle.reachable.specs.Links.{edge_at, edges_at}
 use Rattle.reachable.proofs.Rows.{gather-in, map-in}
@@ -45,18 +45,6 @@ dest-found nowhere i = elim i [ ]
 dest-found (found u s) i = refl
 
 -- ---- a block that is still a DynamicJump
-
-abbrev Five : BlockType → Kind → Type 0
-Five t k = k ≡ dynamic_jump → t.kind ≡ 5
-
-five : (t : BlockType) → kind_of t ≡ dynamic_jump → t.kind ≡ 5
-unfolding kind_of
-five t =
-    both (Five t) (eqb t.kind 1) (λ _ e. cc)
-    (λ _. both (Five t) (eqb t.kind 2) (λ _ e. cc)
-    (λ _. both (Five t) (eqb t.kind 3) (λ _ e. cc)
-    (λ _. both (Five t) (eqb t.kind 4) (λ _ e. cc)
-    (λ _. both (Five t) (eqb t.kind 5) (λ q _. eqb-true _ _ q) (λ _ e. cc)))))
 
 -- it has the entries with a destination
 record Stays (b : Block) (es : List Rec) (f : Final) : Type 0 where
@@ -149,7 +137,7 @@ module _ (w r : List ℕ) (n m : ℕ) (ns : List Node) (recs : List Rec) (short 
       let at : In (block_at w a) (blocks_at w n) = laid.block_in w n a (lie x.0 x.1).0 (λ z. omega (arith, l.0)) in
       let k = in_map (λ (f : Final). f.block) (finals ns recs) (subst (λ (bs : List Block). In (block_at w a) bs) b at) in
       let start : k.0.block.start ≡ a = sym (ap (λ (c : Block). c.start) k.2) in
-      let kind : k.0.block.kind ≡ dynamic_jump = sym (ap (λ (c : Block). c.kind) k.2) ∙ kind-dynamic_jump (type_at w a) l.0 in
+      let kind : k.0.block.kind ≡ dynamic_jump = sym (ap (λ (c : Block). c.kind) k.2) ∙ kind-dynamic_jump _ _ l.0 in
       let to : In (to_number x.0.to) (dest x.0.to) = dest-in x.0.to l.1 in
       let is : edge k.0.block.start (last_of x.0.path) (to_number x.0.to) ≡ d =
       edge_is d (e.2.place ∙ x.2.place ∙ sym start) (e.2.witness ∙ x.2.witness) (e.2.to ∙ l.2) in
@@ -165,7 +153,7 @@ module _ (w r : List ℕ) (n m : ℕ) (ns : List Node) (recs : List Rec) (short 
       let v : FollowedBy f.block.start f.block.kind f.entries d = followed-by f.block.start f.block.kind f.entries g.2 in
       let c = in_entry ns recs g.1 v.kind v.among in
       let at = laid.found w n (subst (λ (bs : List Block). In f.block bs) (sym b) (map-in (λ (h : Final). h.block) g.1)) in
-      let tag : tag_at w f.block.start ≡ 5 = five (type_at w f.block.start) (sym (ap (λ (h : Block). h.kind) at.1.same) ∙ v.kind) in
+      let tag : tag_at w f.block.start ≡ 5 = five _ _ _ (sym (ap (λ (h : Block). h.kind) at.1.same) ∙ v.kind) in
       let i = finds v.by c.1 in
       let t = in_map (edge f.block.start (last_of v.by.path)) (dest v.by.to) v.leads in
       let to : to_at r i.0 ≡ t.0 =

@@ -1,3 +1,4 @@
+pub mod Tagged
 pub mod Notes
 pub mod Merging
 pub mod Rewriting

@@ -1,6 +1,6 @@
 -- The laws of the merge: one row by its note, the rows of all records, and the notes that the records give. Assumes nothing.
 use mathlib.Core.Path.{◌≡◌, refl, sym, ap, ap₂, ◌∙◌}
-use mathlib.Core.Bool.{Bool, not, ◌&&◌}
+use mathlib.Core.Bool.{Bool, true, false, not, ◌&&◌}
 use mathlib.Core.List.{List, [], ◌∷◌, ◌++◌, map, map-append}
 use Prim.Native.Nat.{ℕ, zero, suc, ◌+◌, ◌-◌, ◌≤◌, ◌<◌}
 use native.Mathlib.Decide.{ℕ_discrete, dec_lt}
@@ -9,7 +9,8 @@ use native.Mathlib.Omega.{arith}
 use lib.Dec.{eqb, leb}
 use lib.ListN.{length, take, drop}
 use lib.Seq.{take-add, take-take, drop-drop}
-use borrow.Author.Tests.{eqb-true, eq-eqb, ne_eqb, le-leb, lt-leb}
+use borrow.Author.Tests.{eqb-true, eqb-false, eq-eqb, ne_eqb, leb-true, le-leb, lt-leb}
+use Rattle.std.specs.Prelude.{Option, Some, None}
 use Rattle.spec.specs.Blocks.{Kind, terminate, jump, jumpi, dynamic_jump, dynamic_jumpi, Block, block, with_kind}
 use Rattle.laws.proofs.Branch.{both, if-true, if-false, and-false}
 use Rattle.laws.proofs.Members.{In, here, there}
@@ -23,12 +24,13 @@ use Rattle.layout.specs.Parts.{row_place, fields_place, ROW, rows_end, list_plac
 use Rattle.layout.specs.Records.{RECORD, record_place, start_at}
 use Rattle.layout.specs.Rows.{END, typed, type_at, Put, POSITION, tag_at, head_of}
 use Rattle.layout.specs.declared.row.BlockType.{BlockType}
+use Rattle.layout.specs.declared.row.BlockType.TheVariants.{Terminate, Jump, Jumpi, DynamicJump, DynamicJumpi}
 use Rattle.initial.specs.Rows.{kind_of, kind_at, row_blocks, blocks_from, blocks_at}
-use Rattle.initial.proofs.Types.{kind-dynamic_jump, good-jump, kind-type}
+use Rattle.initial.proofs.Types.{kind-dynamic_jump, good-jump}
 use Rattle.initial.proofs.Rows.{here-row, here-block, by_row, blocks-prefix, found}
 use Rattle.initial.proofs.Writing.{put-here}
 use Rattle.reachable.specs.Promises.{Room}
-use Rattle.graph.specs.Notes.{stepped, note_of, by_note, merged_kind, merged_by, merged_block, merged_row}
+use Rattle.graph.specs.Notes.{stepped, note_of, shared_of, by_note, merged_kind, merged_by, merged_block, merged_row}
 use Rattle.graph.specs.Promises.{Notes, Noted, Merges, MergedRow, Merged, MergedAll}
 
 -- ---- by a note
@@ -46,17 +48,33 @@ module _ (n note : ℕ) where
   unfolding by_note
   by-several h = if-false _ _ _ (ne_eqb note 0 (λ z. omega arith)) ∙ if-false _ _ _ (lt-leb note (n + 1) h)
 
+  pub shared-zero : note ≡ 0 → None ≡ shared_of n note
+  unfolding shared_of
+  shared-zero e = sym (if-true _ _ _ (eq-eqb note 0 e))
+
+  pub shared-many : n + 1 < note → None ≡ shared_of n note
+  unfolding shared_of
+  shared-many h = sym (if-false _ _ _ (ne_eqb note 0 (λ z. omega arith)) ∙ if-false _ _ _ (lt-leb note (n + 1) h))
+
+  pub shared-one : (note ≡ 0 → ⊥) → note ≤ n + 1 → Some (note - 1) ≡ shared_of n note
+  unfolding shared_of
+  shared-one z h = sym (if-false _ _ _ (ne_eqb note 0 z) ∙ if-true _ _ _ (le-leb note (n + 1) h))
+
+  pub shared-some : {to : ℕ} → shared_of n note ≡ Some to → (note ≡ 0 → ⊥) × (note ≤ n + 1) × (to ≡ note - 1)
+  unfolding shared_of
+  shared-some {to} =
+      both (λ (x : Option ℕ). x ≡ Some to → (note ≡ 0 → ⊥) × (note ≤ n + 1) × (to ≡ note - 1)) (eqb note 0) (λ _ e. cc)
+      (λ z. both (λ (x : Option ℕ). x ≡ Some to → (note ≡ 0 → ⊥) × (note ≤ n + 1) × (to ≡ note - 1)) (leb note (n + 1)) (λ h e. (eqb-false note 0 z, leb-true note (n + 1) h, cc)) (λ _ e. cc))
+
   Same : Kind → Type 0
   Same k = merged_kind n note k ≡ k
 
-  other-kind : (t : BlockType) → (t.kind ≡ 5 → ⊥) → merged_kind n note (kind_of t) ≡ kind_of t
-  unfolding kind_of Same
-  other-kind t h =
-      both Same (eqb t.kind 1) (λ _. refl)
-      (λ _. both Same (eqb t.kind 2) (λ _. refl)
-      (λ _. both Same (eqb t.kind 3) (λ _. refl)
-      (λ _. both Same (eqb t.kind 4) (λ _. refl)
-      (λ _. both Same (eqb t.kind 5) (λ e. absurd (h (eqb-true _ _ e))) (λ _. refl)))))
+  other-kind : (t : BlockType) → (t ≡ DynamicJump → ⊥) → merged_kind n note (kind_of t) ≡ kind_of t
+  other-kind (Terminate success) h = refl
+  other-kind (Jump to) h = refl
+  other-kind (Jumpi to f) h = refl
+  other-kind DynamicJump h = absurd (h refl)
+  other-kind (DynamicJumpi f) h = refl
 
 -- ---- the bytes of a row
 
@@ -74,7 +92,7 @@ module _ (n note : ℕ) (w : List ℕ) (a : ℕ) where
     unfolding merged_row
     bytes-several h = sym (if-false _ _ _ (rw (eq-eqb (tag_at w a) 5 d, ne_eqb note 0 (λ z. omega arith), lt-leb note (n + 1) h)))
 
-    bytes_one : {w' : List ℕ} → (note ≡ 0 → ⊥) → note ≤ n + 1 → Put w a (num_at 2 w (row_place a + END)) (typed 3 (note - 1) 0) w' → take ROW (drop (row_place a) w') ≡ merged_row n note w a
+    bytes_one : {w' : List ℕ} → (note ≡ 0 → ⊥) → note ≤ n + 1 → Put w a (num_at 2 w (row_place a + END)) (Jump (note - 1)) w' → take ROW (drop (row_place a) w') ≡ merged_row n note w a
     unfolding merged_row
     bytes_one {w'} z h p =
         let rest : take 12 (drop 8 (drop (row_place a) w')) ≡ take 12 (drop (row_place a + POSITION) w) = rw (drop-drop 8 (row_place a) w') (kept-part p.stored 12 (row_place a + POSITION) (λ l. omega arith)) in
@@ -90,10 +108,24 @@ bytes_same n note w v a e =
 
 -- ---- one row
 
-dynamic : (w : List ℕ) (a : ℕ) {kind : ℕ} → Holds 1 w (row_place a) kind → kind ≡ 5 → kind_at w a ≡ dynamic_jump
-dynamic w a k e = kind-dynamic_jump (type_at w a) (sym k.is ∙ e)
+dynamic : (w : List ℕ) (a : ℕ) → tag_at w a ≡ 5 → kind_at w a ≡ dynamic_jump
+dynamic w a e = kind-dynamic_jump _ _ e
 
-module _ {n a kind : ℕ} {w : List ℕ} (k : Holds 1 w (row_place a) kind) where
+-- a row is read as a DynamicJump by one byte
+pub five : (k to f : ℕ) → kind_of (typed k to f) ≡ dynamic_jump → k ≡ 5
+unfolding typed
+five k to f =
+    let Five : BlockType → Type 0 = λ t. kind_of t ≡ dynamic_jump → k ≡ 5 in
+    both Five (eqb k 1) (λ _ e. cc)
+    (λ _. both Five (eqb k 2) (λ _ e. cc)
+    (λ _. both Five (eqb k 3) (λ _ e. cc)
+    (λ _. both Five (eqb k 4) (λ _ e. cc)
+    (λ _. both Five (eqb k 5) (λ q _. eqb-true k 5 q) (λ _ e. cc)))))
+
+tagged : (w : List ℕ) (a : ℕ) {b : Bool} → b ≡ eqb (tag_at w a) 5 → b ≡ true → tag_at w a ≡ 5
+tagged w a e on = eqb-true (tag_at w a) 5 (sym e ∙ on)
+
+module _ {n a : ℕ} {w : List ℕ} where
   row_stays : merged_kind n (note_at w n a) (kind_at w a) ≡ kind_at w a → take ROW (drop (row_place a) w) ≡ merged_row n (note_at w n a) w a → MergedRow n w a w
   row_stays e b = record {
     same = by_row w a (λ (bs : List Block). bs ≡ map (merged_by n (note_at w n a)) bs) (λ _. refl)
@@ -104,27 +136,41 @@ module _ {n a kind : ℕ} {w : List ℕ} (k : Holds 1 w (row_place a) kind) wher
     long = refl;
   }
 
-  pub row_other : (kind ≡ 5 → ⊥) → MergedRow n w a w
-  row_other h = row_stays (other-kind n (note_at w n a) (type_at w a) (λ e. h (k.is ∙ e))) (bytes-other n (note_at w n a) w a (λ e. h (k.is ∙ e)))
+  pub row_other : {b : Bool} → b ≡ eqb (tag_at w a) 5 → b ≡ false → MergedRow n w a w
+  row_other e off =
+      let h : tag_at w a ≡ 5 → ⊥ = eqb-false (tag_at w a) 5 (sym e ∙ off) in
+      row_stays (other-kind n (note_at w n a) (type_at w a) (λ q. h (five _ _ _ (ap kind_of q)))) (bytes-other n (note_at w n a) w a h)
 
-  module _ {note : ℕ} (e : kind ≡ 5) (t : Holds 4 w (fields_place n a + NOTE) note) where
-    pub row-none : note ≡ 0 → MergedRow n w a w
-    row-none z = row_stays (rw (dynamic w a k e) (by-none n (note_at w n a) (sym t.is ∙ z))) (bytes-none n (note_at w n a) w a (sym k.is ∙ e) (sym t.is ∙ z))
+  module _ {note : ℕ} {b : Bool} {x : Option ℕ} (e : b ≡ eqb (tag_at w a) 5) (on : b ≡ true) (t : Holds 4 w (fields_place n a + NOTE) note) (s : x ≡ shared_of n note) where
+    pub row-none : x ≡ None → MergedRow n w a w
+    row-none z = go (ℕ_discrete note 0) (dec_lt (n + 1) note)
+      where
+        other : None ≡ Some (note - 1) → ⊥
+        other q = cc
 
-    pub row-several : n + 1 < note → MergedRow n w a w
-    row-several h = row_stays (rw (dynamic w a k e) (by-several n (note_at w n a) (rw t.is at h))) (bytes-several n (note_at w n a) w a (sym k.is ∙ e) (rw t.is at h))
+        tag : tag_at w a ≡ 5
+        tag = tagged w a e on
 
-    pub row_one : {end : ℕ} {w' : List ℕ} → Room n w → (note ≡ 0 → ⊥) → note ≤ n + 1 → Holds 2 w (row_place a + END) end → Put w a end (typed 3 (note - 1) 0) w' → MergedRow n w a w'
-    row_one {end} {w'} l z h d p = record {
-      same = put-here p (good-jump (note - 1) (omega (arith, l.short))) d.small
-          ∙ rw (kind-type (jump (note - 1)), d.is)
-          (sym (ap (map (merged_by n (note_at w n a))) (here-block w a (λ o. omega (arith, k.is)))
-          ∙ rw (dynamic w a k e, ← t.is, by_one n note z h)));
-      bytes = rw (← t.is) (bytes_one n note w a (sym k.is ∙ e) z h (rw d.is at p));
-      before = kept-take p.stored (row_place a) (omega arith);
-      past = kept-drop p.stored (row_place (a + 1)) (omega arith);
-      long = p.stored.kept;
-    }
+        go : Dec (note ≡ 0) → Dec (n + 1 < note) → MergedRow n w a w
+        go (yes e₀) _ = row_stays (rw (dynamic w a tag) (by-none n (note_at w n a) (sym t.is ∙ e₀))) (bytes-none n (note_at w n a) w a tag (sym t.is ∙ e₀))
+        go (no nz) (yes h) = row_stays (rw (dynamic w a tag) (by-several n (note_at w n a) (rw t.is at h))) (bytes-several n (note_at w n a) w a tag (rw t.is at h))
+        go (no nz) (no l) = absurd (other (sym z ∙ s ∙ sym (shared-one n note nz (omega arith))))
+
+    pub row_one : {to end : ℕ} {w' : List ℕ} → Room n w → x ≡ Some to → Holds 2 w (row_place a + END) end → Put w a end (Jump to) w' → MergedRow n w a w'
+    row_one {to} {end} {w'} l z d p =
+        let tag : tag_at w a ≡ 5 = tagged w a e on in
+        let k = shared-some n note (sym s ∙ z) in
+        let p₁ : Put w a end (Jump (note - 1)) w' = rw k.2 at p in
+        record {
+          same = put-here p₁ (good-jump (note - 1) (omega (arith, l.short, k.1))) d.small
+              ∙ rw d.is
+              (sym (ap (map (merged_by n (note_at w n a))) (here-block w a (λ o. omega (arith, tag, o)))
+              ∙ rw (dynamic w a tag, ← t.is, by_one n note k.0 k.1)));
+          bytes = rw (← t.is) (bytes_one n note w a tag k.0 k.1 (rw d.is at p₁));
+          before = kept-take p.stored (row_place a) (omega arith);
+          past = kept-drop p.stored (row_place (a + 1)) (omega arith);
+          long = p.stored.kept;
+        }
 
 -- ---- once more, and by no note
 
@@ -170,7 +216,7 @@ module _ (n note : ℕ) where
       (λ _ e. sym (bytes-other n note w a (λ d. other e d)) ∙ e)
       (λ c e. bytes_same n note w w₀ a e ∙ if-false _ _ _ c)
     where
-      other : take ROW (drop (row_place a) w) ≡ head_of (num_at 2 w₀ (row_place a + END)) (typed 3 (note - 1) 0) ++ take 12 (drop (row_place a + POSITION) w₀) → tag_at w a ≡ 5 → ⊥
+      other : take ROW (drop (row_place a) w) ≡ head_of (num_at 2 w₀ (row_place a + END)) (Jump (note - 1)) ++ take 12 (drop (row_place a + POSITION) w₀) → tag_at w a ≡ 5 → ⊥
       other e d =
           let tag : tag_at w a ≡ 3 = ap number (sym (take-take 1 20 (drop (row_place a) w) (omega arith)) ∙ ap (take 1) e) in
           omega (arith, tag, d)

@@ -1,11 +1,13 @@
 -- The laws of the rewriting: a record becomes a row of edges, and then all records. Assumes nothing.
 use mathlib.Core.Path.{◌≡◌, refl, sym, ◌∙◌}
+use mathlib.Core.Bool.{Bool, true, false}
 use mathlib.Core.List.{List}
 use Prim.Native.Nat.{ℕ, ◌+◌, ◌-◌, ◌*◌, ◌≤◌, ◌<◌}
 use native.Mathlib.Decide.{ℕ_discrete}
 use native.Mathlib.Omega.{arith}
 use lib.ListN.{length, take, drop}
-use borrow.Author.Tests.{eq-eqb, ne_eqb}
+use lib.Dec.{eqb}
+use borrow.Author.Tests.{eq-eqb, ne_eqb, eqb-true, eqb-false}
 use Rattle.spec.specs.Lists.{little}
 use Rattle.laws.proofs.Branch.{if-true, if-false}
 use Rattle.lent.specs.Bytes.{num_at, Holds, Stored}
@@ -14,7 +16,6 @@ use Rattle.lent.proofs.Numbers.{num-prefix, num-suffix}
 use Rattle.lent.proofs.Stored.{kept-take, kept-drop, kept-num, read_back, kept-part}
 use Rattle.layout.specs.Edges.{E-TO, E-WITNESS, E-OWN, E-ENDS}
 use Rattle.layout.specs.Marks.{NOWHERE}
-use Rattle.layout.specs.Parts.{row_place}
 use Rattle.layout.specs.Records.{RECORD, record_place, R-TO, R-ENDS, start_at}
 use Rattle.layout.specs.Rows.{tag_at}
 use Rattle.graph.specs.Notes.{edge_to}
@@ -31,12 +32,12 @@ module _ (kind to : ℕ) where
   unfolding edge_to
   to-other h = if-false _ _ _ (ne_eqb kind 5 h)
 
-module _ {a to kind : ℕ} {w : List ℕ} (k : Holds 1 w (row_place a) kind) where
-  pub edge-dynamic : to < 65536 → kind ≡ 5 → EdgeIs w a to to
-  edge-dynamic h e = record { is = sym (to-dynamic (tag_at w a) to (sym k.is ∙ e)); small = h }
+module _ {a to : ℕ} {w : List ℕ} {b : Bool} (k : b ≡ eqb (tag_at w a) 5) where
+  pub edge-dynamic : to < 65536 → b ≡ true → EdgeIs w a to to
+  edge-dynamic h e = record { is = sym (to-dynamic (tag_at w a) to (eqb-true (tag_at w a) 5 (sym k ∙ e))); small = h }
 
-  pub edge_other : (kind ≡ 5 → ⊥) → EdgeIs w a to NOWHERE
-  edge_other ne = record { is = sym (to-other (tag_at w a) to (λ e. ne (k.is ∙ e))); small = omega arith }
+  pub edge_other : b ≡ false → EdgeIs w a to NOWHERE
+  edge_other e = record { is = sym (to-other (tag_at w a) to (eqb-false (tag_at w a) 5 (sym k ∙ e))); small = omega arith }
 
 -- ---- one record
 

@@ -1,13 +1,14 @@
 -- The note of an address: the one destination of its records and 1 more, 0 where they have none, `several` where they have more than one. It stands in W
 -- among the address's fields of others. Assumes nothing.
-use Rattle.std.specs.Prelude.{not, ◌&&◌, List, ◌++◌, ℕ, zero, suc, ◌+◌, ◌-◌, eqb, leb, take, drop}
+use Rattle.std.specs.Prelude.{Option, Some, None, not, ◌&&◌, List, ◌++◌, ℕ, zero, suc, ◌+◌, ◌-◌, eqb, leb, take, drop}
 use Rattle.spec.specs.Lists.{if}
 use Rattle.spec.specs.Blocks.{Kind, terminate, jump, jumpi, dynamic_jump, dynamic_jumpi, Block, with_kind}
 use Rattle.lent.specs.Bytes.{num_at}
 use Rattle.layout.specs.Marks.{NOWHERE}
 use Rattle.layout.specs.Records.{start_at, to_at}
 use Rattle.layout.specs.Parts.{ROW, row_place}
-use Rattle.layout.specs.Rows.{END, POSITION, typed, tag_at, head_of}
+use Rattle.layout.specs.Rows.{END, POSITION, tag_at, head_of}
+use Rattle.layout.specs.declared.row.BlockType.TheVariants.{Jump}
 
 abbrev pub several : ℕ
 several = 0xFFFFFFFF
@@ -24,6 +25,10 @@ stepped r i a old = if (eqb a (start_at r i)) (if (eqb (to_at r i) NOWHERE) old 
 unfoldable pub note_of : List ℕ → ℕ → ℕ → ℕ
 note_of r a zero = 0
 note_of r a (suc m) = stepped r m a (note_of r a m)
+
+-- the destination that a note says, in a code of n bytes
+unfoldable pub shared_of : ℕ → ℕ → Option ℕ
+shared_of n note = if (eqb note 0) None (if (leb note (n + 1)) (Some (note - 1)) None)
 
 -- "A DynamicJump whose entries share one target becomes a Jump", by its note
 unfoldable pub by_note : ℕ → ℕ → Kind
@@ -46,7 +51,7 @@ merged_block n notes b = merged_by n (notes b.start) b
 -- the twenty bytes of the row of a after that: the kind and the sides are new where the kind is DynamicJump and its note says one destination
 unfoldable pub merged_row : ℕ → ℕ → List ℕ → ℕ → List ℕ
 merged_row n note w a =
-    if (eqb (tag_at w a) 5 && not (eqb note 0) && leb note (n + 1)) (head_of (num_at 2 w (row_place a + END)) (typed 3 (note - 1) 0) ++ take 12 (drop (row_place a + POSITION) w))
+    if (eqb (tag_at w a) 5 && not (eqb note 0) && leb note (n + 1)) (head_of (num_at 2 w (row_place a + END)) (Jump (note - 1)) ++ take 12 (drop (row_place a + POSITION) w))
     (take ROW (drop (row_place a) w))
 
 -- the destination that a row of edges has: the record's, if its block is still a DynamicJump

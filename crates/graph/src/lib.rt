@@ -2,6 +2,7 @@
 // flagged.
 #![tactic(auto)]
 
+mod kind;
 mod merge;
 mod note;
 mod rewrite;

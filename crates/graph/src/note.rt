@@ -18,10 +18,8 @@ pub fn note_all(w: &mut [u8], size: usize, r: &[u8], records: usize)
     requires { Notes size records w.old r.now }
     ensures { Noted size records w.old r.now w.new }
 {
-    let mut row = 0;
-    while row < records {
+    for row in 0..records {
         note(w, size, r, row);
-        row += 1;
     }
 }
 
@@ -41,7 +39,7 @@ fn note(w: &mut [u8], size: usize, r: &[u8], row: usize)
     put32(w, at, join(old, to));
 }
 
-// A note with one destination more.
+// A note with one destination more. It is a number, as it stands in W (docs/LAYOUT.md).
 fn join(old: usize, to: usize) -> usize
     requires { to < 65536 }
     ensures { result ≡ joined old to }

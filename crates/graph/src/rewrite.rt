@@ -6,20 +6,18 @@ ghost use Rattle.layout.specs.Parts.{ROW, row_place};
 ghost use Rattle.layout.specs.Records.{RECORD, record_place};
 ghost use Rattle.graph.specs.Promises.{EdgeIs, EdgePut, RewritesRow, RewroteRow, Rewrites, Rewrote};
 
+use crate::kind::is_dynamic_jump;
 use layout::record::RECORD;
-use layout::row::{DYNAMIC_JUMP, ROW};
 use layout::{NOWHERE, edge, record};
-use lent::{get8, get16, get32, put16, put32};
+use lent::{get16, get32, put16, put32};
 
 // Rewrites the records.
 pub fn rewrite(w: &[u8], r: &mut [u8], q: &[u8], records: usize)
     requires { Rewrites records w.now r.old q.now }
     ensures { Rewrote records w.now r.old q.now r.new }
 {
-    let mut row = 0;
-    while row < records {
+    for row in 0..records {
         rewrite_row(w, r, q, row);
-        row += 1;
     }
 }
 
@@ -56,8 +54,9 @@ fn edge_to(w: &[u8], start: usize, to: usize) -> usize
     requires to_bound { to < 65536 }
     ensures { EdgeIs w.now start to result }
 {
-    if get8(w, ROW * start) == DYNAMIC_JUMP {
-        return to;
+    if is_dynamic_jump(w, start) {
+        to
+    } else {
+        NOWHERE
     }
-    NOWHERE
 }

@@ -59,9 +59,6 @@ module _ (code ss : List ℕ) where
   pub jumpi-ends : {m : Bool} (to f : ℕ) → m ≡ mem f ss → m ≡ false → Terminate false ≡ type_of (checked code ss (jumpi to f))
   jumpi-ends to f d q = sym (ap type_of (if-false _ _ _ (sym d ∙ q)))
 
-  pub side-starts : {m : Bool} (f : ℕ) → m ≡ mem f ss → m ≡ true → mem f ss ≡ true
-  side-starts f d q = sym d ∙ q
-
   pub jumpi-kept : {l : Bool} (to f : ℕ) → mem f ss ≡ true → l ≡ lands code ss to → l ≡ true → Jumpi to f ≡ type_of (checked code ss (jumpi to f))
   jumpi-kept to f q e p = sym (ap type_of (if-true _ _ _ q ∙ if-true _ _ _ (sym e ∙ p)))
 
@@ -218,9 +215,6 @@ unfolding blocks_from starts_at
 check-none r = record { front = refl; list = refl; few = omega arith; back = refl; past = refl; laid = r.laid; kept = refl; inside = omega arith }
 
 module _ {code w₀ w : List ℕ} {a many : ℕ} (r : Rows code w₀) (g : Checking code w₀ w a many) where
-  pub check-rows : Rows code w
-  check-rows = record { lent = record { short = r.lent.short; room = omega arith }; laid = g.laid }
-
   -- a part of the rows that are not checked yet
   ahead : (x m : ℕ) → a ≤ x → x + m ≤ length code + 1 → blocks_from w x m ≡ blocks_from w₀ x m
   ahead x m l h = from-part w w₀ x m (starts_place (length code) - row_place a) (row_place a) g.back (omega arith) (omega (arith, g.inside))

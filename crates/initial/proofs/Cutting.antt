@@ -24,11 +24,11 @@ use Rattle.layout.specs.Parts.{rows_end}
 use Rattle.layout.specs.Rows.{Put}
 use Rattle.initial.specs.Rows.{type_of, blocks_at, Laid}
 use Rattle.initial.specs.Turn.{clipped, pushed_at, ahead}
-use Rattle.initial.specs.Promises.{Lent, Beyond, Written, Stands, lowest, Standing, Ready, after, Turned, last, cutting}
+use Rattle.initial.specs.Promises.{Lent, Beyond, Written, Stands, Standing, Ready, after, Turned, last, cutting}
 use Rattle.initial.specs.declared.turn.Walking.{Walking}
 use Rattle.initial.specs.declared.turn.Walking.TheVariants.{Opened, Waiting, Ended}
 use Rattle.initial.proofs.Types.{good-terminate}
-use Rattle.initial.proofs.Writing.{put-append, put-laid, put-beyond, less-empty, beyond-same, beyond-more, wiped-blocks, wiped-empty, wiped-laid, wiped-beyond}
+use Rattle.initial.proofs.Writing.{put-append, put-laid, put-beyond, beyond-same, beyond-more, wiped-blocks, wiped-empty, wiped-laid, wiped-beyond}
 use Rattle.initial.proofs.Jumping.{push-low}
 use Rattle.initial.proofs.Turning.{ahead-ended}
 
@@ -113,16 +113,6 @@ module _ {n : ℕ} {w : List ℕ} {mode : Walking} {prev : ℕ} (r : Standing n 
           laid = put-laid p n r.laid inside good small;
           beyond = put-beyond p n inside;
         }
-
-lowest-last : (m : Walking) {at n : ℕ} → at ≤ n → lowest m at ≤ at → (lowest m at ≤ lowest m n) × (lowest m n ≤ n)
-lowest-last (Opened start) h l = (omega arith, omega arith)
-lowest-last Waiting h l = (h, omega arith)
-lowest-last Ended h l = (h, omega arith)
-
-pub last-asks : {n : ℕ} {w : List ℕ} {m : Walking} {prev at : ℕ} → Standing n w m prev at → Standing n w m prev n
-last-asks {n} {w} {m} r =
-    let l = lowest-last m r.inside r.low in
-    record { short = r.short; room = r.room; laid = r.laid; empty = less-empty r.empty l.0; low = l.1; inside = omega arith; back = omega arith }
 
 -- ---- the loop
 

@@ -5,19 +5,17 @@ use mathlib.Core.List.{List, ◌++◌, append_assoc}
 use mathlib.Core.Option.{Option}
 use Prim.Native.Nat.{ℕ, suc, ◌+◌, ◌≤◌, ◌<◌}
 use native.Mathlib.Omega.{arith}
-use native.Mathlib.Decide.{dec_lt}
 use lib.Dec.{eqb}
 use lib.ListN.{length}
 use borrow.Author.Tests.{eqb-false}
 use Rattle.spec.specs.Opcodes.{row}
 use Rattle.spec.specs.Blocks.{Block, cut}
 use Rattle.laws.proofs.Branch.{both}
-use Rattle.layout.specs.Parts.{row_place}
-use Rattle.layout.specs.Rows.{BLOCK, Put}
+use Rattle.layout.specs.Rows.{Put}
 use Rattle.layout.specs.declared.row.BlockType.{BlockType}
 use Rattle.initial.specs.Rows.{blocks_at, Laid}
 use Rattle.initial.specs.Turn.{pushed_at, cut_of, turn_of, closed, then, ahead}
-use Rattle.initial.specs.Promises.{Beyond, Stands, Whole, Behind, lowest, Empty, Ready, after, Turned}
+use Rattle.initial.specs.Promises.{Beyond, Stands, lowest, Empty, Ready, after, Turned}
 use Rattle.initial.specs.declared.turn.Cut.{Cut}
 use Rattle.initial.specs.declared.turn.Cut.TheVariants.{Jumpdest, Jumpi, Jump, Ends, Unknown, Other}
 use Rattle.initial.specs.declared.turn.Walking.{Walking}
@@ -71,20 +69,6 @@ module _ (start prev : ℕ) (push : Option ℕ) (pc next : ℕ) (h : start ≤ p
 -- ---- the ways out of the turn
 
 module _ {code w : List ℕ} {mode : Walking} {prev pc op : ℕ} (r : Ready code w mode prev pc) (i : Stands code pc op) where
-  -- the instruction before stands whole, or is this one
-  before-whole : Whole code prev
-  before-whole = go (dec_lt prev pc)
-    where
-      go : Dec (prev < pc) → Whole code prev
-      go (yes l) = r.before l
-      go (no l) = let e : prev ≡ pc = omega arith in rw e (record { whole = rw (← i.byte) i.whole })
-
-  pub turn-asks : Behind code prev pc
-  turn-asks = record { before = before-whole; inside = omega (arith, i.whole) }
-
-  pub turn-room : {start : ℕ} → mode ≡ Opened start → row_place start + BLOCK ≤ length w
-  turn-room o = omega (arith, rw o at r.rows.low, r.rows.inside, r.rows.room)
-
   readied : {w' : List ℕ} {m : Walking} → Beyond (length code) w w' → Laid w' (length code) → Empty w' (lowest m (after pc op)) (length code)
       → lowest m (after pc op) ≤ after pc op → Ready code w' m pc (after pc op)
   readied b l e k = record {

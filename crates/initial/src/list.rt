@@ -1,4 +1,4 @@
-// The list of the blocks' starts, as whoever goes along it reads it.
+// The list of the blocks' starts, as whoever goes along it reads it: by places, since preparing writes W as it goes, so that no iterator can hold it.
 // "blocks by start"
 ghost use Rattle.std.specs.Prelude.{◌+◌, ◌≤◌, length};
 ghost use Rattle.lent.specs.Bytes.{Holds};

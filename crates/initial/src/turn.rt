@@ -14,7 +14,7 @@ use evm::op;
 use evm::rows::known;
 use layout::row::BlockType;
 
-// What an instruction is to the cutting; what ends a block for good does so with success or without.
+// What an instruction is to the cutting, in document 01's own cases, of which `Other` is one; what ends a block for good does so with success or without.
 #[derive(Clone, Copy)]
 pub enum Cut {
     Jumpdest,
@@ -33,7 +33,7 @@ pub enum Walking {
     Ended,
 }
 
-// What an instruction does in the open block: it goes on, or closes the block, whose last instruction is at end.
+// What an instruction does in the open block: it goes on, or closes the block, whose last instruction is at end; how the walk stands then is said of both.
 #[derive(Clone, Copy)]
 pub enum Effect {
     Goes(Walking),

@@ -8,6 +8,7 @@ use mathlib.Core.List.{List, [], ◌∷◌}
 use lib.Dec.{eqb}
 use lib.ListN.{length}
 use borrow.Author.Tests.{eq-eqb, ne_eqb, eqb-true, eqb-false}
+use Rattle.std.specs.Prelude.{Option as Maybe, Some, None, Result, Ok, Err}
 use Rattle.spec.specs.Lists.{if, mem, little}
 use Rattle.spec.specs.Ending.{Final}
 use Rattle.spec.specs.Reader.{Item, finals_in}
@@ -19,9 +20,9 @@ use Rattle.lent.proofs.Stored.{kept-num, read_back}
 use Rattle.reader.specs.Shapes.{item_of}
 use Rattle.reader.specs.Walks.{walk_at, items_from, Walking}
 use Rattle.reader.specs.declared.entry.Entry.{Entry}
-use Rattle.reader.specs.declared.entry.Entry.TheVariants.{Head, Terminate, Jump, Jumpi, DynamicJump, DynamicJumpi, Way, Record, Unknown, Wrong, Cut}
-use Rattle.reader.specs.declared.walk.Walk.{Walk}
-use Rattle.reader.specs.declared.walk.Walk.TheVariants.{Here, Over}
+use Rattle.reader.specs.declared.entry.Entry.TheVariants.{Head, Terminate, Jump, Jumpi, DynamicJump, DynamicJumpi, Way, Record}
+use Rattle.reader.specs.declared.entry.Fault.{Fault}
+use Rattle.reader.specs.declared.walk.Step.{Step}
 use Rattle.reader.proofs.Walked.{Steps, stepping}
 use Rattle.inspector.specs.Edges.{Ready, edge_among, edge_from, edge_in, sight_by, sight_of, Stands}
 use Rattle.inspector.specs.Symbols.{Lent}
@@ -32,24 +33,22 @@ use Rattle.inspector.proofs.Seeking.{ready-walks, goes_on, walk_here, walk_end, 
 
 -- ---- an entry is a block, or none
 
-data Kind (b : List ℕ) (e : Entry) : Type 0 where
-  is_block : (s : ℕ) → ((n : ℕ) → start_in e n ≡ s) → ((y x : ℕ) → (own : Bool) → eqb y s ≡ own → (leads : Bool) × (sight_of e false y x ≡ sight_by own leads))
+data Kind (b : List ℕ) (e : Result Entry Fault) : Type 0 where
+  is_block : (s : ℕ) → start_in e ≡ Some s → ((y x : ℕ) → (own : Bool) → eqb y s ≡ own → (leads : Bool) × (sight_of e false y x ≡ sight_by own leads))
       → ((is : List Item) → (f : Final) × (finals_in (item_of b e ∷ is) ≡ f ∷ finals_in is) × (f.block.start ≡ s)) → Kind b e
-  no_block : ((n : ℕ) → start_in e n ≡ n) → ((y x : ℕ) → sight_of e false y x ≡ Other) → ((is : List Item) → finals_in (item_of b e ∷ is) ≡ finals_in is) → Kind b e
+  no_block : start_in e ≡ None → ((y x : ℕ) → sight_of e false y x ≡ Other) → ((is : List Item) → finals_in (item_of b e ∷ is) ≡ finals_in is) → Kind b e
 
-kind : (b : List ℕ) (e : Entry) → Kind b e
+kind : (b : List ℕ) (e : Result Entry Fault) → Kind b e
 unfolding finals_in if
-kind b (Terminate s d ok) = is_block s (λ n. refl) (λ y x own q. (false, ap (λ (c : Bool). sight_by c (false)) q)) (λ is. (_, refl, refl))
-kind b (Jump s d t) = is_block s (λ n. refl) (λ y x own q. (mem x (t ∷ []), ap (λ (c : Bool). sight_by c (mem x (t ∷ []))) q)) (λ is. (_, refl, refl))
-kind b (Jumpi s d t f) = is_block s (λ n. refl) (λ y x own q. (mem x (t ∷ f ∷ []), ap (λ (c : Bool). sight_by c (mem x (t ∷ f ∷ []))) q)) (λ is. (_, refl, refl))
-kind b (DynamicJump s d n) = is_block s (λ n. refl) (λ y x own q. (false, ap (λ (c : Bool). sight_by c (false)) q)) (λ is. (_, refl, refl))
-kind b (DynamicJumpi s d f n) = is_block s (λ n. refl) (λ y x own q. (mem x (f ∷ []), ap (λ (c : Bool). sight_by c (mem x (f ∷ []))) q)) (λ is. (_, refl, refl))
-kind b (Way t p n) = no_block (λ n. refl) (λ y x. refl) (λ is. refl)
-kind b (Record s t form v p n) = no_block (λ n. refl) (λ y x. refl) (λ is. refl)
-kind b (Head s n m x) = no_block (λ n. refl) (λ y x. refl) (λ is. refl)
-kind b Unknown = no_block (λ n. refl) (λ y x. refl) (λ is. refl)
-kind b Wrong = no_block (λ n. refl) (λ y x. refl) (λ is. refl)
-kind b Cut = no_block (λ n. refl) (λ y x. refl) (λ is. refl)
+kind b (Ok (Terminate s d ok)) = is_block s refl (λ y x own q. (false, ap (λ (c : Bool). sight_by c (false)) q)) (λ is. (_, refl, refl))
+kind b (Ok (Jump s d t)) = is_block s refl (λ y x own q. (mem x (t ∷ []), ap (λ (c : Bool). sight_by c (mem x (t ∷ []))) q)) (λ is. (_, refl, refl))
+kind b (Ok (Jumpi s d t f)) = is_block s refl (λ y x own q. (mem x (t ∷ f ∷ []), ap (λ (c : Bool). sight_by c (mem x (t ∷ f ∷ []))) q)) (λ is. (_, refl, refl))
+kind b (Ok (DynamicJump s d n)) = is_block s refl (λ y x own q. (false, ap (λ (c : Bool). sight_by c (false)) q)) (λ is. (_, refl, refl))
+kind b (Ok (DynamicJumpi s d f n)) = is_block s refl (λ y x own q. (mem x (f ∷ []), ap (λ (c : Bool). sight_by c (mem x (f ∷ []))) q)) (λ is. (_, refl, refl))
+kind b (Ok (Way t p n)) = no_block refl (λ y x. refl) (λ is. refl)
+kind b (Ok (Record s t v p n)) = no_block refl (λ y x. refl) (λ is. refl)
+kind b (Ok (Head s n m x)) = no_block refl (λ y x. refl) (λ is. refl)
+kind b (Err fault) = no_block refl (λ y x. refl) (λ is. refl)
 
 -- ---- the loop
 
@@ -67,11 +66,17 @@ fill_start y t = record { walking = ready-walks y; low = 0; rises = all-rise y; 
 split-rise : (f : Final) (fs : List Final) {lo : ℕ} → Rising lo (finals-at (f ∷ fs)) → (lo ≤ f.block.start) × Rising (suc f.block.start) (finals-at fs)
 split-rise f fs (one_more l r) = (l, r)
 
-module _ {b code w₀ : List ℕ} {at : ℕ} {w : List ℕ} (i : Filling b code w₀ at w) {r : Walk} (h : r ≡ walk_at b at) where
-  pub fill-over : r ≡ Over → Filled b code w₀ w
+module _ {b code w₀ : List ℕ} {at : ℕ} {w : List ℕ} (i : Filling b code w₀ at w) {r : Maybe Step} (h : r ≡ walk_at b at) where
+  pub fill-over : r ≡ None → Filled b code w₀ w
   fill-over q = record { tables = subst (λ (n : ℕ). TablesTo b code n w) (walk_end b at i.walking h q) i.tables; kept = i.kept }
 
-  module _ {e : Entry} {to : ℕ} (q : r ≡ Here e to) where
+  module _ {v : Step} (q : r ≡ Some v) where
+    abbrev to : ℕ
+    to = v.behind
+
+    abbrev e : Result Entry Fault
+    e = v.entry
+
     step : Steps b at e to
     step = stepping i.walking h q
 
@@ -94,10 +99,10 @@ module _ {b code w₀ : List ℕ} {at : ℕ} {w : List ℕ} (i : Filling b code 
     slot-on : (j : ℕ) {v : ℕ} → Slot b code at j v → (j < length code → (x : ℕ) → sight_of e false j x ≡ Other) → Slot b code to j v
     slot-on j o k = record { block = o.block; none = λ l z x. sym (same-on j x (k l x)) ∙ o.none l z x; edge = o.edge }
 
-    module _ (small : length b < 2 ^ 64) {start : ℕ} {w₁ : List ℕ} (n : start ≡ start_in e (length code)) (g : Noted code w start at w₁) where
-      fill_none : ((m : ℕ) → start_in e m ≡ m) → ((y x : ℕ) → sight_of e false y x ≡ Other) → ((is : List Item) → finals_in (item_of b e ∷ is) ≡ finals_in is) → Filling b code w₀ to w₁
+    module _ (small : length b < 2 ^ 64) {start : Maybe ℕ} {w₁ : List ℕ} (n : start ≡ start_in e) (g : Noted code w start at w₁) where
+      fill_none : start_in e ≡ None → ((y x : ℕ) → sight_of e false y x ≡ Other) → ((is : List Item) → finals_in (item_of b e ∷ is) ≡ finals_in is) → Filling b code w₀ to w₁
       fill_none s o f =
-          let same : w₁ ≡ w = g.past (omega (arith, n, s (length code))) in
+          let same : w₁ ≡ w = g.none (n ∙ s) in
           record {
             walking = step.walking;
             low = i.low;
@@ -108,10 +113,10 @@ module _ {b code w₀ : List ℕ} {at : ℕ} {w : List ℕ} (i : Filling b code 
             kept = ap length same ∙ i.kept;
           }
 
-      module _ (s : ℕ) (is-s : (m : ℕ) → start_in e m ≡ s) (o : (y x : ℕ) (own : Bool) → eqb y s ≡ own → (leads : Bool) × (sight_of e false y x ≡ sight_by own leads))
+      module _ (s : ℕ) (is-s : start_in e ≡ Some s) (o : (y x : ℕ) (own : Bool) → eqb y s ≡ own → (leads : Bool) × (sight_of e false y x ≡ sight_by own leads))
           (f : (is : List Item) → (f : Final) × (finals_in (item_of b e ∷ is) ≡ f ∷ finals_in is) × (f.block.start ≡ s)) where
-        start_is : start ≡ s
-        start_is = n ∙ is-s (length code)
+        start_is : start ≡ Some s
+        start_is = n ∙ is-s
 
         other : (y x : ℕ) → (y ≡ s → ⊥) → sight_of e false y x ≡ Other
         other y x d = (o y x false (ne_eqb y s d)).1
@@ -125,7 +130,7 @@ module _ {b code w₀ : List ℕ} {at : ℕ} {w : List ℕ} (i : Filling b code 
         stands : Stands b s at
         stands = record {
           walking = i.walking;
-          own = λ x z. mine x (subst (λ (d : Entry). sight_of d false s x ≡ Other) (sym (walk_here b at h q).0) z);
+          own = λ x z. mine x (subst (λ (d : Result Entry Fault). sight_of d false s x ≡ Other) (sym (walk_here b at h q).0) z);
           lone = λ x. subst (λ (m : ℕ). edge_from b x s false m ≡ false) (walk_here b at h q).1 (none_below x s (items_from b to) here-block.1 (omega arith));
           same = λ x. i.before s x here-block.0;
         }
@@ -139,7 +144,7 @@ module _ {b code w₀ : List ℕ} {at : ℕ} {w : List ℕ} (i : Filling b code 
 
         slot-put : s < length code → (j : ℕ) → j < 6 * length code → (c : Bool) → eqb j s ≡ c → Slot b code to j (num_at 8 w₁ (8 * j))
         slot-put l j k true e₁ =
-            let d : Stored 8 w (8 * s) (little 8 (at + 1)) w₁ = subst (λ (a : ℕ). Stored 8 w (8 * a) (little 8 (at + 1)) w₁) start_is (g.there (omega (arith, start_is))) in
+            let d : Stored 8 w (8 * s) (little 8 (at + 1)) w₁ = g.there start_is l in
             let at-s : j ≡ s = eqb-true j s e₁ in
             subst (λ (a : ℕ). Slot b code to a (num_at 8 w₁ (8 * a))) (sym at-s)
             (subst (Slot b code to s) (sym (read_back d (omega (arith, small, fill-in))))
@@ -152,7 +157,7 @@ module _ {b code w₀ : List ℕ} {at : ℕ} {w : List ℕ} (i : Filling b code 
             back : at ≡ at + 1 - 1
             back = omega arith
         slot-put l j k false e₁ =
-            let d : Stored 8 w (8 * s) (little 8 (at + 1)) w₁ = subst (λ (a : ℕ). Stored 8 w (8 * a) (little 8 (at + 1)) w₁) start_is (g.there (omega (arith, start_is))) in
+            let d : Stored 8 w (8 * s) (little 8 (at + 1)) w₁ = g.there start_is l in
             let m : j ≡ s → ⊥ = eqb-false j s e₁ in
             subst (Slot b code to j) (sym (kept-num d 8 (8 * j) (apart m (dec_lt j s)))) (slot-on j (i.tables.slots j k) (λ _ x. other j x m))
           where
@@ -168,7 +173,7 @@ module _ {b code w₀ : List ℕ} {at : ℕ} {w : List ℕ} (i : Filling b code 
 
             by-room : Dec (s < length code) → Filling b code w₀ to w₁
             by-room (yes l) =
-                let d = g.there (omega (arith, start_is)) in
+                let d = g.there start_is l in
                 record {
                   walking = step.walking;
                   low = suc s;
@@ -178,7 +183,7 @@ module _ {b code w₀ : List ℕ} {at : ℕ} {w : List ℕ} (i : Filling b code 
                   kept = d.kept ∙ i.kept;
                 }
             by-room (no l) =
-                let same : w₁ ≡ w = g.past (omega (arith, start_is, l)) in
+                let same : w₁ ≡ w = g.past start_is (omega (arith, l)) in
                 record {
                   walking = step.walking;
                   low = suc s;

@@ -1,107 +1,64 @@
 -- A block of a path is sound: its run, one instruction after the other, meets no unknown byte. Assumes nothing.
-use Prim.Native.Nat.{ℕ, ◌-◌, ◌≤◌, ◌<◌}
-use native.Mathlib.Omega.{arith}
-use mathlib.Core.Path.{◌≡◌, refl, sym, ap, ◌∙◌}
+use Prim.Native.Nat.{ℕ, ◌≤◌, ◌<◌}
+use mathlib.Core.Path.{◌≡◌, refl, sym, ap, subst, ◌∙◌}
 use mathlib.Core.Bool.{Bool, true, false, ◌&&◌, ◌||◌, not}
-use mathlib.Core.List.{List}
-use lib.Dec.{eqb}
-use lib.ListN.{length}
-use borrow.Author.Tests.{ne_eqb, lt-ltb, le-ltb}
+use mathlib.Core.List.{List, []}
+use lib.ListN.{length, drop}
+use borrow.Author.Tests.{lt-ltb, le-ltb}
+use Rattle.std.specs.Prelude.{Option, Some, None}
+use Rattle.std.specs.Borrow.{Bor}
+use Rattle.spec.specs.Walk.{walk}
 use Rattle.spec.specs.Opcodes.{row}
-use Rattle.spec.specs.Meaning.{closing}
 use Rattle.spec.specs.PathMeaning.{all_known}
 use Rattle.spec.specs.Inspector.{sound}
-use Rattle.evm.specs.Step.{step_at}
-use Rattle.evm.specs.declared.walk.Step.{Step}
-use Rattle.evm.specs.declared.walk.Step.TheVariants.{Whole, End}
-use Rattle.evm.proofs.Steps.{Took, took, ended}
+use Rattle.evm.specs.Walker.{walker_at, Walks}
+use Rattle.evm.specs.declared.walk.Instruction.{Instruction}
+use Rattle.evm.specs.declared.walker.Walker.{Walker}
+use Rattle.evm.proofs.Steps.{Took}
+use Rattle.evm.proofs.Walkers.{walks-took, walks-next, walks-ended}
 use Rattle.inspector.specs.Paths.{last_at, known_at}
 use Rattle.inspector.proofs.Seeking.{off, on}
 
--- ---- closes, last
-
-module _ {op : ℕ} where
-  pub closes-56 : op ≡ 0x56 → true ≡ closing op
-  unfolding closing
-  closes-56 e = rw e
-
-  pub closes-57 : op ≡ 0x57 → true ≡ closing op
-  unfolding closing
-  closes-57 e = rw e
-
-  pub closes-00 : op ≡ 0x00 → true ≡ closing op
-  unfolding closing
-  closes-00 e = rw e
-
-  pub closes-F3 : op ≡ 0xF3 → true ≡ closing op
-  unfolding closing
-  closes-F3 e = rw e
-
-  pub closes-FD : op ≡ 0xFD → true ≡ closing op
-  unfolding closing
-  closes-FD e = rw e
-
-  pub closes-FE : op ≡ 0xFE → true ≡ closing op
-  unfolding closing
-  closes-FE e = rw e
-
-pub closes-rest : {op : ℕ} → (op ≡ 0x56 → ⊥) → (op ≡ 0x57 → ⊥) → (op ≡ 0x00 → ⊥) → (op ≡ 0xF3 → ⊥) → (op ≡ 0xFD → ⊥) → (op ≡ 0xFE → ⊥) → eqb op 0xFF ≡ closing op
-unfolding closing
-closes-rest {op} a b c d e f = rw (ne_eqb op 0x56 a, ne_eqb op 0x57 b, ne_eqb op 0x00 c, ne_eqb op 0xF3 d, ne_eqb op 0xFD e, ne_eqb op 0xFE f) (sym (or_off (eqb op 0xFF)))
-  where
-    or_off : (c : Bool) → c || false ≡ c
-    or_off true = refl
-    or_off false = refl
-
-pub last-lands : (start pc : ℕ) {op : ℕ} → op ≡ 0x5B → not (eqb pc start) ≡ last_at start pc op
-unfolding closing
-last-lands start pc e = rw e
-
-pub last-other : (start pc : ℕ) {op : ℕ} → (op ≡ 0x5B → ⊥) → {r : Bool} → r ≡ closing op → r ≡ last_at start pc op
-last-other start pc {op} n e = e ∙ sym (ap (λ (c : Bool). closing op || (c && not (eqb pc start))) (ne_eqb op 0x5B n) ∙ or_off (closing op))
-  where
-    or_off : (c : Bool) → c || false ≡ c
-    or_off true = refl
-    or_off false = refl
-
 -- ---- the loop
 
-pub record Knows (code : List ℕ) (start at : ℕ) : Type 0 where
-  pub rest : known_at code start at ≡ known_at code start start
+pub record Knows (code : List ℕ) (start : ℕ) (w : Walker) : Type 0 where
+  pub same : w.code.now ≡ code
+  pub rest : known_at code start w.at ≡ known_at code start start
 
-pub knows_start : {code : List ℕ} {start : ℕ} → Knows code start start
-knows_start = record { rest = refl }
+pub knows_start : {code : Bor (List ℕ)} {start : ℕ} {w : Walker} → w ≡ walker_at code start → Knows code.now start w
+knows_start e = rw e (record { same = refl; rest = refl })
 
-module _ {code : List ℕ} {start at : ℕ} (i : Knows code start at) {r : Step} (e : r ≡ step_at code at) where
-  pub knows-end : r ≡ End → true ≡ known_at code start start
-  knows-end q = sym (ap (all_known row start) (ended code at e q)) ∙ i.rest
+module _ {code : List ℕ} {start : ℕ} {w v : Walker} (i : Knows code start w) {r : Option Instruction} (s : Walks w r v) where
+  pub knows-end : r ≡ None → true ≡ known_at code start start
+  knows-end q = sym (ap (all_known row start) (subst (λ (c : List ℕ). walk (drop w.at c) w.at 0 ≡ []) i.same (walks-ended s q))) ∙ i.rest
 
-  module _ {pc op to : ℕ} (q : r ≡ Whole pc op to) where
-    k : Took code at pc op to
-    k = took code at e q
+  module _ {x : Instruction} (q : r ≡ Some x) where
+    k : Took code w.at x.pc x.op x.next
+    k = subst (λ (c : List ℕ). Took c w.at x.pc x.op x.next) i.same (walks-took s q)
 
-    pub knows-less : length code - to < length code - at
-    knows-less = omega (arith, k.size, k.inside)
-
-    here : ((row op).known && (last_at start pc op || known_at code start to)) ≡ known_at code start start
+    here : ((row x.op).known && (last_at start x.pc x.op || known_at code start x.next)) ≡ known_at code start start
     here =
-        ap (λ (a : ℕ). (row op).known && (last_at start a op || known_at code start to)) k.here
+        ap (λ (a : ℕ). (row x.op).known && (last_at start a x.op || known_at code start x.next)) k.here
         ∙ sym (ap (all_known row start) k.walks) ∙ i.rest
 
-    module _ {b : Bool} (g : b ≡ (row op).known) where
+    module _ {b : Bool} (g : b ≡ (row x.op).known) where
       pub knows-unknown : not b ≡ true → false ≡ known_at code start start
-      knows-unknown z = ap (λ (x : Bool). x && (last_at start pc op || known_at code start to)) (sym (off b z) ∙ g) ∙ here
+      knows-unknown z = ap (λ (y : Bool). y && (last_at start x.pc x.op || known_at code start x.next)) (sym (off b z) ∙ g) ∙ here
 
-      module _ (n : not b ≡ false) {l : Bool} (h : l ≡ last_at start pc op) where
-        known_is : true ≡ (row op).known
+      module _ (n : not b ≡ false) {l : Bool} (h : l ≡ last_at start x.pc x.op) where
+        known_is : true ≡ (row x.op).known
         known_is = sym (on b n) ∙ g
 
         pub knows-last : l ≡ true → true ≡ known_at code start start
         knows-last z =
-            ap (λ (x : Bool). true && (x || known_at code start to)) (sym z ∙ h) ∙ ap (λ (x : Bool). x && (last_at start pc op || known_at code start to)) known_is ∙ here
+            ap (λ (y : Bool). true && (y || known_at code start x.next)) (sym z ∙ h) ∙ ap (λ (y : Bool). y && (last_at start x.pc x.op || known_at code start x.next)) known_is ∙ here
 
-        pub knows_on : l ≡ false → Knows code start to
-        knows_on z = record { rest = ap (λ (x : Bool). true && (x || known_at code start to)) (sym z ∙ h) ∙ ap (λ (x : Bool). x && (last_at start pc op || known_at code start to)) known_is ∙ here }
+        pub knows_on : l ≡ false → Knows code start v
+        knows_on z =
+            rw (walks-next s q) (record {
+              same = i.same;
+              rest = ap (λ (y : Bool). true && (y || known_at code start x.next)) (sym z ∙ h) ∙ ap (λ (y : Bool). y && (last_at start x.pc x.op || known_at code start x.next)) known_is ∙ here;
+            })
 
 -- ---- is_sound
 

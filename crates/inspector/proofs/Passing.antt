@@ -10,6 +10,7 @@ use lib.Dec.{eqb, ltb}
 use lib.ListN.{length, take, drop}
 use lib.Seq.{drop-cons}
 use borrow.Author.Tests.{eq-eqb, ne_eqb, ltb-true}
+use Rattle.std.specs.Prelude.{Result, Ok, Err}
 use Rattle.spec.specs.Lists.{if}
 use Rattle.spec.specs.Opcodes.{row, in_mode}
 use Rattle.spec.specs.Stacks.{Sym, jumpdest, other, through, own, eq_sym}
@@ -29,8 +30,6 @@ use Rattle.inspector.specs.Tables.{Tables, Filled, Between, Joined}
 use Rattle.inspector.specs.Symbols.{Lent, step, taken_of, Taken, Looks, Looked}
 use Rattle.inspector.specs.Judging.{path_in, place_of, rest_of, InPath, Begins, Along, Judged}
 use Rattle.inspector.specs.declared.path.Path.{Path}
-use Rattle.inspector.specs.declared.path.Place.{Place}
-use Rattle.inspector.specs.declared.path.Place.TheVariants.{Right, Fails}
 use Rattle.inspector.proofs.Seeking.{off, on, edge_is}
 use Rattle.inspector.proofs.Tabling.{tables-run, tables-lent, filled-same, filled-then}
 
@@ -112,7 +111,7 @@ module _ {mode : ℕ} {b code w₀ : List ℕ} {p : Path} {first : ℕ} {symbol 
         → o ≡ rest_of mode code (map_in b) p.to first (sym_of symbol) (drop 1 (path_in b p)) 1
     here o q = sym q ∙ ap (λ (bs : List ℕ). rest_of mode code (map_in b) p.to last (sym_of x) bs i) (sym (path-here h i l g)) ∙ k.rest
 
-    pub passed-unsound : not s ≡ true → Along mode b code w₀ p first symbol w (Fails i)
+    pub passed-unsound : not s ≡ true → Along mode b code w₀ p first symbol w (Err i)
     passed-unsound z = record {
       is = ap place_of (here (some i) (rest-fails mode code (map_in b) p.to last (sym_of x) a (drop (i + 1) (path_in b p)) i (rw (sym e ∙ off s z))));
       filled = k.filled;
@@ -129,7 +128,7 @@ module _ {mode : ℕ} {b code w₀ : List ℕ} {p : Path} {first : ℕ} {symbol 
         edge-there : r ≡ edge? (map_in b) last a
         edge-there = j.is ∙ edge_is k.ready last a
 
-        pub passed-unjoined : not r ≡ true → Along mode b code w₀ p first symbol w₁ (Fails i)
+        pub passed-unjoined : not r ≡ true → Along mode b code w₀ p first symbol w₁ (Err i)
         passed-unjoined z = record {
           is = ap place_of (here (some i) (rest-fails mode code (map_in b) p.to last (sym_of x) a (drop (i + 1) (path_in b p)) i (rw (sound-there, sym edge-there ∙ off r z))));
           filled = filled-then k.filled j.filled;
@@ -157,10 +156,10 @@ module _ {mode : ℕ} {b code w₀ : List ℕ} {p : Path} {first : ℕ} {symbol 
         ap (λ (c : Bool). if c none (some 0)) e ∙ sym (rest-none mode code (map_in b) p.to last (sym_of x) i)
         ∙ ap (λ (bs : List ℕ). rest_of mode code (map_in b) p.to last (sym_of x) bs i) (sym (path-over h i l)) ∙ k.rest
 
-    pub along-right : r ≡ true → Along mode b code w₀ p first symbol w Right
+    pub along-right : r ≡ true → Along mode b code w₀ p first symbol w (Ok tt)
     along-right z = record { is = ap place_of (sym (if-true r none (some 0) z) ∙ at-end); filled = k.filled }
 
-    pub along-wrong : r ≡ false → Along mode b code w₀ p first symbol w (Fails 0)
+    pub along-wrong : r ≡ false → Along mode b code w₀ p first symbol w (Err 0)
     along-wrong n = record { is = ap place_of (sym (if-false r none (some 0) n) ∙ at-end); filled = k.filled }
 
 -- ---- judge
@@ -175,7 +174,7 @@ the-fault : ℕ → List ℕ → List ℕ → ℕ → Path → List ℕ → Opti
 the-fault mode code b owner p bs = fault (in_mode mode) code (map_in b) owner bs p.to
 
 module _ (mode : ℕ) {b code w : List ℕ} (owner : ℕ) {p : Path} (t : Tables b code w) (h : InPath b p) where
-  pub judged-empty : p.count ≡ 0 → Judged mode b code w owner p w (Fails 0)
+  pub judged-empty : p.count ≡ 0 → Judged mode b code w owner p w (Err 0)
   unfolding the-fault fault first_failing if
   judged-empty e = record { is = ap (λ (bs : List ℕ). place_of (the-fault mode code b owner p bs)) (sym (path-over h 0 (omega arith))); filled = filled-same t }
 
@@ -183,7 +182,7 @@ module _ (mode : ℕ) {b code w : List ℕ} (owner : ℕ) {p : Path} (t : Tables
     first-there : path_in b p ≡ a ∷ drop 1 (path_in b p)
     first-there = path-here h 0 (omega arith) g
 
-    fails-first : sound row code a && eqb owner a ≡ false → Judged mode b code w owner p w (Fails 0)
+    fails-first : sound row code a && eqb owner a ≡ false → Judged mode b code w owner p w (Err 0)
     unfolding the-fault fault first_failing
     fails-first z = record {
       is = sym (ap (λ (bs : List ℕ). place_of (the-fault mode code b owner p bs)) first-there
@@ -191,14 +190,14 @@ module _ (mode : ℕ) {b code w : List ℕ} (owner : ℕ) {p : Path} (t : Tables
       filled = filled-same t;
     }
 
-    pub judged-unsound : not s ≡ true → Judged mode b code w owner p w (Fails 0)
+    pub judged-unsound : not s ≡ true → Judged mode b code w owner p w (Err 0)
     judged-unsound z = fails-first (rw (sym e ∙ off s z))
 
     module _ (m : not s ≡ false) where
       sound-here : sound row code a ≡ true
       sound-here = sym e ∙ on s m
 
-      pub judged-other : (owner ≡ a → ⊥) → Judged mode b code w owner p w (Fails 0)
+      pub judged-other : (owner ≡ a → ⊥) → Judged mode b code w owner p w (Err 0)
       judged-other o = fails-first (rw (sound-here, ne_eqb owner a o))
 
       module _ (o : owner ≡ a) {w₁ : List ℕ} {x : StackSym} (d : Taken mode code w a w₁ x) where
@@ -211,7 +210,7 @@ module _ (mode : ℕ) {b code w : List ℕ} (owner : ℕ) {p : Path} (t : Tables
         arrives-taken none bs = rw (looked-none bs)
         arrives-taken (some y) bs = refl
 
-        pub judged-along : {w₂ : List ℕ} {r : Place} → Along mode b code w₁ p a x w₂ r → Judged mode b code w owner p w₂ r
+        pub judged-along : {w₂ : List ℕ} {r : Result Unit ℕ} → Along mode b code w₁ p a x w₂ r → Judged mode b code w owner p w₂ r
         unfolding the-fault fault first_failing rest_of
         judged-along {w₂} {r} k = record {
           is = k.is ∙ ap place_of (sym (ap (the-fault mode code b owner p) first-there

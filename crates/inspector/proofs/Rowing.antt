@@ -10,6 +10,7 @@ use lib.Dec.{leb}
 use lib.ListN.{length, take, drop, take-append-drop, length-drop}
 use lib.Seq.{drop-drop}
 use borrow.Author.Tests.{leb-true, leb-false, le-leb, lt-leb}
+use Rattle.std.specs.Prelude.{Result, Ok, Err}
 use Rattle.spec.specs.Lists.{little}
 use Rattle.spec.specs.Inspector.{WrongPath, first_of, rows}
 use Rattle.laws.proofs.Branch.{if-true, if-false}
@@ -20,8 +21,7 @@ use Rattle.reader.specs.Walks.{Walking}
 use Rattle.inspector.specs.Tables.{Tables, Filled}
 use Rattle.inspector.specs.Entries.{wrong_since, wrong_in, LooksAt}
 use Rattle.inspector.specs.Listing.{rows_at, Rowed, Rest, Listed}
-use Rattle.inspector.specs.declared.entries.Finding.{Finding}
-use Rattle.inspector.specs.declared.entries.Finding.TheVariants.{Right, Wrong}
+use Rattle.inspector.specs.declared.entries.Wrong.{Wrong}
 use Rattle.inspector.proofs.Seeking.{off, on}
 use Rattle.inspector.proofs.Tabling.{filled-same, filled-then}
 
@@ -94,8 +94,8 @@ module _ {mode : ℕ} {b code : List ℕ} {lo start owner : ℕ} {w₀ rs₀ w r
   pub rest-within : at ≤ length rs
   rest-within = k.within
 
-  module _ {w₁ : List ℕ} {r : Finding} (f : LooksAt mode b code lo to block w w₁ r) where
-    pub rest_over : r ≡ Right → Rest mode b code lo start owner w₀ rs₀ w₁ rs
+  module _ {w₁ : List ℕ} {r : Result Unit Wrong} (f : LooksAt mode b code lo to block w w₁ r) where
+    pub rest_over : r ≡ Ok tt → Rest mode b code lo start owner w₀ rs₀ w₁ rs
     rest_over q = record {
       are = sym (ap (λ (c : List ℕ). take at rs ++ c) (rows_none (drop at rs)) ∙ take-append-drop at rs)
           ∙ ap (rows_at rs at) (sym (f.is ∙ ap (wrong_in mode b code lo) q)) ∙ k.same;
@@ -103,17 +103,17 @@ module _ {mode : ℕ} {b code : List ℕ} {lo start owner : ℕ} {w₀ rs₀ w r
       filled = filled-then k.filled f.filled;
     }
 
-    module _ {o p to₁ own : ℕ} (q : r ≡ Wrong o p to₁ own) where
-      wrong-is : wrong_since mode b code lo block to ≡ record { offset = o; place = p } ∷ wrong_since mode b code lo own to₁
+    module _ {x : Wrong} (q : r ≡ Err x) where
+      wrong-is : wrong_since mode b code lo block to ≡ record { offset = x.offset; place = x.place } ∷ wrong_since mode b code lo x.owner x.behind
       wrong-is = f.is ∙ ap (wrong_in mode b code lo) q
 
-      pub rest-less : length b - to₁ < length b - to
+      pub rest-less : length b - x.behind < length b - to
       rest-less = f.less q
 
-      module _ {rs₁ : List ℕ} {more : Bool} (g : Rowed rs at o p rs₁ more) where
+      module _ {rs₁ : List ℕ} {more : Bool} (g : Rowed rs at x.offset x.place rs₁ more) where
         pub rest-full : not more ≡ true → Rest mode b code lo start owner w₀ rs₀ w₁ rs₁
         rest-full n = record {
-          are = g.full (off more n) (wrong_since mode b code lo own to₁) ∙ ap (rows_at rs at) (sym wrong-is) ∙ k.same;
+          are = g.full (off more n) (wrong_since mode b code lo x.owner x.behind) ∙ ap (rows_at rs at) (sym wrong-is) ∙ k.same;
           kept = g.kept ∙ k.long;
           filled = filled-then k.filled f.filled;
         }
@@ -122,35 +122,35 @@ module _ {mode : ℕ} {b code : List ℕ} {lo start owner : ℕ} {w₀ rs₀ w r
           pub rest_sum : Fits w64 (at + 16)
           rest_sum = omega (arith, g.fits (on more n))
 
-          pub rest-on : Resting mode b code lo start owner w₀ rs₀ w₁ rs₁ to₁ own (at + 16)
+          pub rest-on : Resting mode b code lo start owner w₀ rs₀ w₁ rs₁ x.behind x.owner (at + 16)
           rest-on = record {
             walking = f.walking q;
             filled = filled-then k.filled f.filled;
-            same = g.on (on more n) (wrong_since mode b code lo own to₁) ∙ ap (rows_at rs at) (sym wrong-is) ∙ k.same;
+            same = g.on (on more n) (wrong_since mode b code lo x.owner x.behind) ∙ ap (rows_at rs at) (sym wrong-is) ∙ k.same;
             long = g.kept ∙ k.long;
             within = omega (arith, g.room (on more n), g.kept);
           }
 
 -- ---- listed
 
-module _ {mode : ℕ} {b code : List ℕ} {lo : ℕ} {w rs w₁ : List ℕ} {r : Finding} (f : LooksAt mode b code lo 0 0 w w₁ r) where
-  pub listed-none : r ≡ Right → Listed mode b code lo w rs w₁ rs Right
+module _ {mode : ℕ} {b code : List ℕ} {lo : ℕ} {w rs w₁ : List ℕ} {r : Result Unit Wrong} (f : LooksAt mode b code lo 0 0 w w₁ r) where
+  pub listed-none : r ≡ Ok tt → Listed mode b code lo w rs w₁ rs (Ok tt)
   listed-none q =
       let none-there = f.is ∙ ap (wrong_in mode b code lo) q in
       record { is = ap first_of none-there; are = sym (ap (λ (xs : List WrongPath). rows xs rs) none-there ∙ rows_none rs); filled = f.filled }
 
-  module _ {o p to own : ℕ} (q : r ≡ Wrong o p to own) {rs₁ : List ℕ} {more : Bool} (g : Rowed rs 0 o p rs₁ more) where
-    some_there : wrong_since mode b code lo 0 0 ≡ record { offset = o; place = p } ∷ wrong_since mode b code lo own to
+  module _ {x : Wrong} (q : r ≡ Err x) {rs₁ : List ℕ} {more : Bool} (g : Rowed rs 0 x.offset x.place rs₁ more) where
+    some_there : wrong_since mode b code lo 0 0 ≡ record { offset = x.offset; place = x.place } ∷ wrong_since mode b code lo x.owner x.behind
     some_there = f.is ∙ ap (wrong_in mode b code lo) q
 
-    pub listed-full : not more ≡ true → Listed mode b code lo w rs w₁ rs₁ (Wrong o p to own)
+    pub listed-full : not more ≡ true → Listed mode b code lo w rs w₁ rs₁ (Err x)
     listed-full n = record {
       is = ap first_of some_there;
-      are = g.full (off more n) (wrong_since mode b code lo own to) ∙ ap (λ (xs : List WrongPath). rows xs rs) (sym some_there);
+      are = g.full (off more n) (wrong_since mode b code lo x.owner x.behind) ∙ ap (λ (xs : List WrongPath). rows xs rs) (sym some_there);
       filled = f.filled;
     }
 
-    pub listed-walking : Walking b to
+    pub listed-walking : Walking b x.behind
     listed-walking = f.walking q
 
     pub listed-tables : Tables b code w₁
@@ -160,9 +160,9 @@ module _ {mode : ℕ} {b code : List ℕ} {lo : ℕ} {w rs w₁ : List ℕ} {r :
       pub listed-room : 16 ≤ length rs₁
       listed-room = omega (arith, g.room (on more n), g.kept)
 
-      pub listed-all : {w₂ rs₂ : List ℕ} → Rest mode b code lo to own w₁ rs₁ w₂ rs₂ → Listed mode b code lo w rs w₂ rs₂ (Wrong o p to own)
+      pub listed-all : {w₂ rs₂ : List ℕ} → Rest mode b code lo x.behind x.owner w₁ rs₁ w₂ rs₂ → Listed mode b code lo w rs w₂ rs₂ (Err x)
       listed-all h = record {
         is = ap first_of some_there;
-        are = h.are ∙ g.on (on more n) (wrong_since mode b code lo own to) ∙ ap (λ (xs : List WrongPath). rows xs rs) (sym some_there);
+        are = h.are ∙ g.on (on more n) (wrong_since mode b code lo x.owner x.behind) ∙ ap (λ (xs : List WrongPath). rows xs rs) (sym some_there);
         filled = filled-then f.filled h.filled;
       }

@@ -6,7 +6,8 @@ use mathlib.Core.Bool.{Bool, true, false, ◌&&◌, ◌||◌, not}
 use mathlib.Core.List.{List, [], ◌∷◌}
 use lib.Dec.{eqb, leb}
 use lib.ListN.{length}
-use borrow.Author.Tests.{eq-eqb, ne_eqb, eqb-true, leb-true}
+use borrow.Author.Tests.{ne_eqb, eqb-true, leb-true}
+use Rattle.std.specs.Prelude.{Option as Maybe, Some, None, Result, Ok, Err}
 use Rattle.spec.specs.Lists.{if, mem, some?}
 use Rattle.spec.specs.Blocks.{jumpi}
 use Rattle.spec.specs.Search.{sides, dest, dests}
@@ -23,12 +24,10 @@ use Rattle.theorems.proofs.Answered.{finals-at}
 use Rattle.reader.specs.Dests.{found_of}
 use Rattle.reader.specs.Shapes.{from, entry_at, behind_at, item_of}
 use Rattle.reader.specs.Walks.{walk_at, items_from, Walking, over, here}
-use Rattle.reader.specs.declared.dest.Destination.{Destination}
-use Rattle.reader.specs.declared.dest.Destination.TheVariants.{Missing, At}
 use Rattle.reader.specs.declared.entry.Entry.{Entry}
-use Rattle.reader.specs.declared.entry.Entry.TheVariants.{Head, Terminate, Jump, Jumpi, DynamicJump, DynamicJumpi, Way, Record, Unknown, Wrong, Cut}
-use Rattle.reader.specs.declared.walk.Walk.{Walk}
-use Rattle.reader.specs.declared.walk.Walk.TheVariants.{Here, Over}
+use Rattle.reader.specs.declared.entry.Entry.TheVariants.{Head, Terminate, Jump, Jumpi, DynamicJump, DynamicJumpi, Way, Record}
+use Rattle.reader.specs.declared.entry.Fault.{Fault}
+use Rattle.reader.specs.declared.walk.Step.{Step}
 use Rattle.reader.proofs.Walked.{begins, Steps, stepping, ended}
 use Rattle.inspector.specs.Edges.{held_in, map_in, Ready, edge_among, edge_from, edge_in, sight_by, sight_of, Stands, Sought}
 use Rattle.inspector.specs.declared.seek.Sight.{Sight}
@@ -46,8 +45,6 @@ ready b m e = record { held = e ∙ ap holds (sym (holds-map b m e)) }
 pub ready-walks : {b : List ℕ} → Ready b → Walking b 0
 ready-walks {b} y = (begins b (map_in b) y.held).walking
 
--- ---- sight_by, one, either, seven
-
 -- a test that is negated
 pub off : (b : Bool) → not b ≡ true → b ≡ false
 off true e = sym e
@@ -57,54 +54,9 @@ pub on : (b : Bool) → not b ≡ false → b ≡ true
 on true e = refl
 on false e = sym e
 
-pub no_own : (own leads : Bool) → not own ≡ true → Other ≡ sight_by own leads
-no_own own leads n = rw (off own n)
-
-pub has-edge : (own leads : Bool) → not own ≡ false → leads ≡ true → Edge ≡ sight_by own leads
-has-edge own leads n e = rw (on own n, e)
-
-pub is-own : (own leads : Bool) → not own ≡ false → leads ≡ false → Own ≡ sight_by own leads
-is-own own leads n e = rw (on own n, e)
-
 or-false : (b : Bool) → b || false ≡ b
 or-false true = refl
 or-false false = refl
-
-pub one_side : (to side : ℕ) → eqb to side ≡ mem to (side ∷ [])
-one_side to side = sym (or-false (eqb to side))
-
-pub first-side : (to t f : ℕ) → to ≡ t → true ≡ mem to (t ∷ f ∷ [])
-first-side to t f e = rw (eq-eqb to t e)
-
-pub second-side : (to t f : ℕ) → (to ≡ t → ⊥) → eqb to f ≡ mem to (t ∷ f ∷ [])
-second-side to t f n = rw (ne_eqb to t n) (sym (or-false (eqb to f)))
-
-pub seven-missing : (to : ℕ) {d : Destination} → d ≡ Missing → false ≡ mem to (dest (found_of d))
-seven-missing to e = rw e
-
-pub seven-found : (to : ℕ) {d : Destination} {t : ℕ} → d ≡ At t → eqb to t ≡ mem to (dest (found_of d))
-seven-found to {t = t} e = rw e (sym (or-false (eqb to t)))
-
--- ---- sight_of
-
-module _ {e : Entry} (mine : Bool) (y x : ℕ) {s d : ℕ} {r : Sight} where
-  pub sight-terminate : {ok : ℕ} → e ≡ Terminate s d ok → r ≡ sight_by (eqb y s) false → r ≡ sight_of e mine y x
-  sight-terminate q k = rw q k
-
-  pub sight-jump : {t : ℕ} {l : Bool} → e ≡ Jump s d t → l ≡ mem x (t ∷ []) → r ≡ sight_by (eqb y s) l → r ≡ sight_of e mine y x
-  sight-jump q g k = rw (q, ← g) k
-
-  pub sight-jumpi : {t f : ℕ} {l : Bool} → e ≡ Jumpi s d t f → l ≡ mem x (t ∷ f ∷ []) → r ≡ sight_by (eqb y s) l → r ≡ sight_of e mine y x
-  sight-jumpi q g k = rw (q, ← g) k
-
-  pub sight-dynamic_jump : {n : ℕ} → e ≡ DynamicJump s d n → r ≡ sight_by (eqb y s) false → r ≡ sight_of e mine y x
-  sight-dynamic_jump q k = rw q k
-
-  pub sight-dynamic_jumpi : {f n : ℕ} {l : Bool} → e ≡ DynamicJumpi s d f n → l ≡ mem x (f ∷ []) → r ≡ sight_by (eqb y s) l → r ≡ sight_of e mine y x
-  sight-dynamic_jumpi q g k = rw (q, ← g) k
-
-pub sight-way : {e : Entry} (mine : Bool) (y x : ℕ) {t : Destination} {path n : ℕ} {r : Sight} {l : Bool} → e ≡ Way t path n → l ≡ mem x (dest (found_of t)) → r ≡ sight_by mine l → r ≡ sight_of e mine y x
-sight-way mine y x q g k = rw (q, ← g) k
 
 -- ---- one entry
 
@@ -132,34 +84,34 @@ module _ (x y : ℕ) (is : List Item) where
   by-sight true false = refl
   by-sight false leads = refl
 
-  pub edge-step : (b : List ℕ) (e : Entry) (mine : Bool) → edge_among x y mine (item_of b e ∷ is) ≡ goes_on x y is (sight_of e mine y x)
+  pub edge-step : (b : List ℕ) (e : Result Entry Fault) (mine : Bool) → edge_among x y mine (item_of b e ∷ is) ≡ goes_on x y is (sight_of e mine y x)
   unfolding edge_among
-  edge-step b (Terminate s d ok) mine = by-sight (eqb y s) false
-  edge-step b (Jump s d t) mine = by-sight (eqb y s) (mem x (t ∷ []))
-  edge-step b (Jumpi s d t f) mine = ap (λ (z : Bool). (eqb y s && z) || edge_among x y (eqb y s) is) (mem-sides x t f) ∙ by-sight (eqb y s) (mem x (t ∷ f ∷ []))
-  edge-step b (DynamicJump s d n) mine = by-sight (eqb y s) false
-  edge-step b (DynamicJumpi s d f n) mine = by-sight (eqb y s) (mem x (f ∷ []))
-  edge-step b (Way t path n) mine = by-sight mine (mem x (dest (found_of t)))
-  edge-step b (Head size n m energy) mine = refl
-  edge-step b (Record s t form v path n) mine = refl
-  edge-step b Unknown mine = refl
-  edge-step b Wrong mine = refl
-  edge-step b Cut mine = refl
+  edge-step b (Ok (Terminate s d ok)) mine = by-sight (eqb y s) false
+  edge-step b (Ok (Jump s d t)) mine = by-sight (eqb y s) (mem x (t ∷ []))
+  edge-step b (Ok (Jumpi s d t f)) mine = ap (λ (z : Bool). (eqb y s && z) || edge_among x y (eqb y s) is) (mem-sides x t f) ∙ by-sight (eqb y s) (mem x (t ∷ f ∷ []))
+  edge-step b (Ok (DynamicJump s d n)) mine = by-sight (eqb y s) false
+  edge-step b (Ok (DynamicJumpi s d f n)) mine = by-sight (eqb y s) (mem x (f ∷ []))
+  edge-step b (Ok (Way t path n)) mine = by-sight mine (mem x (dest (found_of t)))
+  edge-step b (Ok (Head size n m energy)) mine = refl
+  edge-step b (Ok (Record s t v path n)) mine = refl
+  edge-step b (Err fault) mine = refl
 
 -- what a step of the walk has found
-pub walk_here : (b : List ℕ) (at : ℕ) {r : Walk} → r ≡ walk_at b at → {e : Entry} {to : ℕ} → r ≡ Here e to → (e ≡ entry_at b at) × (to ≡ behind_at b at)
+pub walk_here : (b : List ℕ) (at : ℕ) {r : Maybe Step} → r ≡ walk_at b at → {t : Step} → r ≡ Some t → (t.entry ≡ entry_at b at) × (t.behind ≡ behind_at b at)
 unfolding walk_at
-walk_here b at {r} h {e} {to} q =
-    both (λ (x : Walk). r ≡ x → (e ≡ entry_at b at) × (to ≡ behind_at b at)) (leb (length b) at)
-    (λ _ (k : r ≡ Over). never (cc))
-    (λ _ (k : r ≡ Here (entry_at b at) (behind_at b at)). (cc, cc)) h
+walk_here b at {r} h {t} q =
+    both (λ (x : Maybe Step). r ≡ x → (t.entry ≡ entry_at b at) × (t.behind ≡ behind_at b at)) (leb (length b) at)
+    (λ _ (k : r ≡ None). never (cc))
+    (λ _ k.
+    let g : t ≡ record { entry = entry_at b at; behind = behind_at b at } = cc in
+    (ap (λ (x : Step). x.entry) g, ap (λ (x : Step). x.behind) g)) h
 
-pub walk_end : (b : List ℕ) (at : ℕ) → Walking b at → {r : Walk} → r ≡ walk_at b at → r ≡ Over → at ≡ length b
+pub walk_end : (b : List ℕ) (at : ℕ) → Walking b at → {r : Maybe Step} → r ≡ walk_at b at → r ≡ None → at ≡ length b
 unfolding walk_at
 walk_end b at w {r} h q =
-    both (λ (x : Walk). r ≡ x → at ≡ length b) (leb (length b) at)
+    both (λ (x : Maybe Step). r ≡ x → at ≡ length b) (leb (length b) at)
     (λ z _. by-walk w (leb-true (length b) at z))
-    (λ _ (k : r ≡ Here (entry_at b at) (behind_at b at)). never (cc)) h
+    (λ _ (k : r ≡ Some (record { entry = entry_at b at; behind = behind_at b at })). never (cc)) h
   where
     by-walk : Walking b at → length b ≤ at → at ≡ length b
     by-walk (over z) l = z
@@ -199,50 +151,50 @@ pub record Seeking (b : List ℕ) (x y start at : ℕ) (mine : Bool) : Type 0 wh
 pub seek-start : {b : List ℕ} {x y start : ℕ} → Stands b y start → Seeking b x y start start false
 seek-start {x = x} s = record { stands = s; walking = s.walking; rest = s.same x; fresh = λ _. refl; lone = λ z. never (cc) }
 
-module _ {b : List ℕ} {x y start at : ℕ} {mine : Bool} (i : Seeking b x y start at mine) {r : Walk} (h : r ≡ walk_at b at) where
-  pub seek-over : r ≡ Over → Sought b x y false
+module _ {b : List ℕ} {x y start at : ℕ} {mine : Bool} (i : Seeking b x y start at mine) {r : Maybe Step} (h : r ≡ walk_at b at) where
+  pub seek-over : r ≡ None → Sought b x y false
   unfolding edge_among
   seek-over q = record { is = sym (ap (edge_among x y mine) (ended i.walking h q)) ∙ i.rest }
 
-  module _ {e : Entry} {to : ℕ} (q : r ≡ Here e to) {s : Sight} (k : s ≡ sight_of e mine y x) where
-    step : Steps b at e to
+  module _ {t : Step} (q : r ≡ Some t) {s : Sight} (k : s ≡ sight_of t.entry mine y x) where
+    step : Steps b at t.entry t.behind
     step = stepping i.walking h q
 
-    here-is : (e ≡ entry_at b at) × (to ≡ behind_at b at)
+    here-is : (t.entry ≡ entry_at b at) × (t.behind ≡ behind_at b at)
     here-is = walk_here b at h q
 
-    there : goes_on x y (items_from b to) s ≡ edge_in b x y
-    there = ap (goes_on x y (items_from b to)) k ∙ sym (edge-step x y (items_from b to) b e mine) ∙ ap (edge_among x y mine) (sym step.item) ∙ i.rest
+    there : goes_on x y (items_from b t.behind) s ≡ edge_in b x y
+    there = ap (goes_on x y (items_from b t.behind)) k ∙ sym (edge-step x y (items_from b t.behind) b t.entry mine) ∙ ap (edge_among x y mine) (sym step.item) ∙ i.rest
 
-    pub seek-less : length b - to < length b - at
+    pub seek-less : length b - t.behind < length b - at
     seek-less = omega (arith, step.on, step.inside)
 
     pub seek-edge : s ≡ Edge → Sought b x y true
-    seek-edge z = record { is = ap (goes_on x y (items_from b to)) (sym z) ∙ there }
+    seek-edge z = record { is = ap (goes_on x y (items_from b t.behind)) (sym z) ∙ there }
 
     -- nothing of y stands behind this entry, but its own 7s
-    lone-on : (c : Bool) → mine ≡ c → edge_from b x y false to ≡ false
-    lone-on true m = none_more (edge_from b x y false to) refl
+    lone-on : (c : Bool) → mine ≡ c → edge_from b x y false t.behind ≡ false
+    lone-on true m = none_more (edge_from b x y false t.behind) refl
       where
-        none_more : (d : Bool) → edge_from b x y false to ≡ d → edge_from b x y false to ≡ false
+        none_more : (d : Bool) → edge_from b x y false t.behind ≡ d → edge_from b x y false t.behind ≡ false
         none_more false e₁ = e₁
         none_more true e₁ =
-            let z : edge_from b x y false at ≡ true = ap (edge_among x y false) step.item ∙ edge_more x y false (item_of b e) (items_from b to) e₁ in
+            let z : edge_from b x y false at ≡ true = ap (edge_among x y false) step.item ∙ edge_more x y false (item_of b t.entry) (items_from b t.behind) e₁ in
             let w : edge_from b x y false at ≡ false = i.lone m in
             never (cc)
     lone-on false m = subst (λ (n : ℕ). edge_from b x y false n ≡ false) (sym (here-is.1 ∙ ap (behind_at b) (i.fresh m))) (i.stands.lone x)
 
-    pub seek-own : s ≡ Own → Seeking b x y start to true
+    pub seek-own : s ≡ Own → Seeking b x y start t.behind true
     seek-own z = record {
       stands = i.stands;
       walking = step.walking;
-      rest = ap (goes_on x y (items_from b to)) (sym z) ∙ there;
+      rest = ap (goes_on x y (items_from b t.behind)) (sym z) ∙ there;
       fresh = λ z. never (cc);
       lone = λ _. lone-on mine refl;
     }
 
     pub seek-other : s ≡ Other → Sought b x y false
-    seek-other z = record { is = sym (lone-on mine refl) ∙ ap (goes_on x y (items_from b to)) (sym z) ∙ there }
+    seek-other z = record { is = sym (lone-on mine refl) ∙ ap (goes_on x y (items_from b t.behind)) (sym z) ∙ there }
 
 -- ---- the definition's edges
 

@@ -11,6 +11,7 @@ use mir.Val.{Fits}
 use lib.Dec.{eqb}
 use lib.ListN.{length, replicate, length-replicate}
 use borrow.Author.Tests.{eqb-true, eqb-false}
+use Rattle.std.specs.Prelude.{Option as Maybe, Some, None, SomeIff}
 use Rattle.spec.specs.Lists.{little}
 use Rattle.spec.specs.Rooms.{work_need}
 use Rattle.spec.specs.Forms.{wide_in}
@@ -22,7 +23,7 @@ use Rattle.exec.specs.Owns.{room_of, Inside}
 use Rattle.reader.specs.Walks.{items_from}
 use Rattle.reader.proofs.Onward.{from_end}
 use Rattle.inspector.specs.Edges.{edge_among, edge_in, Stands, Sought, pair_of}
-use Rattle.inspector.specs.Tables.{Slot, TablesTo, Tables, Filled, Noted, Between, Joined}
+use Rattle.inspector.specs.Tables.{Slot, TablesTo, Tables, Filled, Between, Joined}
 use Rattle.inspector.specs.Symbols.{Lent}
 use Rattle.inspector.proofs.Seeking.{off, on}
 
@@ -87,12 +88,25 @@ module _ {b code w : List ℕ} {from : ℕ} (t : Tables b code w) (h : from < le
   near_fits = omega (arith, t.room)
 
   module _ {v : ℕ} (g : Holds 8 w (8 * from) v) where
-    pub near_none : {to : ℕ} → v ≡ 0 → Sought b to from false
+    none-there : (to : ℕ) → v ≡ 0 → Sought b to from false
     unfolding edge_among items_from items
-    near_none {to} z = record { is = sym (ap (λ (l : List Piece). edge_among to from false (items (wide_in b) l)) (from_end b (length b) (le_refl (length b)))) ∙ (t.slots from (omega arith)).none h (sym g.is ∙ z) to }
+    none-there to z = record { is = sym (ap (λ (l : List Piece). edge_among to from false (items (wide_in b) l)) (from_end b (length b) (le_refl (length b)))) ∙ (t.slots from (omega arith)).none h (sym g.is ∙ z) to }
 
-    pub near-stands : (v ≡ 0 → ⊥) → Stands b from (v - 1)
-    near-stands n = subst (λ (x : ℕ). Stands b from (x - 1)) (sym g.is) ((t.slots from (omega arith)).block h (λ e. n (g.is ∙ e)))
+    stands-there : (v ≡ 0 → ⊥) → Stands b from (v - 1)
+    stands-there n = subst (λ (x : ℕ). Stands b from (x - 1)) (sym g.is) ((t.slots from (omega arith)).block h (λ e. n (g.is ∙ e)))
+
+    module _ {o : Maybe ℕ} (less : SomeIff o (1 ≤ v) (v - 1)) where
+      less_none : o ≡ None → v ≡ 0
+      less_none e = let n : 1 ≤ v → ⊥ = subst (λ (p : Maybe ℕ). SomeIff p (1 ≤ v) (v - 1)) e less in omega arith
+
+      less-some : {i : ℕ} → o ≡ Some i → v ≡ i + 1
+      less-some e = let s = subst (λ (p : Maybe ℕ). SomeIff p (1 ≤ v) (v - 1)) e less in omega (arith, s.0, s.1)
+
+      pub near_none : (to : ℕ) → o ≡ None → Sought b to from false
+      near_none to e = none-there to (less_none e)
+
+      pub near-stands : {i : ℕ} → o ≡ Some i → Stands b from i
+      near-stands {i} e = subst (Stands b from) (omega (arith, less-some e)) (stands-there (λ z. absurd (omega (arith, less-some e))))
 
 -- ---- joined
 
@@ -137,14 +151,3 @@ module _ {b code w : List ℕ} {from to : ℕ} (t : Tables b code w) (h : Betwee
             let p : to ≡ x = omega (arith, h.small) in
             let q : from ≡ y = omega (arith, h.small) in
             subst (λ (a : ℕ). edge_in b a y ≡ true) p (subst (λ (a : ℕ). edge_in b to a ≡ true) q (sym g.is ∙ on r z))
-
--- ---- note
-
-pub note-there : {code w : List ℕ} {start at : ℕ} → start < length code → {w₁ : List ℕ} → Stored 8 w (8 * start) (little 8 (at + 1)) w₁ → Noted code w start at w₁
-note-there h s = record { there = λ _. s; past = λ l. absurd (omega arith) }
-
-pub note-past : {code w : List ℕ} {start at : ℕ} → length code ≤ start → Noted code w start at w
-note-past h = record { there = λ l. absurd (omega arith); past = λ _. refl }
-
-pub note-fits : {code w : List ℕ} {start : ℕ} → Lent code w → start < length code → 8 * start + 8 ≤ length w
-note-fits t h = omega (arith, t.room)

@@ -1,5 +1,5 @@
 -- The edges of a stored map, as they stand in its bytes, an entry after the other. Assumes nothing.
-use Rattle.std.specs.Prelude.{ℕ, ◌+◌, ◌*◌, ◌≡◌, Bool, true, false, ◌&&◌, ◌||◌, List, [], ◌∷◌, eqb}
+use Rattle.std.specs.Prelude.{ℕ, ◌+◌, ◌*◌, ◌≡◌, Bool, true, false, ◌&&◌, ◌||◌, List, [], ◌∷◌, eqb, Result, Ok, Err}
 use Rattle.spec.specs.Lists.{mem}
 use Rattle.spec.specs.Search.{sides, dest}
 use Rattle.spec.specs.Entries.{Map}
@@ -8,7 +8,8 @@ use Rattle.reader.specs.Dests.{found_of}
 use Rattle.reader.specs.Shapes.{behind_at, entry_at}
 use Rattle.reader.specs.Walks.{items_from, Walking}
 use Rattle.reader.specs.declared.entry.Entry.{Entry}
-use Rattle.reader.specs.declared.entry.Entry.TheVariants.{Head, Terminate, Jump, Jumpi, DynamicJump, DynamicJumpi, Way, Record, Unknown, Wrong, Cut}
+use Rattle.reader.specs.declared.entry.Entry.TheVariants.{Head, Terminate, Jump, Jumpi, DynamicJump, DynamicJumpi, Way, Record}
+use Rattle.reader.specs.declared.entry.Fault.{Fault}
 use Rattle.inspector.specs.declared.seek.Sight.{Sight}
 use Rattle.inspector.specs.declared.seek.Sight.TheVariants.{Edge, Own, Other}
 
@@ -47,18 +48,16 @@ sight_by false leads = Other
 sight_by true true = Edge
 sight_by true false = Own
 
-abbrev pub sight_of : Entry → Bool → ℕ → ℕ → Sight
-sight_of (Terminate s e ok) mine y x = sight_by (eqb y s) false
-sight_of (Jump s e t) mine y x = sight_by (eqb y s) (mem x (t ∷ []))
-sight_of (Jumpi s e t f) mine y x = sight_by (eqb y s) (mem x (t ∷ f ∷ []))
-sight_of (DynamicJump s e n) mine y x = sight_by (eqb y s) false
-sight_of (DynamicJumpi s e f n) mine y x = sight_by (eqb y s) (mem x (f ∷ []))
-sight_of (Way t path n) mine y x = sight_by mine (mem x (dest (found_of t)))
-sight_of (Head size n m energy) mine y x = Other
-sight_of (Record s t form v path n) mine y x = Other
-sight_of Unknown mine y x = Other
-sight_of Wrong mine y x = Other
-sight_of Cut mine y x = Other
+abbrev pub sight_of : Result Entry Fault → Bool → ℕ → ℕ → Sight
+sight_of (Ok (Terminate s e ok)) mine y x = sight_by (eqb y s) false
+sight_of (Ok (Jump s e t)) mine y x = sight_by (eqb y s) (mem x (t ∷ []))
+sight_of (Ok (Jumpi s e t f)) mine y x = sight_by (eqb y s) (mem x (t ∷ f ∷ []))
+sight_of (Ok (DynamicJump s e n)) mine y x = sight_by (eqb y s) false
+sight_of (Ok (DynamicJumpi s e f n)) mine y x = sight_by (eqb y s) (mem x (f ∷ []))
+sight_of (Ok (Way t path n)) mine y x = sight_by mine (mem x (dest (found_of t)))
+sight_of (Ok (Head size n m energy)) mine y x = Other
+sight_of (Ok (Record s t v path n)) mine y x = Other
+sight_of (Err fault) mine y x = Other
 
 -- ---- what is found
 

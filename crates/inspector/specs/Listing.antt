@@ -1,10 +1,9 @@
 -- All path entries that are not right, as rows. Assumes nothing.
-use Rattle.std.specs.Prelude.{ℕ, ◌+◌, ◌^◌, ◌≤◌, ◌<◌, ◌≡◌, Bool, true, false, List, ◌∷◌, ◌++◌, length, take, drop}
+use Rattle.std.specs.Prelude.{ℕ, ◌+◌, ◌^◌, ◌≤◌, ◌<◌, ◌≡◌, Bool, true, false, List, ◌∷◌, ◌++◌, length, take, drop, Result, Ok, Err}
 use Rattle.spec.specs.Inspector.{Inspection, not_right, accepted, WrongPath, first_of, rows}
 use Rattle.inspector.specs.Tables.{Filled}
 use Rattle.inspector.specs.Entries.{wrong_since}
-use Rattle.inspector.specs.declared.entries.Finding.{Finding}
-use Rattle.inspector.specs.declared.entries.Finding.TheVariants as finding
+use Rattle.inspector.specs.declared.entries.Wrong.{Wrong}
 
 -- rows from a place on
 abbrev pub rows_at : List ℕ → ℕ → List WrongPath → List ℕ
@@ -23,11 +22,11 @@ pub record Rest (mode : ℕ) (map code : List ℕ) (lo start owner : ℕ) (w rs 
   pub kept : length rs' ≡ length rs
   pub filled : Filled map code w w'
 
-abbrev pub first_in : Finding → Inspection
-first_in finding.Right = accepted
-first_in (finding.Wrong o p to b) = not_right o p
+abbrev pub first_in : Result Unit Wrong → Inspection
+first_in (Ok u) = accepted
+first_in (Err x) = not_right x.offset x.place
 
-pub record Listed (mode : ℕ) (map code : List ℕ) (lo : ℕ) (w rs w' rs' : List ℕ) (r : Finding) : Type 0 where
+pub record Listed (mode : ℕ) (map code : List ℕ) (lo : ℕ) (w rs w' rs' : List ℕ) (r : Result Unit Wrong) : Type 0 where
   pub is : first_of (wrong_since mode map code lo 0 0) ≡ first_in r
   pub are : rs' ≡ rows (wrong_since mode map code lo 0 0) rs
   pub filled : Filled map code w w'

@@ -1,6 +1,6 @@
 -- The tables in W: numbers of 8 bytes, one an address for its block, 0 where none starts there, and five an address for edges that were found, where 0 says
 -- nothing. Assumes nothing.
-use Rattle.std.specs.Prelude.{ℕ, ◌+◌, ◌*◌, ◌-◌, ◌≤◌, ◌<◌, ◌≡◌, Bool, true, false, List, length}
+use Rattle.std.specs.Prelude.{ℕ, ◌+◌, ◌*◌, ◌-◌, ◌≤◌, ◌<◌, ◌≡◌, Bool, true, false, List, length, Option, Some, None}
 use Rattle.spec.specs.Lists.{little}
 use Rattle.spec.specs.Rooms.{longest, work_need}
 use Rattle.lent.specs.Bytes.{num_at, Stored}
@@ -24,10 +24,11 @@ pub record Filled (b code w w' : List ℕ) : Type 0 where
   pub tables : Tables b code w'
   pub kept : length w' ≡ length w
 
--- the row of an address put, if the code has it
-pub record Noted (code w : List ℕ) (start at : ℕ) (w' : List ℕ) : Type 0 where
-  pub there : start < length code → Stored 8 w (8 * start) (little 8 (at + 1)) w'
-  pub past : length code ≤ start → w' ≡ w
+-- the row of a block's start put, if the code has the address
+pub record Noted (code w : List ℕ) (start : Option ℕ) (at : ℕ) (w' : List ℕ) : Type 0 where
+  pub there : {s : ℕ} → start ≡ Some s → s < length code → Stored 8 w (8 * s) (little 8 (at + 1)) w'
+  pub past : {s : ℕ} → start ≡ Some s → length code ≤ s → w' ≡ w
+  pub none : start ≡ None → w' ≡ w
 
 -- two starts
 pub record Between (code : List ℕ) (from to : ℕ) : Type 0 where

@@ -5,35 +5,35 @@ ghost use Rattle.std.specs.Prelude.{◌<◌, length};
 ghost use Rattle.inspector.specs.Edges.{Sought};
 ghost use Rattle.inspector.specs.Tables.{Tables, Between, Joined};
 
+use crate::replay::Replay;
 use crate::seek::seek;
 use lent::{get64, put64};
 
 // Looks for it at the block that starts at `from`, if there is one.
-fn near(map: &[u8], code: &[u8], w: &[u8], from: usize, to: usize) -> bool
-    requires tables { Tables map.now code.now w.now }
-    requires from_in_bounds { from < length code.now }
-    ensures { Sought map.now to from result }
+fn near(replay: Replay, w: &[u8], from: usize, to: usize) -> bool
+    requires tables { Tables replay.map.now replay.code.now w.now }
+    requires from_in_bounds { from < length replay.code.now }
+    ensures { Sought replay.entry.map.now to from result }
 {
-    let at = get64(w, 8 * from);
-    if at == 0 {
-        return false;
+    match get64(w, 8 * from).checked_sub(1) {
+        Some(at) => seek(replay.map, at, from, to),
+        None => false,
     }
-    seek(map, at - 1, from, to)
 }
 
 // Whether the map has an edge between two starts.
-pub fn joined(map: &[u8], code: &[u8], w: &mut [u8], from: usize, to: usize) -> bool
-    requires tables { Tables map.now code.now w.old }
-    requires between { Between code.now from to }
-    ensures { Joined map.now code.now w.old from to w.new result }
+pub fn joined(replay: Replay, w: &mut [u8], from: usize, to: usize) -> bool
+    requires tables { Tables replay.map.now replay.code.now w.old }
+    requires between { Between replay.code.now from to }
+    ensures { Joined replay.entry.map.now replay.entry.code.now w.old from to w.new result }
 {
-    let size = code.len();
+    let size = replay.code.len();
     let at = 8 * (size + (from * 251 + to) % (5 * size));
     let pair = from * 65536 + to + 1;
     if get64(w, at) == pair {
         return true;
     }
-    if !near(map, code, w, from, to) {
+    if !near(replay, w, from, to) {
         return false;
     }
     put64(w, at, pair);

@@ -8,7 +8,8 @@ mod fill;
 mod known;
 mod list;
 mod path;
+mod replay;
 mod seek;
 mod symbol;
 
-pub use call::{Inspected, inspect, inspect_from};
+pub use call::{inspect, inspect_from};

@@ -3,12 +3,11 @@
 ghost use Rattle.std.specs.Prelude.{◌≤◌, length};
 ghost use Rattle.exec.specs.Modes.{mode_of};
 ghost use Rattle.reader.specs.Walks.{Walking};
-ghost use Rattle.inspector.specs.Edges.{Ready};
 ghost use Rattle.inspector.specs.Tables.{Tables};
 ghost use Rattle.inspector.specs.Listing.{Rowed, Rest, Listed};
 
-use crate::entries::{Finding, entries};
-use exec::mode::Mode;
+use crate::entries::{Wrong, entries};
+use crate::replay::Replay;
 use lent::put64;
 
 // Writes a row, if it fits; whether one more would fit behind it.
@@ -25,84 +24,35 @@ fn put_row(rows: &mut [u8], at: usize, offset: usize, place: usize) -> bool
     32 <= left
 }
 
-// Writes those from `start` on, where the block before starts at `owner`, into the rows behind the first; where the last row is full nothing is looked for.
-fn rest(
-    mode: Mode,
-    code: &[u8],
-    map: &[u8],
-    w: &mut [u8],
-    from: usize,
-    start: usize,
-    owner: usize,
-    rows: &mut [u8],
-)
-    requires ready { Ready map.now }
-    requires walking { Walking map.now start }
-    requires tables { Tables map.now code.now w.old }
+// Writes those behind `first` into the rows behind its own; where the last row is full nothing is looked for.
+fn rest(replay: Replay, w: &mut [u8], from: usize, first: Wrong, rows: &mut [u8])
+    requires walking { Walking replay.map.now first.behind }
+    requires tables { Tables replay.map.now replay.code.now w.old }
     requires in_bounds { 16 ≤ length rows.old }
-    ensures { Rest (mode_of mode) map.now code.now from start owner w.old rows.old w.new rows.new }
+    ensures { Rest (mode_of replay.entry.mode) replay.entry.map.now replay.entry.code.now from first.behind first.owner w.old rows.old w.new rows.new }
 {
-    let mut to = start;
-    let mut block = owner;
+    let mut last = first;
     let mut at = 16;
-    loop {
-        match entries(mode, code, map, w, from, to, block) {
-            Finding::Right => {
-                return;
-            }
-            Finding::Wrong {
-                offset,
-                place,
-                behind,
-                owner: own,
-            } => {
-                if !put_row(rows, at, offset, place) {
-                    return;
-                }
-                to = behind;
-                block = own;
-                at += 16;
-            }
+    while let Err(wrong) = entries(replay, w, from, last.behind, last.owner) {
+        if !put_row(rows, at, wrong.offset, wrong.place) {
+            return;
         }
+        last = wrong;
+        at += 16;
     }
 }
 
-// Writes all of the map that stand at the offset `from` or later; gives the first.
-pub fn listed(
-    mode: Mode,
-    code: &[u8],
-    map: &[u8],
-    w: &mut [u8],
-    from: usize,
-    rows: &mut [u8],
-) -> Finding
-    requires ready { Ready map.now }
-    requires tables { Tables map.now code.now w.old }
-    ensures { Listed (mode_of mode) map.now code.now from w.old rows.old w.new rows.new result }
+// Writes all of the map that stand at the offset `from` or later; an error is the first.
+pub fn listed(replay: Replay, w: &mut [u8], from: usize, rows: &mut [u8]) -> Result<(), Wrong>
+    requires { Tables replay.map.now replay.code.now w.old }
+    ensures { Listed (mode_of replay.entry.mode) replay.entry.map.now replay.entry.code.now from w.old rows.old w.new rows.new result }
 {
-    match entries(mode, code, map, w, from, 0, 0) {
-        Finding::Right => Finding::Right,
-        Finding::Wrong {
-            offset,
-            place,
-            behind,
-            owner,
-        } => {
-            if !put_row(rows, 0, offset, place) {
-                return Finding::Wrong {
-                    offset,
-                    place,
-                    behind,
-                    owner,
-                };
-            }
-            rest(mode, code, map, w, from, behind, owner, rows);
-            Finding::Wrong {
-                offset,
-                place,
-                behind,
-                owner,
-            }
-        }
+    let Err(first) = entries(replay, w, from, 0, 0) else {
+        return Ok(());
+    };
+    if !put_row(rows, 0, first.offset, first.place) {
+        return Err(first);
     }
+    rest(replay, w, from, first, rows);
+    Err(first)
 }

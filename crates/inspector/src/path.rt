@@ -2,14 +2,13 @@
 // "accepts each path entry with a destination only if replaying it in the mode the caller names is right"
 ghost use Rattle.exec.specs.Modes.{mode_of};
 ghost use Rattle.state.specs.Symbols.{sym_of};
-ghost use Rattle.inspector.specs.Edges.{Ready};
 ghost use Rattle.inspector.specs.Tables.{Tables};
 ghost use Rattle.inspector.specs.Judging.{InPath, Begins, Along, Judged};
 
 use crate::edge::joined;
 use crate::known::is_sound;
+use crate::replay::Replay;
 use crate::symbol::{is_jumpdest, looked, taken};
-use exec::mode::Mode;
 use reader::address;
 use state::sym::StackSym;
 
@@ -21,69 +20,54 @@ pub struct Path {
     pub to: usize,
 }
 
-// "the place in the path of the first block that fails, 0 if the path is empty or only the symbol differs"
-#[derive(Clone, Copy)]
-pub enum Place {
-    Right,
-    Fails(usize),
-}
-
-// The blocks behind the first, with the symbol that its jump takes.
+// The blocks behind the first, with the symbol that its jump takes. An error is "the place in the path of the first block that fails".
 fn along(
-    mode: Mode,
-    code: &[u8],
-    map: &[u8],
+    replay: Replay,
     w: &mut [u8],
     path: Path,
     first: usize,
     symbol: StackSym,
-) -> Place
-    requires ready { Ready map.now }
-    requires tables { Tables map.now code.now w.old }
-    requires in_path { InPath map.now path }
+) -> Result<(), usize>
+    requires tables { Tables replay.map.now replay.code.now w.old }
+    requires in_path { InPath replay.map.now path }
     requires begins { Begins path first (sym_of symbol) }
-    ensures { Along (mode_of mode) map.now code.now w.old path first symbol w.new result }
+    ensures { Along (mode_of replay.entry.mode) replay.entry.map.now replay.entry.code.now w.old path first symbol w.new result }
 {
-    let count = path.count;
-    let mut place = 1;
     let mut last = first;
     let mut found = symbol;
-    while place < count {
-        let start = address(map, path.at, count, place);
-        if !is_sound(code, start) {
-            return Place::Fails(place);
+    for place in 1..path.count {
+        let start = address(replay.map, path.at, path.count, place);
+        if !is_sound(replay.code, start) {
+            return Err(place);
         }
-        if !joined(map, code, w, start, last) {
-            return Place::Fails(place);
+        if !joined(replay, w, start, last) {
+            return Err(place);
         }
-        found = looked(mode, code, w, start, found);
+        found = looked(replay, w, start, found);
         last = start;
-        place += 1;
     }
     if is_jumpdest(found, path.to) {
-        return Place::Right;
+        return Ok(());
     }
-    Place::Fails(0)
+    Err(0)
 }
 
-// A path entry of the block at `owner`.
-pub fn judge(mode: Mode, code: &[u8], map: &[u8], w: &mut [u8], owner: usize, path: Path) -> Place
-    requires ready { Ready map.now }
-    requires tables { Tables map.now code.now w.old }
-    requires in_path { InPath map.now path }
-    ensures { Judged (mode_of mode) map.now code.now w.old owner path w.new result }
+// A path entry of the block at `owner`. An error is "the place in the path of the first block that fails, 0 if the path is empty or only the symbol differs".
+pub fn judge(replay: Replay, w: &mut [u8], owner: usize, path: Path) -> Result<(), usize>
+    requires tables { Tables replay.map.now replay.code.now w.old }
+    requires in_path { InPath replay.map.now path }
+    ensures { Judged (mode_of replay.entry.mode) replay.entry.map.now replay.entry.code.now w.old owner path w.new result }
 {
-    let count = path.count;
-    if count == 0 {
-        return Place::Fails(0);
+    if path.count == 0 {
+        return Err(0);
     }
-    let first = address(map, path.at, count, 0);
-    if !is_sound(code, first) {
-        return Place::Fails(0);
+    let first = address(replay.map, path.at, path.count, 0);
+    if !is_sound(replay.code, first) {
+        return Err(0);
     }
     if owner != first {
-        return Place::Fails(0);
+        return Err(0);
     }
-    let symbol = taken(mode, code, w, first);
-    along(mode, code, map, w, path, first, symbol)
+    let symbol = taken(replay, w, first);
+    along(replay, w, path, first, symbol)
 }

@@ -6,10 +6,10 @@ ghost use Rattle.spec.specs.Search.{dest};
 ghost use Rattle.reader.specs.Dests.{found_of};
 ghost use Rattle.inspector.specs.Edges.{sight_by, sight_of, Stands, Sought};
 
-use reader::{Destination, Entry, Walk, next};
+use reader::{Entry, Fault, Step, next};
 
 // What an entry is to an edge that is looked for: it has the edge, it is of the block that the edge leaves, or of another.
-#[derive(Clone, Copy)]
+#[derive(Clone, Copy, PartialEq, Eq)]
 pub enum Sight {
     Edge,
     Own,
@@ -20,13 +20,11 @@ pub enum Sight {
 fn sight_by(own: bool, leads: bool) -> Sight
     ensures { result ≡ sight_by own leads }
 {
-    if !own {
-        return Sight::Other;
+    match (own, leads) {
+        (false, _) => Sight::Other,
+        (true, true) => Sight::Edge,
+        (true, false) => Sight::Own,
     }
-    if leads {
-        return Sight::Edge;
-    }
-    Sight::Own
 }
 
 // Whether a block's one side leads there.
@@ -40,42 +38,35 @@ fn one(to: usize, side: usize) -> bool
 fn either(to: usize, yes: usize, no: usize) -> bool
     ensures { result ≡ mem to (yes ∷ no ∷ []) }
 {
-    if to == yes {
-        return true;
-    }
-    to == no
+    to == yes || to == no
 }
 
 // Whether a 7 does.
-fn seven(to: usize, found: Destination) -> bool
+fn seven(to: usize, found: Option<usize>) -> bool
     ensures { result ≡ mem to (dest (found_of found)) }
 {
-    match found {
-        Destination::Missing => false,
-        Destination::At(side) => to == side,
-    }
+    found == Some(to)
 }
 
 // What an entry is to the edge between two starts; `mine` says that the block before it is the one that the edge leaves.
-fn sight_of(entry: Entry, mine: bool, from: usize, to: usize) -> Sight
+fn sight_of(entry: Result<Entry, Fault>, mine: bool, from: usize, to: usize) -> Sight
     ensures { result ≡ sight_of entry mine from to }
 {
     match entry {
-        Entry::Terminate { start, .. } => sight_by(from == start, false),
-        Entry::Jump {
-            start,
-            to: side,
-            ..
-        } => sight_by(from == start, one(to, side)),
-        Entry::Jumpi { start, yes, no, .. } => sight_by(from == start, either(to, yes, no)),
-        Entry::DynamicJump { start, .. } => sight_by(from == start, false),
-        Entry::DynamicJumpi { start, no, .. } => sight_by(from == start, one(to, no)),
-        Entry::Way { to: found, .. } => sight_by(mine, seven(to, found)),
-        Entry::Head { .. } => Sight::Other,
-        Entry::Record { .. } => Sight::Other,
-        Entry::Unknown => Sight::Other,
-        Entry::Wrong => Sight::Other,
-        Entry::Cut => Sight::Other,
+        Ok(Entry::Terminate { start, .. } | Entry::DynamicJump { start, .. }) => {
+            sight_by(from == start, false)
+        }
+        Ok(
+            Entry::Jump {
+                start,
+                to: side,
+                ..
+            },
+        ) => sight_by(from == start, one(to, side)),
+        Ok(Entry::Jumpi { start, yes, no, .. }) => sight_by(from == start, either(to, yes, no)),
+        Ok(Entry::DynamicJumpi { start, no, .. }) => sight_by(from == start, one(to, no)),
+        Ok(Entry::Way { to: found, .. }) => sight_by(mine, seven(to, found)),
+        _ => Sight::Other,
     }
 }
 
@@ -86,23 +77,15 @@ pub fn seek(map: &[u8], start: usize, from: usize, to: usize) -> bool
 {
     let mut at = start;
     let mut mine = false;
-    loop {
-        match next(map, at) {
-            Walk::Here { entry, behind } => match sight_of(entry, mine, from, to) {
-                Sight::Edge => {
-                    return true;
-                }
-                Sight::Own => {
-                    mine = true;
-                    at = behind;
-                }
-                Sight::Other => {
-                    return false;
-                }
-            },
-            Walk::Over => {
-                return false;
+    while let Some(Step { entry, behind }) = next(map, at) {
+        match sight_of(entry, mine, from, to) {
+            Sight::Edge => return true,
+            Sight::Own => {
+                mine = true;
+                at = behind;
             }
+            Sight::Other => return false,
         }
     }
+    false
 }

@@ -6,41 +6,38 @@ ghost use Rattle.exec.specs.Modes.{mode_of};
 ghost use Rattle.state.specs.Symbols.{sym_of};
 ghost use Rattle.inspector.specs.Symbols.{Lent, Taken, Looks, Looked};
 
-use exec::mode::Mode;
-use exec::run::{Goes, run};
+use crate::replay::Replay;
+use exec::run::run;
 use layout::part::{NEED, NEED_MORE};
 use state::read::symbol_at;
 use state::sym::StackSym;
 
 // The symbol that the jump of the block at `start` takes; without a jump one that is no Jumpdest and stays so.
-pub fn taken(mode: Mode, code: &[u8], w: &mut [u8], start: usize) -> StackSym
-    requires { Lent code.now w.old }
-    ensures { Taken (mode_of mode) code.now w.old start w.new result }
+pub fn taken(replay: Replay, w: &mut [u8], start: usize) -> StackSym
+    requires { Lent replay.code.now w.old }
+    ensures { Taken (mode_of replay.entry.mode) replay.entry.code.now w.old start w.new result }
 {
-    let end = NEED * code.len() + NEED_MORE;
-    let own = run(mode, code, start, w, end);
-    let goes = own.goes;
-    match goes {
-        Goes::To(symbol) => symbol,
-        Goes::Nowhere => StackSym::Other(0),
+    let end = NEED * replay.code.len() + NEED_MORE;
+    let own = run(replay.mode, replay.code, start, w, end);
+    match own.goes {
+        Some(symbol) => symbol,
+        None => StackSym::Other(0),
     }
 }
 
 // A symbol looked up in the block at `start`, which ran before.
-pub fn looked(mode: Mode, code: &[u8], w: &mut [u8], start: usize, symbol: StackSym) -> StackSym
-    requires lent { Lent code.now w.old }
+pub fn looked(replay: Replay, w: &mut [u8], start: usize, symbol: StackSym) -> StackSym
+    requires lent { Lent replay.code.now w.old }
     requires looks { Looks (sym_of symbol) }
-    ensures { Looked (mode_of mode) code.now w.old start symbol w.new result }
+    ensures { Looked (mode_of replay.entry.mode) replay.entry.code.now w.old start symbol w.new result }
 {
     match symbol {
         StackSym::Before(position) => {
-            let end = NEED * code.len() + NEED_MORE;
-            let own = run(mode, code, start, w, end);
+            let end = NEED * replay.code.len() + NEED_MORE;
+            let own = run(replay.mode, replay.code, start, w, end);
             symbol_at(w, own.at, own.n, position)
         }
-        StackSym::Constant(value) => StackSym::Constant(value),
-        StackSym::Jumpdest(value) => StackSym::Jumpdest(value),
-        StackSym::Other(pc) => StackSym::Other(pc),
+        _ => symbol,
     }
 }
 
@@ -48,10 +45,5 @@ pub fn looked(mode: Mode, code: &[u8], w: &mut [u8], start: usize, symbol: Stack
 pub fn is_jumpdest(symbol: StackSym, to: usize) -> bool
     ensures { result ≡ eq_sym (jumpdest to) (sym_of symbol) }
 {
-    match symbol {
-        StackSym::Jumpdest(value) => to == value,
-        StackSym::Before(_) => false,
-        StackSym::Constant(_) => false,
-        StackSym::Other(_) => false,
-    }
+    symbol == StackSym::Jumpdest(to)
 }

@@ -12,7 +12,9 @@ use borrow.Author.Tests.{leb-true, le-leb}
 use Rattle.spec.specs.Rooms.{units}
 use Rattle.lent.proofs.Once.{Bytes}
 use Rattle.reachable.specs.Marks.{flagged}
-use Rattle.entries.specs.Promises.{PutsFew, PathsEnd, Writes}
+use Rattle.output.specs.declared.Output.{Output}
+use Rattle.output.specs.Promises.{PutsFew}
+use Rattle.entries.specs.Promises.{PathsEnd, Writes}
 use Rattle.entries.proofs.Writing.{writes-all, answered}
 use Rattle.json_text.specs.Rows.{map_text}
 use Rattle.json_text.specs.Promises.{FitsRoom, Written}
@@ -35,16 +37,19 @@ module _ (w r q : List ℕ) (n m room : ℕ) where
       fits_by (sym (le-leb (length (map_text w r q n m)) room (omega (arith, few, p.is))))
 
   -- it was counted
-  pub fits-counted : {size most : ℕ} {out out' : List ℕ} → PutsFew most out 0 (map_text w r q n m) out' size → FitsRoom w r q n m room (leb size room)
-  fits-counted {size} p =
-      let is : size ≡ length (map_text w r q n m) = omega (arith, p.puts.next) in
+  pub fits-counted : {most : ℕ} {o o' : Output} → o.end ≡ 0 → PutsFew most o (map_text w r q n m) o' → FitsRoom w r q n m room (leb o'.end room)
+  fits-counted {o' = o'} z p =
+      let is : o'.end ≡ length (map_text w r q n m) = omega (arith, p.puts.next) in
       fits_by (ap (λ (k : ℕ). leb k room) is)
 
-pub text-answered : {w r q : List ℕ} {n m end most : ℕ} {out out' : List ℕ} → Writes w r q n m 0 → FitsRoom w r q n m (units (length out) 1) true
-    → PutsFew most out 0 (map_text w r q n m) out' end → Written w r q n m out out' end
-text-answered {w} {r} {q} {n} {m} {out = out} x f p =
-    let room : ℕ = units (length out) 1 in
+-- what is lent ends as what the writer's reference leads to, since that stays the same
+pub text-answered : {w r q : List ℕ} {n m most : ℕ} {out : List ℕ} {o o' : Output} → Writes w r q n m 0 → FitsRoom w r q n m (units (length o.bytes.now) 1) true
+    → o.end ≡ 0 → PutsFew most o (map_text w r q n m) o' → (o.bytes.ghost_name ≡ o'.bytes.ghost_name → out ≡ o'.bytes.now) → Written w r q n m o.bytes.now out o'.end
+text-answered {w} {r} {q} {n} {m} {o = o} {o'} x f z p l =
+    let room : ℕ = units (length o.bytes.now) 1 in
     let on : true ≡ leb (length (map_text w r q n m)) room
     = f.is x.mode x.code x.recs 0 0 x.ends ∙ ap (λ (l : List ℕ). leb (length l) room) (text_is x.ends 0 0) in
     let low : length (map_text w r q n m) ≤ room = leb-true (length (map_text w r q n m)) room (sym on) in
-    record { answer = λ mode code recs energy choice g. rw (text_is g energy choice) ((answered refl low p).fits low); long = p.puts.kept }
+    let all = (answered z refl low p).fits low in
+    let end : o'.end ≡ length (map_text w r q n m) = omega (arith, p.puts.next) in
+    rw (l (sym p.puts.same)) record { answer = λ mode code recs energy choice g. rw (text_is g energy choice) (end, all.1); long = p.puts.kept }

@@ -20,7 +20,7 @@ use Rattle.lent.proofs.Numbers.{num-small}
 use Rattle.lent.proofs.Once.{Bytes}
 use Rattle.layout.specs.Edges.{end_at, goal_of}
 use Rattle.layout.specs.Parts.{row_place}
-use Rattle.layout.specs.Rows.{END, TO, OTHER, tag_at, type_at}
+use Rattle.layout.specs.Rows.{END, TO, OTHER, tag_at, typed}
 use Rattle.layout.specs.declared.row.BlockType.{BlockType}
 use Rattle.initial.specs.Rows.{kind_of, kind_at}
 use Rattle.tables.specs.Addrs.{addrs}
@@ -126,14 +126,15 @@ Few (jumpi t f) = (length (decimal t) ≤ 5) × (length (decimal f) ≤ 5)
 Few dynamic_jump = Unit
 Few (dynamic_jumpi f) = length (decimal f) ≤ 5
 
-kind-few : (t : BlockType) → length (decimal t.to) ≤ 5 → length (decimal t.other) ≤ 5 → Few (kind_of t)
-unfolding kind_of
-kind-few t h g =
-    both Few (eqb t.kind 1) (λ _. tt)
-    (λ _. both Few (eqb t.kind 2) (λ _. tt)
-    (λ _. both Few (eqb t.kind 3) (λ _. h)
-    (λ _. both Few (eqb t.kind 4) (λ _. (h, g))
-    (λ _. both Few (eqb t.kind 5) (λ _. tt) (λ _. g)))))
+kind-few : (k to f : ℕ) → length (decimal to) ≤ 5 → length (decimal f) ≤ 5 → Few (kind_of (typed k to f))
+unfolding typed
+kind-few k to f h g =
+    let F : BlockType → Type 0 = λ t. Few (kind_of t) in
+    both F (eqb k 1) (λ _. tt)
+    (λ _. both F (eqb k 2) (λ _. tt)
+    (λ _. both F (eqb k 3) (λ _. h)
+    (λ _. both F (eqb k 4) (λ _. (h, g))
+    (λ _. both F (eqb k 5) (λ _. tt) (λ _. g)))))
 
 module _ {r q : List ℕ} (rs : Bytes r) (qs : Bytes q) where
   -- without its rows the longest is a DynamicJumpi
@@ -172,7 +173,7 @@ module _ {r q : List ℕ} (rs : Bytes r) (qs : Bytes q) where
         arith,
         length-append (front a end) (tail_of (map (way_of r q) is) (kind_at w a)),
         front-few a end (decimal-few a h) (number-few ws (row_place a + END)),
-        tail-few is (kind_at w a) (kind-few (type_at w a) (number-few ws (row_place a + TO)) (number-few ws (row_place a + OTHER))),
+        tail-few is (kind_at w a) (kind-few (tag_at w a) _ _ (number-few ws (row_place a + TO)) (number-few ws (row_place a + OTHER))),
         entries-few r m a (tag_at w a),
       ))
 

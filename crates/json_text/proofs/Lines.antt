@@ -12,8 +12,9 @@ use Rattle.spec.specs.Lists.{keep, gather}
 use Rattle.spec.specs.Json.{ascii}
 use Rattle.laws.proofs.Branch.{both, if-true, if-false}
 use Rattle.laws.proofs.Members.{gather_append}
-use Rattle.entries.specs.Promises.{Puts, PutsFew}
-use Rattle.entries.proofs.Puts.{puts_none, puts-few}
+use Rattle.output.specs.declared.Output.{Output}
+use Rattle.output.specs.Promises.{Puts, PutsFew}
+use Rattle.output.proofs.Puts.{puts_none, puts-few}
 use Rattle.json_text.specs.Rows.{lined, mark, next}
 
 -- ---- the comma
@@ -26,11 +27,11 @@ mark-some : (begin at : ℕ) → (at ≡ begin → ⊥) → mark begin at ≡ as
 unfolding mark
 mark-some begin at ne = if-false (eqb at begin) [] (ascii ",") (ne_eqb at begin ne)
 
-pub comma-none : {begin at : ℕ} {out : List ℕ} → at ≡ begin → PutsFew 1 out at (mark begin at) out at
-comma-none {begin} {at} {out} e = rw (mark-none begin at e) record { puts = puts_none out at; few = omega arith }
+pub comma-none : {begin : ℕ} {o : Output} → o.end ≡ begin → PutsFew 1 o (mark begin o.end) o
+comma-none {begin} {o} e = rw (mark-none begin o.end e) record { puts = puts_none o; few = omega arith }
 
-pub comma-some : {begin at end : ℕ} {out out' : List ℕ} → (at ≡ begin → ⊥) → Puts 1 out at (ascii ",") out' end → PutsFew 1 out at (mark begin at) out' end
-comma-some {begin} {at} ne p = rw (mark-some begin at ne) (puts-few 1 p (omega arith))
+pub comma-some : {begin : ℕ} {o o' : Output} → (o.end ≡ begin → ⊥) → Puts 1 o (ascii ",") o' → PutsFew 1 o (mark begin o.end) o'
+comma-some {begin} {o} ne p = rw (mark-some begin o.end ne) (puts-few 1 p (omega arith))
 
 -- ---- one more
 

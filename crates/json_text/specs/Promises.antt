@@ -1,26 +1,25 @@
 -- What each function asks and promises, a record each. Assumes nothing.
-use Rattle.std.specs.Prelude.{◌≡◌, Bool, List, ◌++◌, ℕ, ◌+◌, ◌*◌, ◌^◌, ◌≤◌, ◌<◌, leb, length, drop}
+use Rattle.std.specs.Prelude.{◌≡◌, Bool, Option, Some, List, ◌++◌, ℕ, ◌+◌, ◌*◌, ◌^◌, ◌≤◌, ◌<◌, leb, length, drop}
 use Rattle.spec.specs.Search.{Rec}
 use Rattle.spec.specs.Json.{text}
+use Rattle.layout.specs.Rows.{to_of, other_of}
 use Rattle.layout.specs.declared.row.BlockType.{BlockType}
 use Rattle.entries.specs.Rows.{steps_of}
 use Rattle.entries.specs.Promises.{RowIn, Ends, map_of}
+
+-- an address, if it is one
+abbrev pub Small : Option ℕ → Type 0
+Small goal = (to : ℕ) → goal ≡ Some to → to < 65536
 
 -- row i, and so many bytes more than its path's can be counted
 pub record PutsWay (r q : List ℕ) (i at more : ℕ) : Type 0 where
   pub row : RowIn r q i
   pub far : at + (more + 6 * steps_of r i) ≤ 2 ^ 62
 
--- the type of a block that lists no rows, and of one that does
-pub record Static (t : BlockType) : Type 0 where
-  pub some : 1 ≤ t.kind
-  pub low : t.kind < 5
-  pub to : t.to < 65536
-  pub other : t.other < 65536
-
-pub record Dynamic (t : BlockType) : Type 0 where
-  pub high : 5 ≤ t.kind
-  pub other : t.other < 65536
+-- the sides of a type are addresses
+pub record Sides (t : BlockType) : Type 0 where
+  pub to : to_of t < 65536
+  pub other : other_of t < 65536
 
 -- ---- the whole
 

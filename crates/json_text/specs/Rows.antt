@@ -1,5 +1,6 @@
 -- The text of the answer's blocks, read off the rows of W and R and the paths in Q. Assumes nothing.
-use Rattle.std.specs.Prelude.{true, false, not, List, [], ◌∷◌, ◌++◌, map, ℕ, ◌+◌, eqb}
+use Rattle.std.specs.Prelude as std
+use Rattle.std.specs.Prelude.{Some, None, true, false, not, List, [], ◌∷◌, ◌++◌, map, ℕ, ◌+◌, eqb}
 use Rattle.std.proofs.Math.Option.{Option, none, some}
 use Rattle.spec.specs.Lists.{if}
 use Rattle.spec.specs.Blocks.{Kind, terminate, jump, jumpi, dynamic_jump, dynamic_jumpi}
@@ -34,6 +35,10 @@ goal_to to = if (not (eqb to NOWHERE)) (some to) none
 
 abbrev pub way_of : List ℕ → List ℕ → ℕ → Way
 way_of r q i = record { path = path_of r q i; to = goal_to (goal_of r i) }
+
+abbrev pub said_of : std.Option ℕ → Option ℕ
+said_of None = none
+said_of (Some to) = some to
 
 -- a way's text behind its path
 unfoldable pub goal_text : Option ℕ → List ℕ

@@ -4,59 +4,39 @@ ghost use Rattle.std.specs.Prelude.{◌≡◌, [], ◌∷◌, ◌+◌, ◌^◌, 
 ghost use Rattle.spec.specs.Lists.{keep};
 ghost use Rattle.layout.specs.Rows.{tag_at};
 ghost use Rattle.initial.specs.Rows.{Listed};
+ghost use Rattle.output.specs.Promises.{PutsFew};
 ghost use Rattle.entries.specs.Rows.{kept, kept_below};
-ghost use Rattle.entries.specs.Promises.{PutsFew, PutsBlock, PutsBlocks};
+ghost use Rattle.entries.specs.Promises.{PutsBlock, PutsBlocks};
 ghost use Rattle.json_text.specs.Rows.{lined, next, block_text};
 
 use crate::block::add_block;
-use crate::field::add_comma;
-use entries::is_kept;
+use crate::comma::add_comma;
+use entries::found::Found;
 use initial::start_at;
+use output::Output;
 
 // The block at `start`, if it is kept.
-fn add_kept(
-    w: &[u8],
-    r: &[u8],
-    q: &[u8],
-    out: &mut [u8],
-    at: usize,
-    begin: usize,
-    size: usize,
-    rows: usize,
-    start: usize,
-) -> usize
-    requires { (PutsBlock size rows w.now r.now q.now start at) × (tag_at w.now start ≡ 0 → ⊥) × (at + 1 ≤ 2 ^ 60) }
-    ensures { PutsFew (2 ^ 37) out.old at
-        (next begin at (block_text w.now r.now q.now rows) (keep (kept w.now size) (start ∷ []))) out.new result }
+fn add_kept(found: &Found<'_>, begin: usize, start: usize, output: &mut Output<'_>)
+    requires { (PutsBlock found.now.size found.now.rows found.now.w.now found.now.r.now found.now.q.now start output.old.end)
+        × (tag_at found.now.w.now start ≡ 0 → ⊥) × (output.old.end + 1 ≤ 2 ^ 60) }
+    ensures { PutsFew (2 ^ 37) output.old
+        (next begin output.old.end (block_text found.now.w.now found.now.r.now found.now.q.now found.now.rows) (keep (kept found.now.w.now found.now.size) (start ∷ []))) output.new }
 {
-    if is_kept(w, size, start) {
-        let place = add_comma(out, at, begin);
-        return add_block(w, r, q, out, place, size, rows, start);
+    if found.is_kept(start) {
+        add_comma(begin, output);
+        add_block(found, start, output);
     }
-    at
 }
 
-// All that are kept, along the list of the `blocks` starts.
-pub fn add_blocks(
-    w: &[u8],
-    r: &[u8],
-    q: &[u8],
-    out: &mut [u8],
-    at: usize,
-    size: usize,
-    rows: usize,
-    blocks: usize,
-) -> usize
-    requires { (PutsBlocks size rows w.now r.now q.now at) × (Listed size w.now blocks) × (at ≤ 2 ^ 32) }
-    ensures { PutsFew (2 ^ 53) out.old at
-        (lined (block_text w.now r.now q.now rows) (kept_below w.now size (size + 1))) out.new result }
+// All that are kept, along the list of their starts.
+pub fn add_blocks(found: &Found<'_>, output: &mut Output<'_>)
+    requires { (PutsBlocks found.now.size found.now.rows found.now.w.now found.now.r.now found.now.q.now output.old.end)
+        × (Listed found.now.size found.now.w.now found.now.blocks) × (output.old.end ≤ 2 ^ 32) }
+    ensures { PutsFew (2 ^ 53) output.old
+        (lined (block_text found.now.w.now found.now.r.now found.now.q.now found.now.rows) (kept_below found.now.w.now found.now.size (found.now.size + 1))) output.new }
 {
-    let mut end = at;
-    let mut i = 0;
-    while i < blocks {
-        let start = start_at(w, size, i);
-        i += 1;
-        end = add_kept(w, r, q, out, end, at, size, rows, start);
+    let begin = output.end;
+    for i in 0..found.blocks {
+        add_kept(found, begin, start_at(found.w, found.size, i), output);
     }
-    end
 }

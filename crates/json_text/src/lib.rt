@@ -2,7 +2,7 @@
 #![tactic(auto)]
 
 mod block;
-mod field;
+mod comma;
 mod kept;
 mod listing;
 mod way;

@@ -2,61 +2,58 @@
 // "a missing destination being null"
 ghost use Rattle.std.specs.Prelude.{◌++◌, ◌+◌, ◌*◌, ◌^◌, ◌≤◌, ◌<◌, length};
 ghost use Rattle.spec.specs.Json.{decimal};
+ghost use Rattle.output.specs.Promises.{PutsFew};
 ghost use Rattle.tables.specs.Addrs.{addrs};
 ghost use Rattle.entries.specs.Rows.{steps_of};
-ghost use Rattle.entries.specs.Promises.{PutsFew};
-ghost use Rattle.json_text.specs.Rows.{mark, lined, goal_to, goal_text, way_text};
-ghost use Rattle.json_text.specs.Promises.{PutsWay};
+ghost use Rattle.json_text.specs.Rows.{mark, lined, said_of, goal_text, way_text};
+ghost use Rattle.json_text.specs.Promises.{PutsWay, Small};
 
-use crate::field::{add_comma, add_decimal, add_named, add_text};
-use entries::path_of;
-use layout::NOWHERE;
-use layout::edge::OWN;
-use layout::record::RECORD;
+use crate::comma::add_comma;
+use entries::found::{Found, Span};
 use lent::get16;
+use output::Output;
 
 // One address more of a path.
-fn add_address(out: &mut [u8], at: usize, begin: usize, address: usize) -> usize
-    requires { (address < 65536) × (at + 6 ≤ 2 ^ 62) }
-    ensures { PutsFew 6 out.old at (mark begin at ++ decimal address) out.new result }
+fn add_address(address: usize, begin: usize, output: &mut Output<'_>)
+    requires { (address < 65536) × (output.old.end + 6 ≤ 2 ^ 62) }
+    ensures { PutsFew 6 output.old (mark begin output.old.end ++ decimal address) output.new }
 {
-    let next = add_comma(out, at, begin);
-    add_decimal(out, next, address)
+    add_comma(begin, output);
+    output.add_decimal(address);
 }
 
-// `count` addresses of q, from the address `from` on.
-fn add_path(q: &[u8], out: &mut [u8], at: usize, from: usize, count: usize) -> usize
-    requires { (2 * (from + count) ≤ length q.now) × (at + 6 * count ≤ 2 ^ 62) }
-    ensures { PutsFew (6 * count) out.old at (lined decimal (addrs q.now from count)) out.new result }
+// The addresses of a path.
+fn add_path(q: &[u8], span: Span, output: &mut Output<'_>)
+    requires { (2 * (span.from + span.steps) ≤ length q.now) × (output.old.end + 6 * span.steps ≤ 2 ^ 62) }
+    ensures { PutsFew (6 * span.steps) output.old (lined decimal (addrs q.now span.from span.steps)) output.new }
 {
-    let mut end = at;
-    let mut i = 0;
-    while i < count {
-        end = add_address(out, end, at, get16(q, 2 * (from + i)));
-        i += 1;
+    let begin = output.end;
+    for i in 0..span.steps {
+        add_address(get16(q, 2 * (span.from + i)), begin, output);
     }
-    end
 }
 
 // A destination, or that there is none: from the path's end on.
-fn add_goal(out: &mut [u8], at: usize, to: usize) -> usize
-    requires { (to < 65536) × (at + 13 ≤ 2 ^ 62) }
-    ensures { PutsFew 13 out.old at (goal_text (goal_to to)) out.new result }
+fn add_goal(goal: Option<usize>, output: &mut Output<'_>)
+    requires { (Small goal) × (output.old.end + 13 ≤ 2 ^ 62) }
+    ensures { PutsFew 13 output.old (goal_text (said_of goal)) output.new }
 {
-    if to == NOWHERE {
-        return add_text(out, at, b"],\"to\":null}");
+    match goal {
+        None => output.add_text(b"],\"to\":null}"),
+        Some(to) => {
+            output.add_named(b"],\"to\":", to);
+            output.add_text(b"}");
+        }
     }
-    let end = add_named(out, at, b"],\"to\":", to);
-    add_text(out, end, b"}")
 }
 
 // A row's path and its destination.
-pub fn add_way(r: &[u8], q: &[u8], out: &mut [u8], at: usize, row: usize) -> usize
-    requires { PutsWay r.now q.now row at 22 }
-    ensures { PutsFew (22 + 6 * steps_of r.now row) out.old at (way_text r.now q.now row) out.new result }
+pub fn add_way(found: &Found<'_>, row: usize, output: &mut Output<'_>)
+    requires { PutsWay found.now.r.now found.now.q.now row output.old.end 22 }
+    ensures { PutsFew (22 + 6 * steps_of found.now.r.now row) output.old (way_text found.now.r.now found.now.q.now row) output.new }
 {
-    let span = path_of(r, q, row);
-    let path = add_text(out, at, b"{\"path\":[");
-    let goal = add_path(q, out, path, span.from, span.steps);
-    add_goal(out, goal, get16(r, RECORD * row + OWN))
+    let span = found.path_of(row);
+    output.add_text(b"{\"path\":[");
+    add_path(found.q, span, output);
+    add_goal(found.goal_of(row), output);
 }

@@ -3,71 +3,61 @@
 ghost use Rattle.std.specs.Prelude.{◌≡◌, true, ◌^◌, length};
 ghost use Rattle.spec.specs.Rooms.{units};
 ghost use Rattle.initial.specs.Rows.{Listed};
-ghost use Rattle.reachable.specs.Marks.{flagged};
-ghost use Rattle.entries.specs.Promises.{PutsFew, PutsBlocks, Writes};
+ghost use Rattle.output.specs.Promises.{PutsFew};
+ghost use Rattle.entries.specs.Promises.{Holds, PutsBlocks};
 ghost use Rattle.json_text.specs.Rows.{map_text};
+ghost use Rattle.lent.proofs.Once.{Bytes};
 ghost use Rattle.json_text.specs.Promises.{FitsRoom, Written};
 
-use crate::field::add_text;
 use crate::kept::add_blocks;
-use entries::begin_of;
+use entries::found::Found;
+use output::Output;
 
 // The whole: put where it ends within the buffer, counted in any case.
-fn add_map(
-    w: &[u8],
-    r: &[u8],
-    q: &[u8],
-    out: &mut [u8],
-    size: usize,
-    rows: usize,
-    blocks: usize,
-) -> usize
-    requires { (PutsBlocks size rows w.now r.now q.now 0) × (Listed size w.now blocks) }
-    ensures { PutsFew (2 ^ 54) out.old 0 (map_text w.now r.now q.now size rows) out.new result }
+fn add_map(found: &Found<'_>, output: &mut Output<'_>)
+    requires { (PutsBlocks found.now.size found.now.rows found.now.w.now found.now.r.now found.now.q.now output.old.end)
+        × (Listed found.now.size found.now.w.now found.now.blocks) × (output.old.end ≡ 0) }
+    ensures { PutsFew (2 ^ 54) output.old (map_text found.now.w.now found.now.r.now found.now.q.now found.now.size found.now.rows) output.new }
 {
-    let begin = add_text(out, 0, b"[");
-    let end = add_blocks(w, r, q, out, begin, size, rows, blocks);
-    add_text(out, end, b"]")
+    output.add_text(b"[");
+    add_blocks(found, output);
+    output.add_text(b"]");
 }
 
-// Whether the text has at most `room` bytes, where `flags` addresses are flagged. Energy and choice are no part of it.
-pub fn text_fits(
-    w: &[u8],
-    r: &[u8],
-    q: &[u8],
-    room: usize,
-    size: usize,
-    rows: usize,
-    flags: usize,
-    blocks: usize,
-) -> bool
-    requires { (Writes w.now r.now q.now size rows 0) × (flags ≡ length (flagged w.now size)) × (Listed size w.now blocks) }
-    ensures { FitsRoom w.now r.now q.now size rows room result }
+// What three buffers hold is bytes: told to the proof, where the buffers stand in a struct; nothing is done.
+fn hold_bytes(w: &[u8], r: &[u8], q: &[u8])
+    ensures { (Bytes w.now) × (Bytes r.now) × (Bytes q.now) }
+{}
+
+// Whether the text has at most `room` bytes. Energy and choice are no part of it.
+pub fn text_fits(found: &Found<'_>, room: usize) -> bool
+    requires { Holds found.now 0 }
+    ensures { FitsRoom found.now.w.now found.now.r.now found.now.q.now found.now.size found.now.rows room result }
 {
     // No text is longer: with its comma a block has at most 100 bytes, a way 23 and 6 for each address of its path.
-    let ends = begin_of(r, rows);
-    if 2 + 100 * flags + 23 * rows + 6 * ends <= room {
+    hold_bytes(found.w, found.r, found.q);
+    let ends = found.begin_of(found.rows);
+    if 2 + 100 * found.flags + 23 * found.rows + 6 * ends <= room {
         return true;
     }
     // It is put into a byte that nobody reads, to be counted.
     let mut none = [0u8; 1];
-    add_map(w, r, q, &mut none, size, rows, blocks) <= room
+    let mut output = Output {
+        bytes: &mut none,
+        end: 0,
+    };
+    add_map(found, &mut output);
+    output.end <= room
 }
 
 // Writes the text, which `out` has room for: the number of its bytes.
-pub fn write_text(
-    w: &[u8],
-    r: &[u8],
-    q: &[u8],
-    out: &mut [u8],
-    size: usize,
-    rows: usize,
-    blocks: usize,
-) -> usize
-    requires { (Writes w.now r.now q.now size rows 0) × (Listed size w.now blocks) × (FitsRoom w.now r.now q.now size rows (units (length out.old) 1) true) }
-    ensures { Written w.now r.now q.now size rows out.old out.new result }
+pub fn write_text(found: &Found<'_>, out: &mut [u8]) -> usize
+    requires { (Holds found.now 0) × (FitsRoom found.now.w.now found.now.r.now found.now.q.now found.now.size found.now.rows (units (length out.old) 1) true) }
+    ensures { Written found.now.w.now found.now.r.now found.now.q.now found.now.size found.now.rows out.old out.new result }
 {
     // Read for its bound: the paths end below 2^32, so that no count passes 64 bits.
-    let _ends = begin_of(r, rows);
-    add_map(w, r, q, out, size, rows, blocks)
+    let _ends = found.begin_of(found.rows);
+    let mut output = Output { bytes: out, end: 0 };
+    add_map(found, &mut output);
+    output.end
 }

@@ -28,7 +28,7 @@ pub const NEXT_OTHER: usize = 16;
 
 pub const TAKER: usize = 18;
 
-// The byte of each kind; 0 where no block starts. Only this file knows them.
+// The byte of each kind; 0 where no block starts. docs/LAYOUT.md has these bytes, and only this file knows them.
 const FAILURE: usize = 1;
 
 const SUCCESS: usize = 2;

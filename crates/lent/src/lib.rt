@@ -1,4 +1,5 @@
-// Lent byte buffers: numbers and runs of bytes at a place, and what a length has room for.
+// Lent byte buffers: numbers and runs of bytes at a place, and what a length has room for. A buffer and a place travel side by side, since the contracts say
+// of the whole buffer what it holds and what stays; there is no heap, and the memory is fixed.
 #![tactic(auto)]
 
 mod number;

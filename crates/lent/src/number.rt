@@ -28,6 +28,8 @@ fn put<const N: usize>(bytes: &mut [u8], at: usize, value: usize)
     }
 }
 
+// The widths by name, a line each: what the crates above call.
+
 // The byte at `at`.
 pub fn get8(bytes: &[u8], at: usize) -> usize
     requires { at + 1 ≤ length bytes.now }

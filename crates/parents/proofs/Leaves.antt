@@ -122,13 +122,6 @@ turn-wrote a x many p q = record { is = q.is ∙ rw p.is; kept = q.kept ∙ p.ke
 
 -- ---- a static type
 
-pub static_kept : (t : BlockType) (to : ℕ) → (t ≡ DynamicJump → ⊥) → ((f : ℕ) → t ≡ DynamicJumpi f → ⊥) → t ≡ static_type t to
-static_kept (Terminate success) to h g = refl
-static_kept (Jump t) to h g = refl
-static_kept (Jumpi t f) to h g = refl
-static_kept DynamicJump to h g = absurd (h refl)
-static_kept (DynamicJumpi f) to h g = absurd (g f refl)
-
 pub static-wrote : (a : ℕ) (t : BlockType) (to : ℕ) {last : ℕ} {k : BlockType} {w w' : List ℕ} → Holds 2 w (row_place a + END) last → k ≡ static_type t to → Put w a last k w'
     → Wrote w w' (make_static w a t to)
 static-wrote a t to h q p = record { is = p.stored.is ∙ rw (q, h.is); kept = p.stored.kept }

@@ -354,9 +354,6 @@ walk_none {code = code} l s =
 module _ {mode : ℕ} {code w₀ : List ℕ} {end blocks : ℕ} (l : Lent code w₀ end) (ls : LentStarts code w₀ end blocks) {w : List ℕ} {i many : ℕ}
     (k : Walk mode code w₀ end blocks w i many) where
   module _ (some_left : 0 < i) where
-    pub walk-read : start_place (length code) (i - 1) + 2 ≤ length w
-    walk-read = omega (arith, k.few, ls.lent, k.pass.beside.kept)
-
     module _ {b : ℕ} (read : Number b (num_at 2 w (start_place (length code) (i - 1))) 2) where
       read_is : b ≡ num_at 2 w₀ (start_place (length code) (i - 1))
       read_is = read.is ∙ num-suffix w w₀ end k.pass.beside.past 2 (start_place (length code) (i - 1)) (omega (arith, ls.before))

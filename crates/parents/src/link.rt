@@ -41,7 +41,8 @@ pub fn link_sides(w: &mut [u8], start: usize)
     }
 }
 
-// The link to the first parent of `to`.
+// The link to the first parent of `to`. A link stays a number, 0 for none: the search's cursor has it, or a record's number, in one word, in its innermost
+// loop.
 pub fn first_parent(w: &[u8], to: usize) -> usize
     requires { row_place to + ROW ≤ length w.now }
     ensures { Number result (first_at w.now to) 2 }

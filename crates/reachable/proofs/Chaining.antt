@@ -18,7 +18,7 @@ use Rattle.layout.specs.Parts.{rows_end, fields_place, list_place}
 use Rattle.layout.specs.Records.{record_place}
 use Rattle.reachable.specs.Links.{first_from}
 use Rattle.reachable.specs.Promises.{Room, Address}
-use Rattle.reachable.specs.Pruning.{EdgeRow, EdgeRows, LinkedRow, HeadsOnly, LinksOnly, Chains, Links, Linked}
+use Rattle.reachable.specs.Pruning.{EdgeRow, EdgeRows, LinkedRow, HeadsOnly, LinksOnly, Chains, Links}
 use Rattle.reachable.proofs.Frames.{num-in}
 use Rattle.reachable.specs.Keys.{offset_of}
 use Rattle.reachable.specs.declared.link.By.{By}
@@ -177,9 +177,6 @@ module _ {n m by i : ℕ} {w₀ r₀ w r : List ℕ} (a : Links n m by w₀ r₀
       heads = heads-after l.heads (head-only a.key.small key-inside head-stored);
       links = links-after l.links (link-only a.key.small inside t.link);
     }
-
-pub link-done : {n m by i : ℕ} {w₀ r₀ w r : List ℕ} → Linking n m by w₀ r₀ w r i → i ≤ 0 → Linked n m by w₀ r₀ w r
-link-done {i = i} l h = let z : i ≡ 0 = omega arith in record { chains = rw z at l.chains; heads = l.heads; links = l.links }
 
 -- chains over keys, first rows and links that stay
 pub chains-kept : {n m by : ℕ} {keys w r : List ℕ} (keys' w' r' : List ℕ) → Chains n m by keys w r 0 → ((i : ℕ) → i < m → key_at keys' by i ≡ key_at keys by i)

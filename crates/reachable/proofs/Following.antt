@@ -1,6 +1,6 @@
 -- The laws of `follow`: what is asked and left where the sides of a row are taken. Assumes nothing.
 use mathlib.Core.Path.{◌≡◌}
-use mathlib.Core.List.{List, [], ◌∷◌}
+use mathlib.Core.List.{List}
 use Prim.Native.Nat.{ℕ}
 use native.Mathlib.Omega.{arith}
 use Rattle.std.specs.Prelude.{Option, Some, None, option_to_list}
@@ -15,9 +15,6 @@ use Rattle.reachable.proofs.Entering.{took-none, took-after, took-same}
 module _ {n when count : ℕ} {w : List ℕ} {side : Option ℕ} (g : GoingSide n w side when count) where
   pub side-going : {t : ℕ} → side ≡ Some t → Going n w t when count
   side-going e = record { at = record { lent = g.lent; inside = within-some g.inside e }; small = g.small; few = g.few }
-
-  pub side-took : {t count' : ℕ} {w' : List ℕ} → side ≡ Some t → Took n when (t ∷ []) w count w' count' → Took n when (option_to_list side) w count w' count'
-  side-took e p = rw e p
 
   pub side-none : side ≡ None → Took n when (option_to_list side) w count w count
   side-none e = rw e (took-none n when count w)

@@ -9,14 +9,14 @@ use native.Mathlib.Omega.{arith}
 use lib.Dec.{eqb}
 use lib.ListN.{length}
 use borrow.Author.Tests.{eqb-true, eq-eqb, ne_eqb}
-use Rattle.std.specs.Prelude.{Option, Some, None, SomeIff}
+use Rattle.std.specs.Prelude.{Option, Some, None}
 use Rattle.spec.specs.Lists.{if, mem}
 use Rattle.spec.specs.Reach.{Edge, edge}
 use Rattle.laws.proofs.Branch.{if-true, if-false}
 use Rattle.laws.proofs.Members.{In, or_cases}
 use Rattle.theorems.proofs.Reached.{Reached, seed, along}
 use Rattle.lent.specs.Bytes.{Holds}
-use Rattle.layout.specs.Edges.{E-TO, E-LINKS, key_at, to_at, link_at}
+use Rattle.layout.specs.Edges.{E-TO, key_at, to_at, link_at}
 use Rattle.layout.specs.Fields.{head_at}
 use Rattle.layout.specs.Marks.{NOWHERE}
 use Rattle.layout.specs.Records.{RECORD, record_place}
@@ -24,7 +24,7 @@ use Rattle.reachable.specs.Keys.{offset_of}
 use Rattle.reachable.specs.declared.link.By.{By}
 use Rattle.reachable.specs.Marks.{flagged}
 use Rattle.reachable.specs.Links.{link_of, first_from, edge_at, edges_at}
-use Rattle.reachable.specs.Promises.{Address, Going, Took}
+use Rattle.reachable.specs.Promises.{Address, Took}
 use Rattle.reachable.specs.Pruning.{Spread, RowGoing, FollowedRow, RowsGoing, FollowedRows}
 use Rattle.reachable.proofs.Tests.{not-both, mem-one}
 use Rattle.reachable.proofs.Seeds.{along-more, reached-from}
@@ -32,7 +32,7 @@ use Rattle.reachable.proofs.Flags.{flagged-within}
 use Rattle.reachable.proofs.Worklist.{more-keeps, more-takes}
 use Rattle.reachable.proofs.Entering.{took-none, took-after, took-same}
 use Rattle.reachable.proofs.Spreading.{room-kept}
-use Rattle.reachable.proofs.EdgeRows.{other-within, edge_in, edges-in, FirstOf, first_of}
+use Rattle.reachable.proofs.EdgeRows.{edge_in, edges-in, FirstOf, first_of}
 
 -- ---- spreading, step by step
 
@@ -58,17 +58,6 @@ spread-more f p = record { grew = p.grew; sound = λ y h. along-more f (p.sound 
 module _ {n by i count : ℕ} {w r : List ℕ} (g : RowGoing n by w r i count) where
   pub row-nowhere : {to : ℕ} → Holds 2 r (record_place i + E-TO) to → to ≡ NOWHERE → FollowedRow n by r i w count w count
   row-nowhere h e = record { spread = spread_none; led = λ ne. absurd (ne (sym h.is ∙ e)) }
-
-  -- the other key, which stands where its own offset says
-  pub row_other : (b : By) {other k : ℕ} → k ≡ offset_of b → offset_of b ≡ 4 - by → Holds 2 r (record_place i + k) other → Address n w other
-  row_other b {other} s q held = let h : Holds 2 r (record_place i + (4 - by)) other = rw (s ∙ q) at held in record { lent = g.lent; inside = rw h.is (other-within g.row g.key) }
-
-  pub row-going : {to : ℕ} → Holds 2 r (record_place i + E-TO) to → (to ≡ NOWHERE → ⊥) → Going n w to 1 count
-  row-going h ne = record {
-    at = record { lent = g.lent; inside = rw h.is (g.row.to (λ e. ne (h.is ∙ e))) };
-    small = omega arith;
-    few = g.few;
-  }
 
   module _ (b : By) {other k : ℕ} {is : Bool} (s : k ≡ offset_of b) (q : offset_of b ≡ 4 - by) (held : Holds 2 r (record_place i + k) other) (f : is ≡ mem other (flagged w n)) where
     o : Holds 2 r (record_place i + (4 - by)) other
@@ -109,14 +98,6 @@ pub record Walking (n m by x : ℕ) (r w₀ : List ℕ) (count₀ : ℕ) (w : Li
 -- how many rows may be left
 abbrev pub steps : ℕ → ℕ → ℕ
 steps m k = if (eqb k 0) 0 (m + 1 - k)
-
--- a link that is read leads to the row that it says
-pub link-row : {h : ℕ} (o : Option ℕ) → SomeIff o (1 ≤ h) (h - 1) → link_of o ≡ h
-link-row None s = omega arith
-link-row (Some i) s = omega (arith, s.0, s.1)
-
-pub next-link : (i : ℕ) (row : Option ℕ) {o v k : ℕ} {r : List ℕ} → o ≡ k → Holds 4 r (record_place i + (E-LINKS + o)) v → SomeIff row (1 ≤ v) (v - 1) → link_of row ≡ link_at r k i
-next-link i row q h s = link-row row s ∙ h.is ∙ rw q
 
 module _ {n m by x count₀ : ℕ} {r w₀ : List ℕ} (g : RowsGoing n m by w₀ r x count₀) where
   pub walk-address : Address n w₀ x

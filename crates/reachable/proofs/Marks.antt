@@ -1,13 +1,13 @@
 -- The laws of marks and flags: what is read, what `mark` leaves, and what a wiped W holds. Assumes nothing.
 use mathlib.Core.Path.{◌≡◌, refl, sym, ap, ◌∙◌}
-use mathlib.Core.Bool.{false, not}
+use mathlib.Core.Bool.{not}
 use mathlib.Core.List.{List, [], ◌∷◌}
 use Prim.Native.Nat.{ℕ, zero, suc, ◌+◌, ◌-◌, ◌≤◌, ◌<◌}
 use native.Mathlib.Decide.{ℕ_discrete}
 use native.Mathlib.Omega.{arith}
-use lib.Dec.{eqb, leb}
+use lib.Dec.{eqb}
 use lib.ListN.{take, drop, replicate}
-use borrow.Author.Tests.{lt-ltb, eq-eqb, ne_eqb}
+use borrow.Author.Tests.{eq-eqb, ne_eqb}
 use Rattle.spec.specs.Lists.{if, mem, little}
 use Rattle.laws.proofs.Branch.{if-true, if-false}
 use Rattle.lent.specs.Bytes.{Holds, Stored, num_at}
@@ -15,19 +15,12 @@ use Rattle.lent.proofs.Numbers.{length-little, num-zeros}
 use Rattle.lent.proofs.Stored.{stored, kept-take, read_back, read-num, read-part}
 use Rattle.layout.specs.Fields.{HIGHEST, FLAG, mark_at, high_at, flag_at, entry_at}
 use Rattle.layout.specs.Parts.{rows_end, fields_place, list_place, SameRows}
-use Rattle.reachable.specs.Marks.{flagged, marked_by}
+use Rattle.reachable.specs.Marks.{flagged}
 use Rattle.reachable.specs.Promises.{Address, Kept, Begun, Marked}
 use Rattle.reachable.proofs.Flags.{flagged-test, flagged-none}
 use Rattle.reachable.proofs.Frames.{kept-none, mark-kept, mark-others, mark-flags, mark-entries}
 
 -- ---- what is read
-
-module _ (n a m by : ℕ) (w : List ℕ) (h : Holds 4 w (fields_place n a) m) where
-  pub not-marked : m ≡ 0 → false ≡ marked_by w n a by
-  not-marked e = rw (← h.is, e)
-
-  pub is-marked : (m ≡ 0 → ⊥) → leb m by ≡ marked_by w n a by
-  is-marked ne = rw (← h.is, lt-ltb 0 m (omega arith))
 
 pub is-flagged : {n a f : ℕ} {w : List ℕ} → Address n w a → Holds 1 w (fields_place n a + FLAG) f → not (eqb f 0) ≡ mem a (flagged w n)
 is-flagged {n} {a} {w} at h = rw (flagged-test w n a at.inside, ← h.is)

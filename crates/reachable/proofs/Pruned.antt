@@ -27,7 +27,7 @@ use Rattle.reachable.proofs.Rows.{edges-kept}
 use Rattle.reachable.proofs.Worklist.{more-keeps, more-takes, more-new}
 use Rattle.reachable.proofs.Spreading.{Spreading, room-kept, within-kept, start, turn-got, turn-going, turned, done-reached, done-sets}
 use Rattle.reachable.proofs.Expanding.{side-reached, edge-side}
-use Rattle.reachable.proofs.EdgeRows.{place-key, witness-key, RowEdge, in-edges}
+use Rattle.reachable.proofs.EdgeRows.{witness-key, RowEdge, in-edges}
 use Rattle.reachable.proofs.Chaining.{chains-kept}
 use Rattle.reachable.proofs.Leading.{took-grew, spread-after, spread-more}
 
@@ -48,16 +48,6 @@ pruning-kept {r} {w'} k p = record {
 -- ---- the rows of one address
 
 module _ {n m x count : ℕ} {r w : List ℕ} (g : AllGoing n m w r x count) where
-  pub places-going : RowsGoing n m 0 w r x count
-  places-going = record {
-    lent = g.pruning.lent;
-    rows = g.pruning.rows;
-    key = place-key;
-    chains = g.pruning.places;
-    got = g.got;
-    few = g.going.few;
-  }
-
   module _ {w₁ : List ℕ} {count₁ : ℕ} (a : FollowedRows n m 0 r x w count w₁ count₁) where
     pub witnesses-going : RowsGoing n m 4 w₁ r x count₁
     witnesses-going = record {

@@ -142,14 +142,8 @@ pub raises-side : {n t : ℕ} {w : List ℕ} {side : Option ℕ} → Room n w �
 raises-side l s e = record { lent = l; inside = within-some s e }
 
 module _ {n a : ℕ} {w : List ℕ} {side : Option ℕ} where
-  pub raised-side : {t : ℕ} {w' : List ℕ} → side ≡ Some t → Raised n (t ∷ []) w a w' → Raised n (option_to_list side) w a w'
-  raised-side e p = rw e p
-
   pub raised-no-side : side ≡ None → Raised n (option_to_list side) w a w
   raised-no-side e = rw e raised-none
-
-pub raised-room : {n a : ℕ} {ts w w₁ : List ℕ} → Address n w a → Raised n ts w a w₁ → Room n w₁
-raised-room g t = record { short = g.lent.short; room = omega (arith, g.lent.room, t.long) }
 
 module _ {n a : ℕ} {w : List ℕ} {to other : Option ℕ} (p : SidesOf w a to other) {w₁ : List ℕ} (t : Raised n (option_to_list to) w a w₁) where
   pub raised-both : {w₂ : List ℕ} → Raised n (option_to_list other) w₁ a w₂ → Raised n (sides_at w a) w a w₂

@@ -1,5 +1,4 @@
 -- The laws of `enter_all`: more and more of the seeds are taken. Assumes nothing.
-use mathlib.Core.Path.{◌≡◌, refl, ap, subst}
 use mathlib.Core.List.{List, [], ◌∷◌}
 use Prim.Native.Nat.{ℕ, zero, suc, ◌+◌, ◌≤◌, ◌<◌}
 use native.Mathlib.Numerals.{add-one}
@@ -19,15 +18,6 @@ pub record Taking (n : ℕ) (w₀ seeds : List ℕ) (when i : ℕ) (w : List ℕ
 
 pub take-start : {n when : ℕ} {w seeds : List ℕ} → Expands n w seeds when → Taking n w seeds when 0 w 0
 take-start {n} {when} {w} a = record { asks = a; most = omega arith; took = took-none n when 0 w }
-
-pub take_done : {n when i count : ℕ} {w₀ seeds w : List ℕ} → Taking n w₀ seeds when i w count → length seeds ≤ i → Took n when seeds w₀ 0 w count
-take_done {n} {when} {i} {count} {w₀} {seeds} {w} t h = subst (λ (ts : List ℕ). Took n when ts w₀ 0 w count) (whole i seeds h) t.took
-  where
-    whole : (k : ℕ) (xs : List ℕ) → length xs ≤ k → take k xs ≡ xs
-    whole zero [] l = refl
-    whole zero (x ∷ xs) l = absurd (omega arith)
-    whole (suc k) [] l = refl
-    whole (suc k) (x ∷ xs) l = ap {B = List ℕ} (λ (ys : List ℕ). x ∷ ys) (whole k xs (omega arith))
 
 module _ {n when i count : ℕ} {w₀ seeds w : List ℕ} (t : Taking n w₀ seeds when i w count) (l : i < length seeds) where
   pub take-going : Going n w (get_or seeds i 0) when count

@@ -12,7 +12,7 @@ use reachable::expand;
 // How many targets a batch has at most.
 const BATCH: usize = 64;
 
-// How many targets are in a batch, and the record that the next one starts from.
+// How many targets are in a batch, and the record that the next one starts from. A batch is a fixed array: the project has no heap.
 #[derive(Clone, Copy)]
 struct Batch {
     many: usize,
@@ -57,7 +57,8 @@ fn hand_over(w: &mut [u8], size: usize, r: &[u8], from: usize, records: usize) -
     batched.next
 }
 
-// What the destinations of the records from `since` on lead to counts as reached when the next round begins.
+// What the destinations of the records from `since` on lead to counts as reached when the next round begins. A batch takes as many records as fill it, so they
+// are not counted one by one.
 pub fn hand_all(w: &mut [u8], size: usize, r: &[u8], since: usize, records: usize)
     requires { HandsOver size w.old r.now since records }
     ensures { HandedAll size w.old r.now since records w.new }

@@ -14,8 +14,8 @@ use Rattle.theorems.proofs.ReaderPlaces.{never}
 use Rattle.theorems.proofs.ReaderBad.{refused-exactly, refused-within}
 use Rattle.theorems.proofs.SalvageLaws.{ReadsWhole, Salvages, all_copied, stops_here, one_copied, has-byte, salvages-in, salvages-once, first-and-left}
 use Rattle.salvage.specs.Promises.{first_of, judged_of}
-use Rattle.salvage.specs.declared.first.First.{First}
-use Rattle.salvage.specs.declared.first.First.TheVariants.{Whole, Bad}
+use Rattle.reader.specs.declared.scan.BadEntry.{BadEntry}
+use Rattle.std.specs.Prelude.{Result, Ok, Err}
 
 -- what is salvaged from an offset on
 abbrev left_of : List ℕ → ℕ → Salvaged
@@ -46,29 +46,29 @@ module _ (a : List ℕ) (at : ℕ) where
   one-long = omega (arith, ap length (first-and-left (drop at a)), length-append one (drop (length one) (drop at a)))
 
   -- of the first map from there on
-  abbrev Says : First → Type 0
+  abbrev Says : Result ℕ BadEntry → Type 0
   Says x = x ≡ first_of (length (first_map (take (length a - at) (drop at a)))) (read (first_map (take (length a - at) (drop at a))))
 
-  says : {x : First} → Says x → x ≡ first_of (length one) (read one)
+  says : {x : Result ℕ BadEntry} → Says x → x ≡ first_of (length one) (read one)
   says e = e ∙ ap (λ (l : List ℕ). first_of (length (first_map l)) (read (first_map l))) part
 
   record Copies (n : ℕ) : Type 0 where
     whole : ReadsWhole one
     size : n ≡ length one
 
-  copies : {x : First} {n : ℕ} → Says x → x ≡ Whole n → Copies n
+  copies : {x : Result ℕ BadEntry} {n : ℕ} → Says x → x ≡ Ok n → Copies n
   copies {x} {n} e q = by_said (read one) refl (sym q ∙ says e)
     where
-      by_said : (r : Said) → read one ≡ r → Whole n ≡ first_of (length one) r → Copies n
+      by_said : (r : Said) → read one ≡ r → Ok n ≡ first_of (length one) r → Copies n
       by_said (holds m) g h = record { whole = (m, g); size = cc }
       by_said (bad o) g h = never (cc)
 
-  refuses : {x : First} {o : ℕ} → Says x → x ≡ Bad o → read one ≡ bad o
+  refuses : {x : Result ℕ BadEntry} {o : BadEntry} → Says x → x ≡ Err o → read one ≡ bad o.offset
   refuses {x} {o} e q = by_said (read one) refl (sym q ∙ says e)
     where
-      by_said : (r : Said) → read one ≡ r → Bad o ≡ first_of (length one) r → read one ≡ bad o
+      by_said : (r : Said) → read one ≡ r → Err o ≡ first_of (length one) r → read one ≡ bad o.offset
       by_said (holds m) g h = never (cc)
-      by_said (bad i) g h = let z : o ≡ i = cc in g ∙ ap bad (sym z)
+      by_said (bad i) g h = let z : o ≡ record { offset = i } = cc in g ∙ ap (λ (e : BadEntry). bad e.offset) (sym z)
 
 module _ {a : List ℕ} {maps at : ℕ} (j : Judges a maps at) where
   judged-so : {s : Salvaged} → left_of a at ≡ s → s.maps ≡ [] → {o : ℕ} → o ≡ s.offset → record { maps = maps; bytes = at; offset = o } ≡ judged_of (salvage a)
@@ -85,21 +85,21 @@ module _ {a : List ℕ} {maps at : ℕ} (j : Judges a maps at) where
       none_left [] e = refl
       none_left (x ∷ xs) e = absurd (omega arith)
 
-  module _ (h : at < length a) {x : First} (e : Says a at x) where
+  module _ (h : at < length a) {x : Result ℕ BadEntry} (e : Says a at x) where
     some_left : 0 < length (drop at a)
     some_left = rw length-drop (omega arith)
 
-    pub judged-bad : {o : ℕ} → x ≡ Bad o → record { maps = maps; bytes = at; offset = at + o } ≡ judged_of (salvage a)
-    judged-bad {o} q = judged-so (left_is a at (stops_here some_left ((refused-exactly (one a at) o).0 (refuses a at e q)))) refl refl
+    pub judged-bad : {o : BadEntry} → x ≡ Err o → record { maps = maps; bytes = at; offset = at + o.offset } ≡ judged_of (salvage a)
+    judged-bad {o} q = judged-so (left_is a at (stops_here some_left ((refused-exactly (one a at) o.offset).0 (refuses a at e q)))) refl refl
 
-    pub bad-fits : {o : ℕ} → x ≡ Bad o → length a < 2 ^ 64 → Fits w64 (at + o)
-    bad-fits {o} q f = within (refused-within ((refused-exactly (one a at) o).0 (refuses a at e q)))
+    pub bad-fits : {o : BadEntry} → x ≡ Err o → length a < 2 ^ 64 → Fits w64 (at + o.offset)
+    bad-fits {o} q f = within (refused-within ((refused-exactly (one a at) o.offset).0 (refuses a at e q)))
       where
-        within : (o ≡ 0) ⊎ (o < length (one a at)) → Fits w64 (at + o)
+        within : (o.offset ≡ 0) ⊎ (o.offset < length (one a at)) → Fits w64 (at + o.offset)
         within (inl z) = omega arith
         within (inr l) = omega (arith, one-long a at, length-drop at a)
 
-    module _ {n : ℕ} (q : x ≡ Whole n) where
+    module _ {n : ℕ} (q : x ≡ Ok n) where
       abbrev its : Copies a at n
       its = copies a at e q
 

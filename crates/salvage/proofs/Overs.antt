@@ -3,17 +3,16 @@ use mathlib.Core.Path.{◌≡◌, sym, ap, ap₂, ◌∙◌}
 use mathlib.Core.Bool.{Bool, true, false, not, ◌&&◌, ◌||◌}
 use mathlib.Core.List.{List}
 use Prim.Native.Nat.{ℕ, ◌≤◌, ◌<◌}
-use lib.Dec.{eqb, leb}
+use Rattle.std.specs.Prelude.{Result, Ok, Err}
+use lib.Dec.{leb}
 use lib.ListN.{length}
-use borrow.Author.Tests.{le-leb, lt-leb, eq-eqb, ne_eqb}
-use Rattle.spec.specs.Lists.{if}
-use Rattle.laws.proofs.Branch.{if-true, if-false, and-false}
+use borrow.Author.Tests.{le-leb, lt-leb}
+use Rattle.laws.proofs.Branch.{and-false}
+use Rattle.theorems.proofs.ReaderPlaces.{never}
 use Rattle.reader.specs.Scanning.{last_of}
 use Rattle.reader.specs.declared.scan.Scan.{Scan}
-use Rattle.reader.specs.declared.scan.Reading.{Reading}
-use Rattle.salvage.specs.Promises.{runs, over_of, closed_of}
-use Rattle.salvage.specs.declared.first.First.{First}
-use Rattle.salvage.specs.declared.first.First.TheVariants.{Whole, Bad}
+use Rattle.reader.specs.declared.scan.BadEntry.{BadEntry}
+use Rattle.salvage.specs.Promises.{runs, over_of, close, closed_of}
 
 -- ---- over
 
@@ -28,23 +27,25 @@ module _ (b : List ℕ) (s : Scan) (n m : ℕ) where
     some_left : over_of b s n m ≡ leb n s.blocks && (leb m s.records && not run-next)
     some_left = ap (λ (c : Bool). c || (leb n s.blocks && (leb m s.records && not run-next))) (lt-leb _ _ h)
 
-    pub over-blocks : s.blocks < n → false ≡ over_of b s n m
-    over-blocks k = sym (some_left ∙ ap (λ (c : Bool). c && (leb m s.records && not run-next)) (lt-leb _ _ k))
+    -- the counts are met, or not
+    module _ {x : Bool} where
+      pub over-met : n ≤ s.blocks → x ≡ leb m s.records → x ≡ true → {r : Bool} → r ≡ run-next → not r ≡ over_of b s n m
+      over-met j k t q = sym (some_left ∙ ap₂ (λ (x y : Bool). x && (y && not run-next)) (le-leb _ _ j) (sym k ∙ t) ∙ ap not (sym q))
 
-    pub over-records : s.records < m → false ≡ over_of b s n m
-    over-records k = sym (some_left ∙ and-false (leb n s.blocks) (ap (λ (c : Bool). c && not run-next) (lt-leb _ _ k)))
+      pub over-neither : s.blocks < n → x ≡ leb n s.blocks → x ≡ true → (r : Bool) → not r ≡ over_of b s n m
+      over-neither k e t r = let z : false ≡ true = sym (lt-leb _ _ k) ∙ sym e ∙ t in never (cc)
 
-    pub over-counts : n ≤ s.blocks → m ≤ s.records → {r : Bool} → r ≡ run-next → not r ≡ over_of b s n m
-    over-counts j k q = sym (some_left ∙ ap₂ (λ (x y : Bool). x && (y && not run-next)) (le-leb _ _ j) (le-leb _ _ k) ∙ ap not (sym q))
+      pub over-blocks : s.blocks < n → x ≡ false → x ≡ over_of b s n m
+      over-blocks k e = e ∙ sym (some_left ∙ ap (λ (c : Bool). c && (leb m s.records && not run-next)) (lt-leb _ _ k))
+
+      pub over-records : x ≡ leb m s.records → x ≡ false → x ≡ over_of b s n m
+      over-records k e = e ∙ sym (some_left ∙ and-false (leb n s.blocks) (ap (λ (c : Bool). c && not run-next) (sym k ∙ e)))
 
 -- ---- closed
 
-module _ (s : Scan) (n m : ℕ) {r : Reading} (e : r ≡ last_of s n m) where
-  abbrev said : Reading → First
-  said x = if (eqb x.number 0) (Whole s.at) (Bad x.offset)
+module _ (s : Scan) (n m : ℕ) {r : Result Unit BadEntry} (e : r ≡ last_of s n m) where
+  pub closed-bad : {x : BadEntry} → r ≡ Err x → Err x ≡ closed_of s n m
+  closed-bad q = ap (λ (a : Result Unit BadEntry). close a s.at) (sym q ∙ e)
 
-  pub closed-bad : (r.number ≡ 0 → ⊥) → Bad r.offset ≡ closed_of s n m
-  closed-bad h = sym (if-false (eqb r.number 0) (Whole s.at) (Bad r.offset) (ne_eqb _ 0 h)) ∙ ap said e
-
-  pub closed-whole : r.number ≡ 0 → Whole s.at ≡ closed_of s n m
-  closed-whole h = sym (if-true (eqb r.number 0) (Whole s.at) (Bad r.offset) (eq-eqb _ 0 h)) ∙ ap said e
+  pub closed-whole : {u : Unit} → r ≡ Ok u → Ok s.at ≡ closed_of s n m
+  closed-whole q = ap (λ (a : Result Unit BadEntry). close a s.at) (sym q ∙ e)

@@ -6,6 +6,7 @@ use mathlib.Core.List.{List, [], ◌∷◌}
 use Prim.Native.Nat.{ℕ, ◌+◌, ◌-◌, ◌≤◌, ◌<◌}
 use native.Mathlib.Omega.{arith}
 use native.Mathlib.Decide.{dec_lt, dec_le}
+use Rattle.std.specs.Prelude.{Option, Some, None, Ok, Err}
 use lib.Dec.{eqb, leb}
 use lib.ListN.{length, drop, length-drop}
 use borrow.Author.Tests.{leb-true, leb-false, le-leb, lt-leb, eq-eqb, ne_eqb}
@@ -24,13 +25,9 @@ use Rattle.reader.specs.Classes.{class_of, step_of, stopped_of, block_inside, re
 use Rattle.reader.specs.Scanning.{turn_to, turn_of}
 use Rattle.reader.specs.declared.lead.Lead.{Lead}
 use Rattle.reader.specs.declared.class.Class.{Class}
-use Rattle.reader.specs.declared.class.Class.TheVariants.{Bad as BadOf}
 use Rattle.reader.specs.declared.class.Order.{Order}
 use Rattle.reader.specs.declared.class.Order.TheVariants.{Blocks, Sevens, Records}
-use Rattle.reader.specs.declared.class.Step.{Step}
-use Rattle.reader.specs.declared.class.Step.TheVariants.{To, Stop}
 use Rattle.reader.specs.declared.scan.Scan.{Scan}
-use Rattle.reader.specs.declared.scan.Passed.TheVariants.{On, Bad}
 use Rattle.reader.proofs.Onward.{split_from, from-whole, from_cut, from_end}
 use Rattle.reader.proofs.Judging.{entry_whole, behind-whole, entry-cut}
 use Rattle.salvage.specs.Promises.{running, runs, over_of}
@@ -96,7 +93,7 @@ module _ (b : List ℕ) (at : ℕ) where
 
   seven-cut : (Whole (drop at b) → ⊥) → seven_at b at ≡ false
   unfolding seven_at lead_at
-  seven-cut n = both (λ (l : Lead). leads_way (wide_in b) l ≡ false) (leb (6 + announced (drop at b)) (length (drop at b))) (λ y. absurd (n (leb-true _ _ y))) (λ _. refl)
+  seven-cut n = both (λ (l : Option Lead). leads_way (wide_in b) l ≡ false) (leb (6 + announced (drop at b)) (length (drop at b))) (λ y. absurd (n (leb-true _ _ y))) (λ _. refl)
 
 -- ---- the scan of the first map
 
@@ -203,16 +200,16 @@ module _ (b : List ℕ) where
       stopped-same (Sevens low block left) e = ap (stopped_of (Sevens low block left) at) (ap₂ sevens family e ∙ own-sevens (wide_in b) (n - s.blocks) (m - s.records) (from b at))
       stopped-same (Records form) e = refl
 
-      abbrev class-there : Class
+      abbrev class-there : Option Class
       class-there = class_of (entry_at b at)
 
       pub same_turn : turn_of mine s ≡ turn_of b s
       unfolding turn_of
       same_turn = by-meets meets
         where
-          to_same : behind_at mine at ≡ behind_at b at → (k : Class) (st : Step) → turn_to mine s k st ≡ turn_to b s k st
-          to_same e k (To p) = ap (λ (i : ℕ). On (record { at = i; place = p; blocks = s.blocks + block_inside k; records = s.records + record_inside k })) e
-          to_same e k Stop = ap Bad (stopped-same s.place o)
+          to_same : behind_at mine at ≡ behind_at b at → (k : Option Class) (st : Option Order) → turn_to mine s k st ≡ turn_to b s k st
+          to_same e k (Some p) = ap (λ (i : ℕ). Ok (record { at = i; place = p; blocks = s.blocks + block_inside k; records = s.records + record_inside k })) e
+          to_same e k None = ap (λ (i : ℕ). Err (record { offset = i })) (stopped-same s.place o)
 
           by-class : entry_at mine at ≡ entry_at b at → turn_of mine s ≡ turn_to mine s class-there (step_of class-there s.place at)
           by-class e = ap (λ x. turn_to mine s (class_of x) (step_of (class_of x) s.place at)) e
@@ -222,29 +219,29 @@ module _ (b : List ℕ) where
           by-meets (cut-there v l u) =
               by-class (entry-cut mine at u ∙ sym (entry-cut b at v))
               ∙ ap (λ x. turn_to mine s (class_of x) (step_of (class_of x) s.place at)) (entry-cut b at v)
-              ∙ ap Bad (stopped-same s.place o)
+              ∙ ap (λ (i : ℕ). Err (record { offset = i })) (stopped-same s.place o)
               ∙ sym (ap (λ x. turn_to b s (class_of x) (step_of (class_of x) s.place at)) (entry-cut b at v))
 
       -- and goes on among the map's entries
-      pub owns-on : {t : Scan} → turn_of b s ≡ On t → Owns n m t
+      pub owns-on : {t : Scan} → turn_of b s ≡ Ok t → Owns n m t
       unfolding turn_of
       owns-on {t} e = by-meets meets
         where
-          fewer : (k : Class) → Told (sort (wide_in b) here.kind) k → (q : Order) → step_of k s.place at ≡ To q
+          fewer : (k : Option Class) → Told (sort (wide_in b) here.kind) k → (q : Order) → step_of k s.place at ≡ Some q
               → later ≡ own (wide_in b) (n - (s.blocks + block_inside k)) (m - (s.records + record_inside k)) (running q) (from b (behind_at b at))
           fewer k h q g =
               let x : n - s.blocks - block_in (sort (wide_in b) here.kind) ≡ n - (s.blocks + block_inside k) = omega (arith, h.blocks_are) in
               let y : m - s.records - record_in (sort (wide_in b) here.kind) ≡ m - (s.records + record_inside k) = omega (arith, h.records_are) in
               rw (x, y, h.run_is s.place q at g)
 
-          by-step : SameAt b mine at later → Told (sort (wide_in b) here.kind) class-there → (st : Step) → step_of class-there s.place at ≡ st → turn_to b s class-there st ≡ On t → Owns n m t
-          by-step z h (To q) g r =
+          by-step : SameAt b mine at later → Told (sort (wide_in b) here.kind) class-there → (st : Option Order) → step_of class-there s.place at ≡ st → turn_to b s class-there st ≡ Ok t → Owns n m t
+          by-step z h (Some q) g r =
               let same : record { at = behind_at b at; place = q; blocks = s.blocks + block_inside class-there; records = s.records + record_inside class-there } ≡ t = cc in
               subst (Owns n m) same (z.rest_is ∙ fewer class-there h q g)
-          by-step z h Stop g r = never (cc)
+          by-step z h None g r = never (cc)
 
-          not-bad : class-there ≡ BadOf → ⊥
-          not-bad z = let y : turn_to b s BadOf Stop ≡ On t = sym (ap (λ (k : Class). turn_to b s k (step_of k s.place at)) z) ∙ e in never (cc)
+          not-bad : class-there ≡ None → ⊥
+          not-bad z = let y : turn_to b s None None ≡ Ok t = sym (ap (λ (k : Option Class). turn_to b s k (step_of k s.place at)) z) ∙ e in never (cc)
 
           by-meets : Meets → Owns n m t
           by-meets (entry-there w z) =

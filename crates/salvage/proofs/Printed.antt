@@ -4,6 +4,8 @@ use mathlib.Core.List.{List, [], ◌∷◌, ◌++◌, append_assoc, append-nil}
 use Prim.Native.Nat.{ℕ, ◌+◌, ◌-◌, ◌≤◌, ◌<◌}
 use native.Mathlib.Omega.{arith}
 use native.Mathlib.Nat.{zero-add}
+use Rattle.std.specs.Prelude.{Ok, Err}
+use Rattle.refusal.specs.declared.Refusal.TheVariants.{Archive}
 use lib.ListN.{length, take, drop}
 use lib.Seq.{take-append_seam}
 use Rattle.spec.specs.Lists.{little}
@@ -12,7 +14,7 @@ use Rattle.spec.specs.Salvage.{Salvaged as Result, salvage, copied}
 use Rattle.theorems.proofs.SalvageLaws.{salvage-parts, salvage-lengths, written-if, NotWritten, not-if-out, not-if-report}
 use Rattle.lent.specs.Bytes.{Stored, patch}
 use Rattle.lent.proofs.Stored.{stored-join}
-use Rattle.salvage.specs.Promises.{judged_of, Salvaged}
+use Rattle.salvage.specs.Promises.{judged_of, answer_of, Salvaged}
 use Rattle.salvage.specs.declared.judge.Judged.{Judged}
 
 -- bytes stored at a buffer's front
@@ -46,13 +48,13 @@ module _ (archive : List ℕ) {j : Judged} (e : j ≡ judged_of (salvage archive
   copy-fits = omega (arith, bytes_fit)
 
   module _ (out report : List ℕ) where
-    not_written : NotWritten archive out report → Salvaged archive out report 18 out report
-    not_written k = record { number = sym k.number_is; out_is = sym k.out_is; report_is = sym k.report_is }
+    not_written : NotWritten archive out report → Salvaged archive out report (Err Archive) out report
+    not_written k = record { said = ap answer_of (sym k.number_is); out_is = sym k.out_is; report_is = sym k.report_is }
 
-    pub short-out : length out < j.bytes → Salvaged archive out report 18 out report
+    pub short-out : length out < j.bytes → Salvaged archive out report (Err Archive) out report
     short-out h = not_written (not-if-out archive out report (omega (arith, bytes_are)))
 
-    pub short-report : length report < 32 → Salvaged archive out report 18 out report
+    pub short-report : length report < 32 → Salvaged archive out report (Err Archive) out report
     short-report h = not_written (not-if-report archive out report h)
 
     -- what is copied is the archive's front
@@ -61,12 +63,12 @@ module _ (archive : List ℕ) {j : Judged} (e : j ≡ judged_of (salvage archive
         ap (λ (n : ℕ). take n archive) bytes_are ∙ ap (take (length (copied result))) (sym (salvage-parts archive)) ∙ take-append_seam (copied result) result.rest
 
     pub written : j.bytes ≤ length out → 32 ≤ length report → {out' report' : List ℕ} → Stored j.bytes out 0 (take j.bytes (drop 0 archive)) out'
-        → report' ≡ over (as_eights (j.maps ∷ j.bytes ∷ (length archive - j.bytes) ∷ j.offset ∷ [])) report → Salvaged archive out report 0 out' report'
+        → report' ≡ over (as_eights (j.maps ∷ j.bytes ∷ (length archive - j.bytes) ∷ j.offset ∷ [])) report → Salvaged archive out report (Ok tt) out' report'
     written h k s p =
         let w = written-if archive out report (omega (arith, bytes_are)) k in
         let dropped : length archive - j.bytes ≡ length result.rest = omega (arith, bytes_are, salvage-lengths archive) in
         record {
-          number = sym w.number_is;
+          said = ap answer_of (sym w.number_is);
           out_is = s.is ∙ at_front out (take j.bytes archive) ∙ ap (λ (l : List ℕ). over l out) front ∙ sym w.out_is;
           report_is =
               p ∙ ap (λ (n : ℕ). over (as_eights (j.maps ∷ j.bytes ∷ n ∷ j.offset ∷ [])) report) dropped

@@ -6,9 +6,7 @@ ghost use Rattle.salvage.specs.Promises.{Salvaged};
 
 use crate::judge::{Judged, judge};
 use lent::{copy, put64};
-
-// "18, output room short".
-const SHORT: usize = 18;
+use refusal::Refusal;
 
 // What is printed, in bytes: four numbers of 8.
 const PRINTED: usize = 32;
@@ -24,18 +22,15 @@ fn print(report: &mut [u8], judged: Judged, dropped: usize)
     put64(report, 24, judged.offset);
 }
 
-// Copies the maps that read whole, up to the first that does not, and prints what it did: 0. Or a buffer is short: 18, "nothing written".
-pub fn salvage(archive: &[u8], out: &mut [u8], report: &mut [u8]) -> usize
+// Copies the maps that read whole, up to the first that does not, and prints what it did. Or a buffer is short: "18, output room short, nothing written".
+pub fn salvage(archive: &[u8], out: &mut [u8], report: &mut [u8]) -> Result<(), Refusal>
     ensures { Salvaged archive.now out.old report.old result out.new report.new }
 {
     let judged = judge(archive);
-    if out.len() < judged.bytes {
-        return SHORT;
-    }
-    if report.len() < PRINTED {
-        return SHORT;
+    if out.len() < judged.bytes || report.len() < PRINTED {
+        return Err(Refusal::Archive);
     }
     copy(out, 0, archive, 0, judged.bytes);
     print(report, judged, archive.len() - judged.bytes);
-    0
+    Ok(())
 }

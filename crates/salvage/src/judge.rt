@@ -4,7 +4,7 @@ ghost use Rattle.std.specs.Prelude.{◌≡◌};
 ghost use Rattle.spec.specs.Salvage.{salvage};
 ghost use Rattle.salvage.specs.Promises.{judged_of};
 
-use crate::first::{First, first_map};
+use crate::first::first_map;
 
 // How many maps are copied and how many bytes they have, and "the offset of the first bad entry, or the input's length".
 #[derive(Clone, Copy)]
@@ -20,26 +20,24 @@ pub fn judge(archive: &[u8]) -> Judged
 {
     let mut maps = 0;
     let mut at = 0;
-    loop {
-        if archive.len() <= at {
-            return Judged {
-                maps,
-                bytes: at,
-                offset: at,
-            };
-        }
+    while at < archive.len() {
         match first_map(&archive[at..]) {
-            First::Whole(long) => {
+            Ok(long) => {
                 maps += 1;
                 at += long;
             }
-            First::Bad(offset) => {
+            Err(bad) => {
                 return Judged {
                     maps,
                     bytes: at,
-                    offset: at + offset,
+                    offset: at + bad.offset,
                 };
             }
         }
+    }
+    Judged {
+        maps,
+        bytes: at,
+        offset: at,
     }
 }

@@ -66,7 +66,7 @@ pub record Mapping (s₀ : List ℕ) (child c to : ℕ) (p : Stack) (i : ℕ) (s
   pub mapped : Mapped s₀ child i to p s
 
 module _ {s₀ w : List ℕ} {child c to parent p : ℕ} (q : Composes s₀ child c to w parent p) where
-  child-count : c ≡ cells (stack_at s₀ child c)
+  pub child-count : c ≡ cells (stack_at s₀ child c)
   child-count = lies-count (state-lies s₀ child c q.child_state)
 
   pub map-none : Mapping s₀ child c to (stack_at w parent p) 0 s₀
@@ -110,27 +110,6 @@ module _ {s₀ w : List ℕ} {child c to parent p : ℕ} (q : Composes s₀ chil
               room = omega (arith, m.room, g.stored.kept);
               mapped = record { wrote = rw syms (wrote-more to i m.mapped.wrote g) };
             }
-
--- the same where the parent lies in s
-module _ {s₀ : List ℕ} {child c to parent p : ℕ} (q : ComposesKept s₀ child c to parent p) where
-  pub kept-none : Mapping s₀ child c to (stack_at s₀ parent p) 0 s₀
-  kept-none = map-none q.both
-
-  module _ {i : ℕ} {s : List ℕ} (m : Mapping s₀ child c to (stack_at s₀ parent p) i s) where
-    pub kept-done : c ≤ i → Mapped s₀ child c to (stack_at s₀ parent p) s
-    kept-done = map-done q.both m
-
-    pub kept-lies : Lies s parent p (stack_at s₀ parent p)
-    kept-lies =
-        let few = cells-compose (stack_at s₀ child c) (stack_at s₀ parent p) in
-        lies-apart m.mapped.wrote.stored (λ l. q.clear (omega (arith, m.most, few, child-count q.both))) (state-lies s₀ parent p q.both.parent_state)
-
-    module _ (h : i < c) {x : Sym} (e : x ≡ sym_at s (child + 9 * i)) where
-      pub kept-asks : Resolves s parent p x
-      kept-asks = record { state = kept-lies.state; small = rw kept-lies.is (map-asks q.both m h e).small }
-
-      pub kept_more : {y : Sym} {s' : List ℕ} → y ≡ through (stack_at s parent p) x → Put s (to + 9 * i) y s' → Mapping s₀ child c to (stack_at s₀ parent p) (i + 1) s'
-      kept_more f g = map_more q.both m h e (f ∙ ap (λ (t : Stack). through t x) kept-lies.is) g
 
 -- ---- and the parent's cells that lie deeper
 
@@ -182,8 +161,3 @@ module _ {s₀ w : List ℕ} {child c to parent p : ℕ} (q : Composes s₀ chil
           sym (syms-drop b parent p (base + 1) (omega arith) ∙ ap (syms_at b at) r) ∙ ap (drop (base + 1)) (lies-syms l) ∙ ap (λ (i : ℕ). drop i (stored P)) f in
           let wrote : Wrote d s₁ (to + 9 * c) (drop (suc C.base) (stored P)) s₂ = record { stored = rw (c₁.are, rest) at k; reads = syms-within s₂ b (to + 9 * c) at d (read_all k) ∙ rest } in
           composed (compose C P) (rw (stored-compose C P) (wrote-join to c d over wrote))
-
--- where the parent is kept in s: it lies there after the child's cells are written
-pub kept-after : {s₀ s₁ : List ℕ} {child c to parent p : ℕ} → ComposesKept s₀ child c to parent p → Mapped s₀ child c to (stack_at s₀ parent p) s₁
-    → Lies s₁ parent p (stack_at s₀ parent p)
-kept-after {c = c} q m = kept-lies q {i = c} (record { most = omega arith; room = omega (arith, m.wrote.stored.fits, m.wrote.stored.kept); mapped = m })

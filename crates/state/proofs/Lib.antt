@@ -2,6 +2,7 @@
 pub mod States
 pub mod Reach
 pub mod Composing
+pub mod Homes
 pub mod Comparing
 pub mod Syms
 pub mod Cells

@@ -2,11 +2,11 @@
 use mathlib.Core.Path.{◌≡◌, refl, sym, ap, ◌∙◌}
 use mathlib.Core.Option.{Option}
 use mathlib.Core.List.{List}
-use Prim.Native.Nat.{ℕ, ◌*◌}
+use Prim.Native.Nat.{ℕ, ◌*◌, ◌<◌}
 use Rattle.spec.specs.Stacks.{Sym, before, constant, jumpdest, other, Stack}
 use Rattle.lent.proofs.Once.{Same, one-stored, same-both}
 use Rattle.state.specs.Symbols.{sym_of, known_of}
-use Rattle.state.specs.Cells.{Put, Lies}
+use Rattle.state.specs.Cells.{tag, value, Put, Lies}
 use Rattle.state.specs.Composed.{Composed}
 use Rattle.state.specs.declared.sym.StackSym.{StackSym}
 use Rattle.state.specs.declared.sym.StackSym.TheVariants.{Before, Constant, Jumpdest, Other}
@@ -36,6 +36,9 @@ one_known {x = Some v} {y = Some u} p q = cc
 one_known {x = Some v} {y = None} p q = cc
 one_known {x = None} {y = Some u} p q = cc
 one_known {x = None} {y = None} p q = refl
+
+pub one-parts : (x : Sym) {p q : ℕ × ℕ} → (p.0 ≡ tag x) × (p.1 ≡ value x) × (p.0 < 4) → (q.0 ≡ tag x) × (q.1 ≡ value x) × (q.0 < 4) → p ≡ q
+one-parts x (a, b, c) (d, e, f) = λ i. ((a ∙ sym d) i, (b ∙ sym e) i)
 
 -- ---- what stands in the buffers
 

@@ -2,4 +2,5 @@ pub mod Symbols
 pub mod Cells
 pub mod Stored
 pub mod Composed
+pub mod Homes
 pub mod Compared

@@ -8,7 +8,7 @@ ghost use Rattle.state.specs.Compared.{TwoCells, TwoStates};
 use crate::cell::CELL;
 use lent::{get8, get64};
 
-// Whether the cells at `one` and at `other` hold the same symbol.
+// Whether the cells at `one` and at `other` hold the same symbol: by their two numbers, since of == on two symbols that were read the proof did not close.
 fn same_cell(bytes: &[u8], one: usize, other: usize) -> bool
     requires { TwoCells bytes.now one other }
     ensures { result ≡ eq_sym (sym_at bytes.now one) (sym_at bytes.now other) }

@@ -10,7 +10,8 @@ use layout::row::ROW;
 use lent::{get16, get32};
 use parents::link::{first_parent, next_parent, parent_start};
 
-// The least number of a found parent: it and the record's index.
+// The least number of a found parent: it and the record's index. A cursor is a number, since a link to a direct parent is one in its row, 0 for none: an enum would
+// have to carry beside it that a link is below this number, which the test of the number tells.
 pub const FOUND: usize = 0x1_0000;
 
 // The cursor of a found parent, by a link to it, if it was there when the level opened.

@@ -21,6 +21,7 @@ fn mark_found(w: &mut [u8], size: usize, to: usize, when: usize)
 }
 
 // Records the path of np addresses with the entry's destination and its state, or with none, unless it is so recorded, and marks a new destination. A refusal leaves all as it was.
+// The buffers stay apart, as `record_entry` takes them: no function of this crate uses all six.
 pub fn land(
     w: &mut [u8],
     p: &[u8],

@@ -1,12 +1,9 @@
-use Rattle.parents.proofs.PrepareLoop.{walk_none, walk-read, walk-row, walk_more}
+use Rattle.parents.proofs.PrepareLoop.{walk_none, walk-row, walk_more}
 use Rattle.parents.proofs.Ends.{prepared-all}
 use Rattle.parents.proofs.prepare.Goals as goal
 
 pub loop-place-init : goal.loop-place-init
 loop-place-init c = search walk_none
-
-pub start_at-start-requires : goal.start_at-start-requires
-start_at-start-requires c = search walk-read
 
 pub prepare_row-many-requires : goal.prepare_row-many-requires
 prepare_row-many-requires c = search walk-row

@@ -2,7 +2,6 @@
 use mathlib.Core.Path.{◌∙◌}
 use mathlib.Core.List.{List}
 use Prim.Native.Nat.{ℕ}
-use borrow.Author.Rules.{rules}
 use Rattle.layout.specs.Rows.{read_at}
 use Rattle.parents.specs.Writes.{link_sides}
 use Rattle.parents.specs.Promises.{Sides, Wrote, Settled, PreparesRow, PreparedRow}
@@ -14,9 +13,6 @@ module _ {mode : ℕ} {code w : List ℕ} {end a many : ℕ} (p : PreparesRow mo
 
   row-both : {v w' : List ℕ} {r : ℕ} → Settled mode code w end a many v r → Wrote v w' (link_sides v a (read_at v a)) → PreparedRow mode code w end a many w' r
   row-both {v} s d = record { between = v; settled = s; linked = d; kept = d.kept ∙ s.kept }
-
-pub settle-taken-requires : goal.settle-taken-requires
-settle-taken-requires c = search rules
 
 pub link_sides-requires : goal.link_sides-requires
 link_sides-requires c = search row-sides

@@ -1,16 +1,18 @@
 -- `evm::rows::words_of` meets its contract: at the bytes of each arm the list says what the arm gives. Assumes nothing.
 use mathlib.Core.Logic.{⊎_elim}
-use Prim.Native.Nat.{ℕ, ◌+◌, ◌-◌}
+use Prim.Native.Nat.{◌+◌, ◌-◌}
 use Rattle.spec.specs.Lists.{if}
 use Rattle.spec.specs.Opcodes.{row}
+use Rattle.std.specs.Prelude.{Option, None}
+use Rattle.evm.specs.declared.rows.Words.{Words}
 use Rattle.evm.specs.Rows.{each}
 use Rattle.evm.proofs.Table.{◌both◌, each_of, every, zero-below}
 use Rattle.evm.proofs.Listed.{among, named-or, keyed, within, ranged}
 use Rattle.evm.proofs.rows.words_of.Goals as goal
 use Rattle.evm.proofs.rows.words_of.Goals.{in-240-1, in-32-1, in-48-1, in-85-1, in_default+else-op-lt73+else-op-lt80+then-op-lt84, in_default+then-op-lt73+else-op-lt8+else-op-lt10+else-op-lt12+else-op-lt16+else-op-lt30+else-op-lt48+else-op-lt53+else-op-lt65, in_default+then-op-lt73+else-op-lt8+else-op-lt10+else-op-lt12+else-op-lt16+else-op-lt30+else-op-lt48+else-op-lt53+then-op-lt65, in_default+then-op-lt73+else-op-lt8+else-op-lt10+else-op-lt12+else-op-lt16+else-op-lt30+else-op-lt48+then-op-lt53, in_default+then-op-lt73+else-op-lt8+else-op-lt10+else-op-lt12+else-op-lt16+then-op-lt30, in_default+then-op-lt73+else-op-lt8+else-op-lt10+then-op-lt12, in_default+then-op-lt73+else-op-lt8+then-op-lt10, in_default+then-op-lt73+then-op-lt8}
 
-abbrev unknown : ℕ
-unknown = 1024
+abbrev unknown : Option Words
+unknown = None
 
 pub returns-in-0 : goal.returns-in-0
 unfolding among named-or each_of every row if ◌both◌

@@ -41,7 +41,7 @@ swapped-requires c = search steps-deepens
 
 pub trade-requires : goal.trade-requires
 trade-requires c =
-    let d : does (mode_of c.args.mode) c.args.op ≡ plain = elim c.in_default.branch [
+    let d : does (mode_of c.args.mode) c.args.instruction.op ≡ plain = elim c.in_default.branch [
       | in_default-via-then-op-lt95 w ↦ search plain-low
       | in_default-via-else-op-lt95+else-op-lt100+then-op-lt128 w ↦ search plain-mid
       | in_default-via-else-op-lt95+else-op-lt100+else-op-lt128+else-op-lt144+else-op-lt160+then-op-lt253 w ↦ search plain-high
@@ -50,7 +50,7 @@ trade-requires c =
 
 pub trade-requires-in-0 : goal.trade-requires-in-0
 trade-requires-in-0 c =
-    let d : does (mode_of c.args.mode) c.args.op ≡ halts = elim c.in-0-1.branch [
+    let d : does (mode_of c.args.mode) c.args.instruction.op ≡ halts = elim c.in-0-1.branch [
       | in-0-1 w ↦ search halts-key
       | in_default+else-op-lt95+else-op-lt100+else-op-lt128+else-op-lt144+else-op-lt160+else-op-lt253 w ↦ search (does-halts, arith)
     ] in
@@ -88,7 +88,7 @@ returns-in-144-to-159 c = search on-swap
 
 pub returns-in_default : goal.returns-in_default
 returns-in_default c =
-    let d : does (mode_of c.args.mode) c.args.op ≡ plain = elim c.in_default.branch [
+    let d : does (mode_of c.args.mode) c.args.instruction.op ≡ plain = elim c.in_default.branch [
       | in_default-via-then-op-lt95 w ↦ search plain-low
       | in_default-via-else-op-lt95+else-op-lt100+then-op-lt128 w ↦ search plain-mid
       | in_default-via-else-op-lt95+else-op-lt100+else-op-lt128+else-op-lt144+else-op-lt160+then-op-lt253 w ↦ search plain-high
@@ -97,7 +97,7 @@ returns-in_default c =
 
 pub returns-in-0 : goal.returns-in-0
 returns-in-0 c =
-    let d : does (mode_of c.args.mode) c.args.op ≡ halts = elim c.in-0-1.branch [
+    let d : does (mode_of c.args.mode) c.args.instruction.op ≡ halts = elim c.in-0-1.branch [
       | in-0-1 w ↦ search halts-key
       | in_default+else-op-lt95+else-op-lt100+else-op-lt128+else-op-lt144+else-op-lt160+else-op-lt253 w ↦ search (does-halts, arith)
     ] in

@@ -1,5 +1,6 @@
--- `merge`: the blocks of the first i records are merged. The measure is the records left. Assumes nothing.
+-- `merge`: the blocks of the first i records are merged. Assumes nothing.
 use borrow.Author.Rules.{rules}
+use Prim.Native.Nat.{◌<◌}
 use Rattle.graph.proofs.Merging.{merge-start, merge-room, merge_in, merge-start-of, merge-turn, merge-done}
 use Rattle.graph.proofs.merge.merge.Goals as goal
 
@@ -7,11 +8,13 @@ pub loop-row-init : goal.loop-row-init
 loop-row-init c = search merge-start
 
 pub overflow_mul-row : goal.overflow_mul-row
-overflow_mul-row c = let within = merge_in c.requires c.loop-row-test.true in
+overflow_mul-row c = let test : c.loop-row.row < c.args.records = search rules in
+    let within = merge_in c.requires test in
     search rules
 
 pub get16-start-requires : goal.get16-start-requires
-get16-start-requires c = let within = merge_in c.requires c.loop-row-test.true in
+get16-start-requires c = let test : c.loop-row.row < c.args.records = search rules in
+    let within = merge_in c.requires test in
     search rules
 
 pub merge_row-requires : goal.merge_row-requires

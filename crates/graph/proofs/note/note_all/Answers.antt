@@ -9,12 +9,6 @@ loop-row-init c = search note-start
 pub note-requires : goal.note-requires
 note-requires c = record { room = search note-room; starts = search note-row }
 
-pub overflow_add-row : goal.overflow_add-row
-overflow_add-row c = search rules
-
-pub loop-row-smaller : goal.loop-row-smaller
-loop-row-smaller c = search rules
-
 pub loop-row-preserved : goal.loop-row-preserved
 loop-row-preserved c = search note-turn
 

@@ -2,8 +2,8 @@
 use Rattle.graph.proofs.Rewriting.{edge-dynamic, edge_other}
 use Rattle.graph.proofs.rewrite.edge_to.Goals as goal
 
-pub returns-then-get8-eq-DYNAMIC_JUMP : goal.returns-then-get8-eq-DYNAMIC_JUMP
-returns-then-get8-eq-DYNAMIC_JUMP c = search edge-dynamic
+pub returns-then-is_dynamic_jump : goal.returns-then-is_dynamic_jump
+returns-then-is_dynamic_jump c = search edge-dynamic
 
-pub returns : goal.returns
-returns c = search edge_other
+pub returns-else-is_dynamic_jump : goal.returns-else-is_dynamic_jump
+returns-else-is_dynamic_jump c = search edge_other

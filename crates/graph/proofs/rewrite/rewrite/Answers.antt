@@ -9,12 +9,6 @@ loop-row-init c = search rewrite-start
 pub rewrite_row-requires : goal.rewrite_row-requires
 rewrite_row-requires c = search rewrite-row
 
-pub overflow_add-row : goal.overflow_add-row
-overflow_add-row c = search rules
-
-pub loop-row-smaller : goal.loop-row-smaller
-loop-row-smaller c = search rules
-
 pub loop-row-preserved : goal.loop-row-preserved
 loop-row-preserved c = search rewrite-turn
 

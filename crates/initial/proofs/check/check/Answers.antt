@@ -1,16 +1,12 @@
 -- `check` meets its contract: the rows before a are checked and the starts of their blocks are listed, all else is as it was, and none is passed over that holds a block. The measure is the rows left. Assumes nothing.
-use borrow.Author.Rules.{rules}
-use Rattle.initial.proofs.Checking.{check-none, check-rows, check-listing, check-starts, check-fits, check-less, check-more, check-past, check_done}
+use Rattle.initial.proofs.Checking.{check-none, check-starts, check-fits, check-less, check-more, check-past, check_done}
 use Rattle.initial.proofs.check.check.Goals as goal
 
 pub loop-start-init : goal.loop-start-init
 loop-start-init c = search check-none
 
-pub check_row-requires : goal.check_row-requires
-check_row-requires c = record { rows = search check-rows; start_in_bounds = search rules }
-
-pub list_row-requires : goal.list_row-requires
-list_row-requires c = record { listing = search check-listing; starts = check-starts c.requires.rows c.loop-start.invariant c.requires.apart c.loop-start-test.true c.check_row.ensures.checked c.check_row.ensures.starts c.in-Some.is }
+pub list_row-requires-clause-starts : goal.list_row-requires-clause-starts
+list_row-requires-clause-starts c = check-starts c.requires.rows c.loop-start.invariant c.requires.apart c.loop-start-test.true c.check_row.ensures.checked c.check_row.ensures.starts c.in-Some.is
 
 pub overflow_add-start : goal.overflow_add-start
 overflow_add-start c = search check-fits

@@ -1,5 +1,5 @@
 -- `cut` meets its contract: what is written and what is still to be cut are the whole. The measure is what is left of the code. Assumes nothing.
-use Rattle.initial.proofs.Cutting.{cut-empty, cut-starts, last-asks, cut-last, cut-ready, cut_stands, cut-stops, cut-less, cut-more}
+use Rattle.initial.proofs.Cutting.{cut-empty, cut-starts, cut-last, cut-ready, cut_stands, cut-stops, cut-less, cut-more}
 use Rattle.initial.proofs.cut.cut.Goals as goal
 
 pub returns-then-size-eq0 : goal.returns-then-size-eq0
@@ -7,9 +7,6 @@ returns-then-size-eq0 c = search cut-empty
 
 pub loop-pc-init : goal.loop-pc-init
 loop-pc-init c = search cut-starts
-
-pub last-requires : goal.last-requires
-last-requires c = search last-asks
 
 pub returns : goal.returns
 returns c = search cut-last

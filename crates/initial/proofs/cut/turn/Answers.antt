@@ -1,12 +1,6 @@
 -- `turn` meets its contract: each way out keeps what is written and what is still to be cut together. Assumes nothing.
-use Rattle.initial.proofs.Taking.{turn-asks, turn-room, turn-goes, turn-closes, turn-found, turn-waits, turn-ended}
+use Rattle.initial.proofs.Taking.{turn-goes, turn-closes, turn-found, turn-waits, turn-ended}
 use Rattle.initial.proofs.cut.turn.Goals as goal
-
-pub closes-requires : goal.closes-requires
-closes-requires c = search turn-asks
-
-pub put_block-requires : goal.put_block-requires
-put_block-requires c = search turn-room
 
 pub returns-in-Goes : goal.returns-in-Goes
 returns-in-Goes c = search turn-goes

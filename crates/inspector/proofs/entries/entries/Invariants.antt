@@ -6,7 +6,7 @@ use Prim.Native.Nat.{◌-◌}
 use Rattle.inspector.proofs.entries.entries.Given as goal
 
 abbrev pub invariant-loop-entry : goal.invariant-loop-entry
-invariant-loop-entry l = Looking (mode_of l.mode) l.map l.code l.from l.start l.block l.initial.w l.at l.owner l.w
+invariant-loop-entry l = Looking (mode_of l.replay.mode) l.replay.map.now l.replay.code.now l.from l.start l.block l.initial.w l.at l.owner l.w
 
 abbrev pub decreases-loop-entry : goal.decreases-loop-entry
-decreases-loop-entry l = length l.map - l.at
+decreases-loop-entry l = length l.replay.map.now - l.at

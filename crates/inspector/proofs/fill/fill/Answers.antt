@@ -3,7 +3,7 @@ use Rattle.inspector.proofs.FillLoop.{fill_start, fill-over, fill-in, fill-lent,
 use Rattle.inspector.proofs.fill.fill.Goals as goal
 
 pub loop-entry-init : goal.loop-entry-init
-loop-entry-init c = search fill_start
+loop-entry-init c = fill_start (record { held = c.args.replay.held }) c.requires
 
 pub note-requires : goal.note-requires
 note-requires c = record { at_in_bounds = search fill-in; lent = search fill-lent }
@@ -14,5 +14,5 @@ loop-entry-smaller c = search fill-less
 pub loop-entry-preserved : goal.loop-entry-preserved
 loop-entry-preserved c = search fill_on
 
-pub returns-in-Over : goal.returns-in-Over
-returns-in-Over c = search fill-over
+pub returns : goal.returns
+returns c = search fill-over

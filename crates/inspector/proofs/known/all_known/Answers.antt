@@ -1,9 +1,9 @@
--- `all_known` meets its contract: each way out is a law of its own. Assumes nothing.
-use Rattle.inspector.proofs.Knowing.{knows_start, knows-unknown, knows-last, knows-less, knows_on, knows-end}
+use mathlib.Core.Path.{◌∙◌}
+use Rattle.inspector.proofs.Knowing.{knows_start, knows-unknown, knows-last, knows_on, knows-end}
 use Rattle.inspector.proofs.known.all_known.Goals as goal
 
-pub loop-pc-init : goal.loop-pc-init
-loop-pc-init c = search knows_start
+pub loop-instruction-init : goal.loop-instruction-init
+loop-instruction-init c = knows_start (c.into_iter-instruction-iterator.ensures.into_iter_gives ∙ c.new-instruction-items.ensures)
 
 pub returns-then-not-known : goal.returns-then-not-known
 returns-then-not-known c = search knows-unknown
@@ -11,11 +11,8 @@ returns-then-not-known c = search knows-unknown
 pub returns-then-last : goal.returns-then-last
 returns-then-last c = search knows-last
 
-pub loop-pc-smaller : goal.loop-pc-smaller
-loop-pc-smaller c = search knows-less
+pub loop-instruction-preserved : goal.loop-instruction-preserved
+loop-instruction-preserved c = search knows_on
 
-pub loop-pc-preserved : goal.loop-pc-preserved
-loop-pc-preserved c = search knows_on
-
-pub returns-in-End : goal.returns-in-End
-returns-in-End c = search knows-end
+pub returns : goal.returns
+returns c = search knows-end

@@ -5,8 +5,8 @@ use lib.ListN.{length}
 use Prim.Native.Nat.{◌-◌}
 use Rattle.inspector.proofs.list.rest.Given as goal
 
-abbrev pub invariant-loop-offset : goal.invariant-loop-offset
-invariant-loop-offset l = Resting (mode_of l.mode) l.map l.code l.from l.start l.owner l.initial.w l.initial.rows l.w l.rows l.to l.block l.at
+abbrev pub invariant-loop-wrong : goal.invariant-loop-wrong
+invariant-loop-wrong l = Resting (mode_of l.replay.mode) l.replay.map.now l.replay.code.now l.from l.fn.first.behind l.fn.first.owner l.initial.w l.initial.rows l.w l.rows l.last.behind l.last.owner l.at
 
-abbrev pub decreases-loop-offset : goal.decreases-loop-offset
-decreases-loop-offset l = length l.map - l.to
+abbrev pub decreases-loop-wrong : goal.decreases-loop-wrong
+decreases-loop-wrong l = length l.replay.map.now - l.last.behind

@@ -17,5 +17,5 @@ loop-entry-preserved c = search seek-own
 pub returns-in-Other : goal.returns-in-Other
 returns-in-Other c = search seek-other
 
-pub returns-in-Over : goal.returns-in-Over
-returns-in-Over c = search seek-over
+pub returns : goal.returns
+returns c = search seek-over

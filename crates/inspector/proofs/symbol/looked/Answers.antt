@@ -1,5 +1,5 @@
 -- `looked` meets its contract: each way out is a law of its own. Assumes nothing.
-use Rattle.inspector.proofs.Looking.{run-asks, looked-readable, looked-read, looked-constant, looked-jumpdest, looked-other}
+use Rattle.inspector.proofs.Looking.{run-asks, looked-readable, looked-read, looked-other}
 use Rattle.inspector.proofs.symbol.looked.Goals as goal
 
 pub run-own-requires : goal.run-own-requires
@@ -11,11 +11,5 @@ symbol_at-requires c = search looked-readable
 pub returns-in-Before : goal.returns-in-Before
 returns-in-Before c = search looked-read
 
-pub returns-in-Constant : goal.returns-in-Constant
-returns-in-Constant c = search looked-constant
-
-pub returns-in-Jumpdest : goal.returns-in-Jumpdest
-returns-in-Jumpdest c = search looked-jumpdest
-
-pub returns-in-Other : goal.returns-in-Other
-returns-in-Other c = search looked-other
+pub returns-in_default : goal.returns-in_default
+returns-in_default c = let other = c.in_default.not-Before in search looked-other

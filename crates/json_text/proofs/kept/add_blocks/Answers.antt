@@ -5,11 +5,11 @@ use Rattle.json_text.proofs.kept.add_blocks.Goals as goal
 pub loop-i-init : goal.loop-i-init
 loop-i-init c = search line-start
 
-pub start_at-start-requires : goal.start_at-start-requires
-start_at-start-requires c = search line-room
+pub start_at-requires : goal.start_at-requires
+start_at-requires c = search line-room
 
-pub add_kept-end-requires : goal.add_kept-end-requires
-add_kept-end-requires c = (search line-block, search line-tag, search line-far)
+pub add_kept-requires : goal.add_kept-requires
+add_kept-requires c = (search line-block, search line-tag, search line-far)
 
 pub loop-i-preserved : goal.loop-i-preserved
 loop-i-preserved c = search line-turn

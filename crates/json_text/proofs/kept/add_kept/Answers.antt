@@ -13,5 +13,5 @@ add_block-requires c = (search kept-far, search kept-is)
 pub returns-then-is_kept : goal.returns-then-is_kept
 returns-then-is_kept c = search kept_on
 
-pub returns : goal.returns
-returns c = search kept_off
+pub returns-else-is_kept : goal.returns-else-is_kept
+returns-else-is_kept c = search kept_off

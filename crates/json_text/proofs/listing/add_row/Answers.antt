@@ -8,5 +8,5 @@ add_way-requires c = search row-far
 pub returns-then-is_listed : goal.returns-then-is_listed
 returns-then-is_listed c = search row_on
 
-pub returns : goal.returns
-returns c = search row-off
+pub returns-else-is_listed : goal.returns-else-is_listed
+returns-else-is_listed c = search row-off

@@ -1,11 +1,13 @@
 -- `add_ways`: what is put, and what is left, are all. Assumes nothing.
 use lib.ListN.{length}
+use Rattle.entries.specs.Links.{link_of}
+use Rattle.layout.specs.Rows.{tag_of}
 use Rattle.entries.specs.Rows.{left_of}
 use Rattle.json_text.proofs.Walked.{Walking}
 use Rattle.json_text.proofs.listing.add_ways.Given as goal
 
-abbrev pub invariant-loop-link : goal.invariant-loop-link
-invariant-loop-link l = Walking l.r l.q l.rows l.start l.kind l.initial.out l.at l.out l.end l.link
+abbrev pub invariant-loop-next : goal.invariant-loop-next
+invariant-loop-next l = Walking l.found.r.now l.found.q.now l.found.rows l.start (tag_of l.block) l.initial.output l.output (link_of l.next)
 
-abbrev pub decreases-loop-link : goal.decreases-loop-link
-decreases-loop-link l = length (left_of l.r l.rows l.start l.link)
+abbrev pub decreases-loop-next : goal.decreases-loop-next
+decreases-loop-next l = length (left_of l.found.r.now l.found.rows l.start (link_of l.next))

@@ -6,8 +6,8 @@ use Rattle.json_text.proofs.way.add_path.Goals as goal
 pub loop-i-init : goal.loop-i-init
 loop-i-init c = search path-start
 
-pub add_address-end-requires : goal.add_address-end-requires
-add_address-end-requires c = (search rules, search path_room)
+pub add_address-requires : goal.add_address-requires
+add_address-requires c = (search rules, search path_room)
 
 pub loop-i-preserved : goal.loop-i-preserved
 loop-i-preserved c = search path-turn

@@ -1,5 +1,5 @@
 -- `enter_all`: the seeds are taken, one after another. Assumes nothing.
-use Rattle.reachable.proofs.SeedsLoop.{take-start, take-going, take-turn, take_done}
+use Rattle.reachable.proofs.SeedsLoop.{take-start, take-going, take-turn}
 use Rattle.reachable.proofs.closure.enter_all.Goals as goal
 
 pub loop-seed-init : goal.loop-seed-init
@@ -10,6 +10,3 @@ enter-count-requires c = search take-going
 
 pub loop-seed-preserved : goal.loop-seed-preserved
 loop-seed-preserved c = search take-turn
-
-pub returns : goal.returns
-returns c = search take_done

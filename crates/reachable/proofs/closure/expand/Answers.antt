@@ -7,11 +7,11 @@ use Rattle.reachable.proofs.closure.expand.Goals as goal
 pub loop-count-init : goal.loop-count-init
 loop-count-init c = search expand-start
 
-pub last-address-requires : goal.last-address-requires
-last-address-requires c = record { room = search rules; count_nonzero = (search rules, search turn-few) }
+pub last-address-requires-clause-count_nonzero : goal.last-address-requires-clause-count_nonzero
+last-address-requires-clause-count_nonzero c = (search rules, search turn-few)
 
-pub raise_sides-requires : goal.raise_sides-requires
-raise_sides-requires c = record { address = search expand-address; sides_within = search rules }
+pub raise_sides-requires-clause-address : goal.raise_sides-requires-clause-address
+raise_sides-requires-clause-address c = search expand-address
 
 pub follow-count-requires : goal.follow-count-requires
 follow-count-requires c = let s = c.loop-count.invariant in

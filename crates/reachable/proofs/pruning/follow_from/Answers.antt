@@ -10,8 +10,8 @@ loop-count-init c = search prune-start
 pub overflow_add-flags : goal.overflow_add-flags
 overflow_add-flags c = search prune-fits
 
-pub last-address-requires : goal.last-address-requires
-last-address-requires c = record { room = search rules; count_nonzero = (search rules, search turn-few) }
+pub last-address-requires-clause-count_nonzero : goal.last-address-requires-clause-count_nonzero
+last-address-requires-clause-count_nonzero c = (search rules, search turn-few)
 
 pub follow_all-count-requires : goal.follow_all-count-requires
 follow_all-count-requires c = search prune-going

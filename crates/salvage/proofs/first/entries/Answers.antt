@@ -1,22 +1,25 @@
 -- `entries` meets its contract: the scan goes over the first map's own entries, and judges as the reader does. The measure is what is left of that map.
 -- Assumes nothing.
+use Rattle.std.proofs.lemmas.Result.{err_from_is_err_and}
 use Rattle.salvage.proofs.Firsts.{owned-start, owned-over, owned-left, owned-within, owned-on, owned-less, owned-bad}
 use Rattle.salvage.proofs.first.entries.Goals as goal
 
 pub loop-scan-init : goal.loop-scan-init
 loop-scan-init c = search owned-start
 
-pub returns-then-over : goal.returns-then-over
-returns-then-over c = search owned-over
-
 pub one-requires : goal.one-requires
 one-requires c = search (owned-within, owned-left)
 
+pub returns-in_err-scan : goal.returns-in_err-scan
+returns-in_err-scan c =
+    let p = err_from_is_err_and c.from_residual.result c.from_residual.ensures.1 in
+    rw (p.1, p.2) (search (c.in_err-scan.was, owned-bad))
+
 pub loop-scan-smaller : goal.loop-scan-smaller
-loop-scan-smaller c = search owned-less
+loop-scan-smaller c = search (c.in_ok-scan.was, owned-less)
 
 pub loop-scan-preserved : goal.loop-scan-preserved
-loop-scan-preserved c = search owned-on
+loop-scan-preserved c = search (c.in_ok-scan.was, owned-on)
 
-pub returns-in-Bad : goal.returns-in-Bad
-returns-in-Bad c = search owned-bad
+pub returns : goal.returns
+returns c = search owned-over

@@ -7,7 +7,7 @@ use Prim.Native.Nat.{◌-◌}
 use Rattle.salvage.proofs.first.entries.Given as goal
 
 abbrev pub invariant-loop-scan : goal.invariant-loop-scan
-invariant-loop-scan l = Owned l.archive l.from l.blocks l.records l.scan
+invariant-loop-scan l = Owned l.archive l.head.behind l.head.blocks l.head.records l.scan
 
 abbrev pub decreases-loop-scan : goal.decreases-loop-scan
 decreases-loop-scan l = length (first_map l.archive) - l.scan.at

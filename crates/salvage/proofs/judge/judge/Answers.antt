@@ -5,8 +5,8 @@ use Rattle.salvage.proofs.judge.judge.Goals as goal
 pub loop-at-init : goal.loop-at-init
 loop-at-init c = search judges-start
 
-pub returns-then-archive-at : goal.returns-then-archive-at
-returns-then-archive-at c = search judged-end
+pub returns : goal.returns
+returns c = search judged-end
 
 pub overflow_add-maps : goal.overflow_add-maps
 overflow_add-maps c = search maps-fit
@@ -23,5 +23,5 @@ loop-at-preserved c = search judges-on
 pub overflow_add-result : goal.overflow_add-result
 overflow_add-result c = search bad-fits
 
-pub returns-in-Bad : goal.returns-in-Bad
-returns-in-Bad c = search judged-bad
+pub returns-in-Err : goal.returns-in-Err
+returns-in-Err c = search judged-bad

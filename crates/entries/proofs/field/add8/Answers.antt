@@ -1,6 +1,0 @@
--- `add8`: a number, counted or stored. Assumes nothing.
-use Rattle.entries.proofs.Puts.{counted-number}
-use Rattle.entries.proofs.field.add8.Goals as goal
-
-pub returns-then-out-end : goal.returns-then-out-end
-returns-then-out-end c = search (counted-number 1)

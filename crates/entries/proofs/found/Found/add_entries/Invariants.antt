@@ -1,0 +1,13 @@
+-- `add_entries`: what is put, and what is left, are all. Assumes nothing.
+use lib.ListN.{length}
+use Rattle.entries.specs.Links.{link_of}
+use Rattle.layout.specs.Rows.{tag_of}
+use Rattle.entries.specs.Rows.{left_of}
+use Rattle.entries.proofs.Listed.{Listing}
+use Rattle.entries.proofs.found.Found.add_entries.Given as goal
+
+abbrev pub invariant-loop-next : goal.invariant-loop-next
+invariant-loop-next l = Listing l.family l.self.r.now l.self.q.now l.self.rows l.start (tag_of l.block) l.initial.output l.output (link_of l.next)
+
+abbrev pub decreases-loop-next : goal.decreases-loop-next
+decreases-loop-next l = length (left_of l.self.r.now l.self.rows l.start (link_of l.next))

@@ -1,0 +1,9 @@
+-- `is_listed`: any row, or one with a destination. Assumes nothing.
+use Rattle.entries.proofs.Listed.{listed-any, listed-led}
+use Rattle.entries.proofs.found.Found.is_listed.Goals as goal
+
+pub returns-then-not-drops_some : goal.returns-then-not-drops_some
+returns-then-not-drops_some c = search listed-any
+
+pub returns : goal.returns
+returns c = search listed-led

@@ -1,9 +1,0 @@
--- `add_row`: the row is listed, or not. Assumes nothing.
-use Rattle.entries.proofs.Listed.{row_on, row-off}
-use Rattle.entries.proofs.listing.add_row.Goals as goal
-
-pub returns-then-is_listed : goal.returns-then-is_listed
-returns-then-is_listed c = search row_on
-
-pub returns : goal.returns
-returns c = search row-off

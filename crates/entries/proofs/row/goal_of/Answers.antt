@@ -1,9 +1,0 @@
--- `goal_of`: the row has its mark, or an address. Assumes nothing.
-use Rattle.entries.proofs.Paths.{goal-none, goal-some}
-use Rattle.entries.proofs.row.goal_of.Goals as goal
-
-pub returns-then-to-eq-NOWHERE : goal.returns-then-to-eq-NOWHERE
-returns-then-to-eq-NOWHERE c = search goal-none
-
-pub returns : goal.returns
-returns c = search goal-some
