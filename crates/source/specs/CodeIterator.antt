@@ -10,7 +10,7 @@ use Rattle.source.specs.Collections.{slice}
 
 -- lines 5 to 10: an item is `(pc, CodeOp { op, opi, arg })`, here the definitions' Ins of pc, op, and arg as the number that its bytes spell; opi is the row of op
 
-module _ (row : ℕ → Row) (code : List ℕ) (pc-limit : ℕ) where
+module _ (row : ℕ → Row) (code : List ℕ) (pc_limit : ℕ) where
   -- lines 24 to 43: all that the closure yields from pc on, in at most n calls
   unfoldable pub yields : ℕ → ℕ → Option (List Ins)
   yields zero pc = none
@@ -23,7 +23,7 @@ module _ (row : ℕ → Row) (code : List ℕ) (pc-limit : ℕ) where
       and_then (yields n (pc + size)) (λ later.
       some (record { pc = pc; op = op; arg = big 0 arg } ∷ later))) in
       if (ltb (length code) (pc + size)) (some []) item) in
-      if (leb pc-limit pc) (some []) more
+      if (leb pc_limit pc) (some []) more
 
 -- lines 19 to 23
 abbrev pub limit_of : List ℕ → Option ℕ → ℕ
@@ -32,4 +32,4 @@ limit_of code (some v) = min (v + 1) (length code)
 
 -- lines 12 to 44
 abbrev pub iterate_code : (ℕ → Row) → List ℕ → ℕ → Option ℕ → Option (List Ins)
-iterate_code row code start-pc end-pc = yields row code (limit_of code end-pc) (suc (length code)) start-pc
+iterate_code row code start_pc end_pc = yields row code (limit_of code end_pc) (suc (length code)) start_pc

@@ -14,9 +14,9 @@ use Rattle.source.specs.Types.{BlockType, Terminate, Jump, Jumpi, DynamicJump, D
 -- lines 12 to 22; `four_bytes` of state.rs's transcription is lines 15 to 18
 abbrev pub is_static_jump : List ℕ → ℕ → Option (Option ℕ)
 is_static_jump code prev_pc =
-    and_then (get_elem? code prev_pc) (λ prev-op.
-    let pushed = and_then (four_bytes code (prev_pc + 1) (prev-op - 0x5F)) (λ v. some (some v)) in
-    if (within 0x60 0x63 prev-op) pushed (some none))
+    and_then (get_elem? code prev_pc) (λ prev_op.
+    let pushed = and_then (four_bytes code (prev_pc + 1) (prev_op - 0x5F)) (λ v. some (some v)) in
+    if (within 0x60 0x63 prev_op) pushed (some none))
 
 -- lines 24 to 31
 abbrev pub new_block : ℕ → RustBlock
@@ -40,7 +40,7 @@ closed e t b bs = insert_sorted b.id (rust_block b.id b.start e t) bs
 -- lines 66 to 76
 abbrev pub jumpi_type : ℕ → Option ℕ → BlockType
 jumpi_type pc none = DynamicJumpi [] (pc + 1)
-jumpi_type pc (some true-to) = Jumpi true-to (pc + 1)
+jumpi_type pc (some true_to) = Jumpi true_to (pc + 1)
 
 -- lines 83 to 87
 abbrev pub jump_type : Option ℕ → BlockType
@@ -50,8 +50,8 @@ jump_type (some to) = Jump to
 -- lines 54 to 129: the match on the byte; `on` is the rest of the loop, `break` what follows it
 abbrev pub match_op : (ℕ → Row) → List ℕ → Ins → (Cutting → Option Cutting) → Cutting → Option Cutting
 match_op row code i on c =
-    let jumpdest-starts = on (cutting c.blocks i.pc c.block false) in
-    let jumpdest-closes = on (cutting (closed c.prev_pc (Jump i.pc) c.block c.blocks) i.pc (new_block i.pc) false) in
+    let jumpdest_starts = on (cutting c.blocks i.pc c.block false) in
+    let jumpdest_closes = on (cutting (closed c.prev_pc (Jump i.pc) c.block c.blocks) i.pc (new_block i.pc) false) in
     let jumpi =
     and_then (is_static_jump code c.prev_pc) (λ v.
     on (cutting (closed i.pc (jumpi_type i.pc v) c.block c.blocks) i.pc (new_block (i.pc + (row i.op).size)) false)) in
@@ -61,14 +61,14 @@ match_op row code i on c =
     let ends =
     on (cutting (closed i.pc (Terminate (not (eqb i.op 0xFD) && not (eqb i.op 0xFE))) c.block c.blocks) i.pc (new_block (i.pc + (row i.op).size)) true) in
     let breaks = some (cutting (closed c.prev_pc (Terminate false) c.block c.blocks) c.prev_pc (new_block i.pc) true) in
-    let unknown-closes = on (cutting (closed c.prev_pc (Terminate false) c.block c.blocks) i.pc (new_block i.pc) true) in
-    let unknown-starts = on (cutting c.blocks i.pc c.block true) in
+    let unknown_closes = on (cutting (closed c.prev_pc (Terminate false) c.block c.blocks) i.pc (new_block i.pc) true) in
+    let unknown_starts = on (cutting c.blocks i.pc c.block true) in
     let known = on (cutting c.blocks i.pc c.block false) in
-    if (eqb i.op 0x5B) (if (not (eqb c.block.start i.pc)) jumpdest-closes jumpdest-starts)
+    if (eqb i.op 0x5B) (if (not (eqb c.block.start i.pc)) jumpdest_closes jumpdest_starts)
     (if (eqb i.op 0x57) jumpi
     (if (eqb i.op 0x56) jump
     (if (eqb i.op 0xFD || eqb i.op 0xF3 || eqb i.op 0x00 || eqb i.op 0xFF || eqb i.op 0xFE) ends
-    (if (not (row i.op).known) (if (eqb c.block.start 0) breaks (if (not (eqb c.block.start i.pc)) unknown-closes unknown-starts)) known))))
+    (if (not (row i.op).known) (if (eqb c.block.start 0) breaks (if (not (eqb c.block.start i.pc)) unknown_closes unknown_starts)) known))))
 
 -- lines 43 to 130
 unfoldable pub for_code : (ℕ → Row) → List ℕ → List Ins → Cutting → Option Cutting
@@ -94,7 +94,7 @@ abbrev pub new_btype : List ℕ → List ℕ → BlockType → Option BlockType
 new_btype code keys (Terminate success) = some (Terminate success)
 new_btype code keys (Jump to) = and_then (valid code keys to) (λ v. some (if v (Jump to) (Terminate false)))
 new_btype code keys (Jumpi t f) =
-    and_then (valid code keys t) (λ true-valid. some (if (mem f keys) (if true-valid (Jumpi t f) (Jump f)) (Terminate false)))
+    and_then (valid code keys t) (λ true_valid. some (if (mem f keys) (if true_valid (Jumpi t f) (Jump f)) (Terminate false)))
 new_btype code keys (DynamicJump to) = some (DynamicJump to)
 new_btype code keys (DynamicJumpi t f) = some (DynamicJumpi t f)
 

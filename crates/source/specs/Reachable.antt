@@ -79,7 +79,7 @@ module _ (blocks : Blocks) (from : ℕ) where
 
   -- lines 7 to 61
   abbrev pub get_reachable_nodes : Option (List ℕ) → Option (List ℕ)
-  get_reachable_nodes initial-visited = passes (suc (suc (all_pushes blocks))) (unwrap_or [] initial-visited) []
+  get_reachable_nodes initial_visited = passes (suc (suc (all_pushes blocks))) (unwrap_or [] initial_visited) []
 
 -- lines 83 to 99
 abbrev pub sides_of_type : BlockType → List ℕ

@@ -94,16 +94,16 @@ module _ (row : ℕ → Row) (code : List ℕ) where
   -- lines 48 to 54
   unfoldable pub get_state : ℕ → RevIdx → Option (Got State)
   get_state start r =
-      let new-one = and_then (exec_code row code start none new) (λ o. got (insert_state start o.stack r) o.stack) in
-      match_option (get eqb start r.states) (λ st. got r st) new-one
+      let new_one = and_then (exec_code row code start none new) (λ o. got (insert_state start o.stack r) o.stack) in
+      match_option (get eqb start r.states) (λ st. got r st) new_one
 
   -- lines 58 to 71
   unfoldable pub get_state_with_depth : ℕ → ℕ → RevIdx → Option (Got State)
   get_state_with_depth start depth r =
       let shallow = get_state start r in
-      let new-one =
+      let new_one =
       and_then (exec_code row code start none (with_identity depth)) (λ o. got (with_deep_states (insert same_pair (start, depth) o.stack r.deep_states) r) o.stack) in
-      let deep = match_option (get same_pair (start, depth) r.deep_states) (λ st. got r st) new-one in
+      let deep = match_option (get same_pair (start, depth) r.deep_states) (λ st. got r st) new_one in
       if (eqb depth 0) shallow deep
 
 -- lines 73 to 78
@@ -182,8 +182,8 @@ module _ (row : ℕ → Row) (code : List ℕ) where
   unfoldable pub materialize_path_state : List ℕ → State → ℕ → RevIdx → Option (Got State)
   materialize_path_state path summary required_depth r =
       let one = and_then (get_elem? path 0) (λ start. get_state_with_depth row code start required_depth r) in
-      let new-one = replay required_depth path r in
-      let several = match_option (get same_replay (path, required_depth) r.replayed_paths) (λ st. got r st) new-one in
+      let new_one = replay required_depth path r in
+      let several = match_option (get same_replay (path, required_depth) r.replayed_paths) (λ st. got r st) new_one in
       if (ltb required_depth (explicit_len summary)) (got r summary) (if (eqb (length path) 1) one several)
 
 -- line 222
@@ -208,9 +208,9 @@ module _ (row : ℕ → Row) (code : List ℕ) where
   widen zero path stack_pos current_state required_depth r = none
   widen (suc n) path stack_pos current_state required_depth r =
       and_then (materialize_path_state row code path current_state required_depth r) (λ g.
-      let next-required = required stack_pos g.value in
-      let again = widen n path stack_pos g.value next-required g.idx in
-      if (leb next-required required_depth) (some (record { idx = g.idx; current_state = g.value; required_depth = next-required })) again)
+      let next_required = required stack_pos g.value in
+      let again = widen n path stack_pos g.value next_required g.idx in
+      if (leb next_required required_depth) (some (record { idx = g.idx; current_state = g.value; required_depth = next_required })) again)
 
 -- line 196: what is returned
 pub record Resolved : Type 0 where
@@ -232,54 +232,54 @@ Deeper = RevIdx → List ℕ → ℕ → ℕ → State → ℕ → Option Resolv
 
 -- lines 280 to 314; `left` is `energy_limit - energy_used`
 unfoldable pub match_symbol : Deeper → List ℕ → ℕ → State → Option ℕ → RevIdx → Sym → Option Resolved
-match_symbol deeper new-path new-weight new-state left r (before new-stack-pos) = and_then left (λ l. deeper r new-path new-weight new-stack-pos new-state l)
-match_symbol deeper new-path new-weight new-state left r (jumpdest to) = and_then (insert_path_parent to new-path new-state r) (λ g. pushed_if g new-path (some to))
-match_symbol deeper new-path new-weight new-state left r (constant v) = pushed_if (insert_badpath new-path r) new-path none
-match_symbol deeper new-path new-weight new-state left r (other pc) = pushed_if (insert_badpath new-path r) new-path none
+match_symbol deeper new_path new_weight new_state left r (before new_stack_pos) = and_then left (λ l. deeper r new_path new_weight new_stack_pos new_state l)
+match_symbol deeper new_path new_weight new_state left r (jumpdest to) = and_then (insert_path_parent to new_path new_state r) (λ g. pushed_if g new_path (some to))
+match_symbol deeper new_path new_weight new_state left r (constant v) = pushed_if (insert_badpath new_path r) new_path none
+match_symbol deeper new_path new_weight new_state left r (other pc) = pushed_if (insert_badpath new_path r) new_path none
 
 -- lines 263 to 314
 unfoldable pub follow_path : Deeper → List ℕ → ℕ → State → Option ℕ → RevIdx → Sym → Option Resolved
-follow_path deeper new-path new-weight new-state left r jump-sym =
-    let heavy = pushed_if (insert_badpath new-path r) new-path none in
+follow_path deeper new_path new_weight new_state left r jump_sym =
+    let heavy = pushed_if (insert_badpath new_path r) new_path none in
     let light =
-    and_then (last_unwrapped new-path) (λ l.
-    let g = add_inter_state l new-state jump-sym r in
+    and_then (last_unwrapped new_path) (λ l.
+    let g = add_inter_state l new_state jump_sym r in
     let known = resolved g.idx [] 0 in
-    let goes = match_symbol deeper new-path new-weight new-state left g.idx jump-sym in
+    let goes = match_symbol deeper new_path new_weight new_state left g.idx jump_sym in
     if (not g.value) known goes) in
-    if (ltb 256 new-weight) heavy light
+    if (ltb 256 new_weight) heavy light
 
 module _ (row : ℕ → Row) (code : List ℕ) where
   -- lines 226 to 314, of one parent
   unfoldable pub try_parent : Deeper → List ℕ → ℕ → ℕ → State → Option ℕ → List ℕ × State → RevIdx → Option Resolved
-  try_parent deeper path path-weight stack_pos state left parent r =
+  try_parent deeper path path_weight stack_pos state left parent r =
       and_then (widen row code 256 path stack_pos state (required stack_pos state) r) (λ w.
       and_then (materialize_path_state row code parent.0 parent.1 w.required_depth w.idx) (λ g.
-      and_then (get_stack g.value stack_pos) (λ jump-sym.
-      and_then (resolve_with_parent w.current_state g.value) (λ new-state.
-      follow_path deeper (path ++ parent.0) (path-weight + 1) new-state left g.idx jump-sym))))
+      and_then (get_stack g.value stack_pos) (λ jump_sym.
+      and_then (resolve_with_parent w.current_state g.value) (λ new_state.
+      follow_path deeper (path ++ parent.0) (path_weight + 1) new_state left g.idx jump_sym))))
 
 module _ (row : ℕ → Row) (code : List ℕ) where
   -- lines 208 to 316
   unfoldable pub for_parents : Deeper → List ℕ → ℕ → ℕ → State → ℕ → Parents → RevIdx → List Dynamic → ℕ → Option Resolved
-  for_parents deeper path path-weight stack_pos state energy-limit [] r dynamic-jumps energy-used = resolved r dynamic-jumps energy-used
-  for_parents deeper path path-weight stack_pos state energy-limit (p ∷ ps) r dynamic-jumps energy-used =
-      let breaks = resolved r dynamic-jumps (energy-used + 1) in
-      let skips = for_parents deeper path path-weight stack_pos state energy-limit ps r dynamic-jumps (energy-used + 1) in
+  for_parents deeper path path_weight stack_pos state energy_limit [] r dynamic_jumps energy_used = resolved r dynamic_jumps energy_used
+  for_parents deeper path path_weight stack_pos state energy_limit (p ∷ ps) r dynamic_jumps energy_used =
+      let breaks = resolved r dynamic_jumps (energy_used + 1) in
+      let skips = for_parents deeper path path_weight stack_pos state energy_limit ps r dynamic_jumps (energy_used + 1) in
       let tries =
-      and_then (try_parent row code deeper path path-weight stack_pos state (minus energy-limit (energy-used + 1)) p r) (λ t.
-      for_parents deeper path path-weight stack_pos state energy-limit ps t.idx (dynamic-jumps ++ t.jumps) (energy-used + 1 + t.used)) in
-      if (ltb energy-limit (energy-used + 1)) breaks (if (cycles p.0 path) skips tries)
+      and_then (try_parent row code deeper path path_weight stack_pos state (minus energy_limit (energy_used + 1)) p r) (λ t.
+      for_parents deeper path path_weight stack_pos state energy_limit ps t.idx (dynamic_jumps ++ t.jumps) (energy_used + 1 + t.used)) in
+      if (ltb energy_limit (energy_used + 1)) breaks (if (cycles p.0 path) skips tries)
 
   -- lines 188 to 317, at most n levels deep
   unfoldable pub resolve_dynamic_jump_path : ℕ → RevIdx → List ℕ → ℕ → ℕ → State → ℕ → Option Resolved
-  resolve_dynamic_jump_path zero r path path-weight stack_pos state energy-limit = none
-  resolve_dynamic_jump_path (suc n) r path path-weight stack_pos state energy-limit =
+  resolve_dynamic_jump_path zero r path path_weight stack_pos state energy_limit = none
+  resolve_dynamic_jump_path (suc n) r path path_weight stack_pos state energy_limit =
       let goes =
       and_then (last_unwrapped path) (λ current.
       and_then (get_parents current r) (λ parents.
-      for_parents (resolve_dynamic_jump_path n) path path-weight stack_pos state energy-limit parents r [] 0)) in
-      if (leb path-weight 256) goes none
+      for_parents (resolve_dynamic_jump_path n) path path_weight stack_pos state energy_limit parents r [] 0)) in
+      if (leb path_weight 256) goes none
 
 -- lines 338, 341 and 343: what is there after the first stage
 pub record Staged : Type 0 where
@@ -305,13 +305,13 @@ static_type to (Terminate success) = none
 static_type to (Jump t) = none
 static_type to (Jumpi t f) = none
 static_type to (DynamicJump js) = some (Jump to)
-static_type to (DynamicJumpi js false-to) = some (Jumpi to false-to)
+static_type to (DynamicJumpi js false_to) = some (Jumpi to false_to)
 
 -- lines 355 to 370: the block's type, and what is pushed to stack_pos
 abbrev pub stage_of : RustBlock → Option Sym → Option (BlockType × List (ℕ × ℕ))
 stage_of b none = some (b.btype, [])
 stage_of b (some (jumpdest to)) = and_then (static_type to b.btype) (λ t. some (t, []))
-stage_of b (some (before new-stack-pos)) = some (b.btype, (b.start, new-stack-pos) ∷ [])
+stage_of b (some (before new_stack_pos)) = some (b.btype, (b.start, new_stack_pos) ∷ [])
 stage_of b (some (constant v)) = some (b.btype, [])
 stage_of b (some (other pc)) = some (b.btype, [])
 
@@ -359,7 +359,7 @@ extend_type jumps (Terminate success) = none
 extend_type jumps (Jump to) = none
 extend_type jumps (Jumpi t f) = none
 extend_type jumps (DynamicJump to) = some (DynamicJump (to ++ jumps))
-extend_type jumps (DynamicJumpi true-to f) = some (DynamicJumpi (true-to ++ jumps) f)
+extend_type jumps (DynamicJumpi true_to f) = some (DynamicJumpi (true_to ++ jumps) f)
 
 -- lines 440, 464, 474 and 483: `blocks.get_mut(start).unwrap().btype = f(..)`
 unfoldable pub change : (BlockType → Option BlockType) → ℕ → Blocks → Option Blocks

@@ -82,10 +82,10 @@ get_stack stack pos =
 
 -- lines 99 to 109: what of the parent lies deeper
 abbrev pub deeper : ℕ → State → Option State
-deeper base-before parent =
-    let front = and_then (minus (length parent) base-before) (λ n. and_then (minus n 1) (λ extra. some (take extra parent))) in
+deeper base_before parent =
+    let front = and_then (minus (length parent) base_before) (λ n. and_then (minus n 1) (λ extra. some (take extra parent))) in
     let nothing = some [] in
-    if (ltb base-before (length parent)) front nothing
+    if (ltb base_before (length parent)) front nothing
 
 -- lines 112 to 115: of one symbol
 abbrev pub replaced : State → Sym → Option Sym
@@ -102,8 +102,8 @@ replaced_each parent (el ∷ els) = and_then (replaced parent el) (λ x. and_the
 -- lines 92 to 118
 abbrev pub resolve_with_parent : State → State → Option State
 resolve_with_parent stack parent =
-    and_then (first_before stack) (λ base-before.
-    and_then (deeper base-before parent) (λ front.
+    and_then (first_before stack) (λ base_before.
+    and_then (deeper base_before parent) (λ front.
     and_then (replaced_each parent stack) (λ els. some (front ++ els))))
 
 -- lines 123 and 153: the stack that is left, and the symbol that is returned
@@ -137,9 +137,9 @@ pops (suc n) xs = pops n (pop xs).left
 
 -- lines 157 to 172
 abbrev pub ensure : ℕ → State → Option State
-ensure stack-in stack =
-    let longer = and_then (first_before stack) (λ base-before. some (reverse (counting (base-before + 1) (stack-in + 1 - length stack)) ++ stack)) in
-    if (ltb (length stack) (stack-in + 1)) longer (some stack)
+ensure stack_in stack =
+    let longer = and_then (first_before stack) (λ base_before. some (reverse (counting (base_before + 1) (stack_in + 1 - length stack)) ++ stack)) in
+    if (ltb (length stack) (stack_in + 1)) longer (some stack)
 
 -- lines 176 to 179: `args[4 - n..].copy_from_slice(&code[pc + 1..pc + 1 + n])`, and `u32::from_be_bytes(args)`
 abbrev pub four_bytes : List ℕ → ℕ → ℕ → Option ℕ
@@ -211,8 +211,8 @@ abbrev pub exec : (ℕ → Row) → List ℕ → ℕ → List Ins → State → 
 exec row code start is xs =
     and_then (first_before xs) (λ _.
     and_then (real_exec row code start is xs) (λ r.
-    and_then (first_before r.stack) (λ base-before.
-    let n = prefix_len base-before 0 r.stack in
+    and_then (first_before r.stack) (λ base_before.
+    let n = prefix_len base_before 0 r.stack in
     and_then (if (ltb 1 n) (drain (n - 1) r.stack) (some r.stack)) (λ ys. ended ys r.symbol))))
 
 -- lines 123 and 154: `exec` over what `iterate_code(code, start, end)` yields
