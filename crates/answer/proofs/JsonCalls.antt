@@ -17,8 +17,8 @@ use Rattle.spec.specs.JsonAnswer.{json_answer, texted, text_after}
 use Rattle.theorems.proofs.Demand3.{Lends}
 use Rattle.theorems.proofs.JsonCall.{json-begins, json-numbers, json-again}
 use Rattle.layout.specs.Buffers.{Mem}
+use Rattle.answer.specs.Told.{Both}
 use Rattle.answer.specs.Promises.{lent_of, MappedBoth}
-use Rattle.answer.specs.declared.both.Both.{Both}
 
 -- a call that gave a map: its bytes and its text are counted, and stand in output and text buffer before what was there
 pub record GaveBoth (limit choice mode : ℕ) (code : List ℕ) (m : Mem) (out text out' text' : List ℕ) (a : Both) (x : Map) : Type 0 where

@@ -14,10 +14,18 @@ use Rattle.spec.specs.Answer as spec
 use Rattle.spec.specs.Answer.{refused, number_of, written, searched, mapped, answer, room_after, output_after}
 use Rattle.layout.specs.Buffers.{Mem}
 use Rattle.laws.proofs.Branch.{both, if-true, if-false}
-use Rattle.answer.specs.Promises.{lent_of, Lends, early_of, First, rest, Ran, Wiped, Mapped, RanBoth, MappedBoth}
+use Rattle.std.specs.Prelude.{Result, Ok, Err}
+use Rattle.refusal.specs.Numbers as refusals
+use Rattle.refusal.specs.declared.Refusal.{Refusal}
+use Rattle.refusal.specs.declared.Refusal.TheVariants as refusal
+use Rattle.refusal.specs.declared.Refusal.TheVariants.{Code, Limit, Work, Room, Output, Input, Text, Entry, Log, Counts, Total, Path, Archive}
+use Rattle.refusal.specs.declared.Shortage.TheVariants.{P, S, T, R, Q}
+use Rattle.exec.specs.Modes.{mode_of}
+use Rattle.exec.specs.declared.mode.Mode.{Mode}
+use Rattle.exec.specs.declared.mode.Mode.TheVariants.{Plain, KnownZero}
+use Rattle.answer.specs.Told.{Answer, Both, told, told_both}
+use Rattle.answer.specs.Promises.{lent_of, Lends, early_of, First, Tested, rest, Ran, Wiped, Mapped, RanBoth, MappedBoth}
 use Rattle.spec.specs.JsonAnswer.{within_text, json_answer, texted, text_after}
-use Rattle.answer.specs.declared.map.Answer.{Answer}
-use Rattle.answer.specs.declared.both.Both.{Both}
 use Rattle.answer.proofs.Numbers.{Late, late-shortage, late-rest, late-text, late-apart}
 
 -- ---- the rooms: a refusal of 1, 2, 13 or 3 leaves them, and any other answer has them wiped
@@ -30,27 +38,44 @@ wiped x late b b₁ e f = f ∙ ap (λ (n : ℕ). replicate n 0) e ∙ sym (if-f
 
 -- ---- the tests in their order
 
+mode-small : (m : Mode) {k : ℕ} → mode_of m ≡ k → k ≤ 1
+mode-small Plain e = omega (arith, e)
+mode-small KnownZero e = omega (arith, e)
+
+-- a refusal is told of by its number
+refuse : {n limit mode w : ℕ} (e : Refusal) → refusals.number_of e ≡ early_of n limit mode w → Tested n limit mode w (Err e)
+refuse {n} {limit} {mode} {w} e h = record { refused = λ d q. let same : e ≡ d = cc in rw (← same) record { is = h }; taken = λ m q. other q }
+  where
+    other : {A : Type 0} {m : Mode} → Err e ≡ Ok m → A
+    other q = cc
+
 module _ (n limit mode w : ℕ) where
-  pub first-long : longest < n → First n limit mode w 1
-  first-long h = record { is = sym (if-true _ _ _ (lt-ltb _ _ h)) }
+  pub first-long : longest < n → Tested n limit mode w (Err Code)
+  first-long h = refuse Code (sym (if-true _ _ _ (lt-ltb _ _ h)))
 
   module _ (short : n ≤ longest) where
-    pub first-over : 500000 < limit → First n limit mode w 2
-    first-over h = record { is = sym (if-false _ _ _ (le-ltb _ _ short) ∙ if-true _ _ _ (lt-ltb _ _ h)) }
+    pub first-over : 500000 < limit → Tested n limit mode w (Err Limit)
+    first-over h = refuse Limit (sym (if-false _ _ _ (le-ltb _ _ short) ∙ if-true _ _ _ (lt-ltb _ _ h)))
 
     module _ (limited : limit ≤ 500000) where
-      pub first-moded : 1 < mode → First n limit mode w 13
-      first-moded h = record { is = sym (if-false _ _ _ (le-ltb _ _ short) ∙ if-false _ _ _ (le-ltb _ _ limited) ∙ if-true _ _ _ (lt-ltb _ _ h)) }
+      pub first-moded : {e : Refusal} → (e ≡ refusal.Mode) × (1 < mode) → Tested n limit mode w (Err e)
+      first-moded h = rw h.0 (refuse refusal.Mode (sym (if-false _ _ _ (le-ltb _ _ short) ∙ if-false _ _ _ (le-ltb _ _ limited) ∙ if-true _ _ _ (lt-ltb _ _ h.1))))
 
-      module _ (is : mode ≤ 1) {need : ℕ} (e : need ≡ work_need n) where
+      module _ (m : Mode) (is : mode_of m ≡ mode) {need : ℕ} (e : need ≡ work_need n) where
         first-room : early_of n limit mode w ≡ if (ltb w (work_need n)) 3 0
-        first-room = if-false _ _ _ (le-ltb _ _ short) ∙ if-false _ _ _ (le-ltb _ _ limited) ∙ if-false _ _ _ (le-ltb _ _ is)
+        first-room = if-false _ _ _ (le-ltb _ _ short) ∙ if-false _ _ _ (le-ltb _ _ limited) ∙ if-false _ _ _ (le-ltb _ _ (mode-small m is))
 
-        pub first-scant : w < need → First n limit mode w 3
-        first-scant h = record { is = sym (first-room ∙ if-true _ _ _ (lt-ltb w (work_need n) (omega arith))) }
+        pub first-scant : w < need → Tested n limit mode w (Err Work)
+        first-scant h = refuse Work (sym (first-room ∙ if-true _ _ _ (lt-ltb w (work_need n) (omega arith))))
 
-        pub first-none : need ≤ w → First n limit mode w 0
-        first-none h = record { is = sym (first-room ∙ if-false _ _ _ (le-ltb w (work_need n) (omega arith))) }
+        pub first-none : need ≤ w → Tested n limit mode w (Ok m)
+        first-none h = record {
+          refused = λ d q. other q;
+          taken = λ k q. let same : m ≡ k = cc in (record { is = sym (first-room ∙ if-false _ _ _ (le-ltb w (work_need n) (omega arith))) }, rw (← same) is);
+        }
+          where
+            other : {A : Type 0} {d : Refusal} → Ok m ≡ Err d → A
+            other q = cc
 
 -- what the first that applies says
 data Early (n limit mode w x : ℕ) : Type 0 where
@@ -96,7 +121,7 @@ module _ (limit choice mode : ℕ) (code : List ℕ) (l : Lent) where
       ∙ if-false (ltb l.w (work_need (length code))) _ _ (le-ltb _ _ lent)
 
 -- where none applies the code is taken, and the mode is one
-pub early-lends : {mode limit x : ℕ} {code w : List ℕ} → First (length code) limit mode (length w) x → x ≡ 0 → Lends limit code w
+early-lends : {mode limit x : ℕ} {code w : List ℕ} → First (length code) limit mode (length w) x → x ≡ 0 → Lends limit code w
 early-lends {mode} {limit} {x} {code} {w} f z = by (subst (Early (length code) limit mode (length w)) (sym f.is) (tested _ _ _ _)) z
   where
     by : Early (length code) limit mode (length w) x → x ≡ 0 → Lends limit code w
@@ -106,7 +131,7 @@ early-lends {mode} {limit} {x} {code} {w} f z = by (subst (Early (length code) l
     by (scant e short limited m h) z = absurd (omega arith)
     by (taken e short limited m lent) z = record { short = short; limited = limited; lent = lent }
 
-pub early-mode : {n limit mode w x : ℕ} → First n limit mode w x → x ≡ 0 → mode ≤ 1
+early-mode : {n limit mode w x : ℕ} → First n limit mode w x → x ≡ 0 → mode ≤ 1
 early-mode {n} {limit} {mode} {w} {x} f z = by (subst (Early n limit mode w) (sym f.is) (tested n limit mode w)) z
   where
     by : Early n limit mode w x → x ≡ 0 → mode ≤ 1
@@ -115,6 +140,38 @@ early-mode {n} {limit} {mode} {w} {x} f z = by (subst (Early n limit mode w) (sy
     by (moded e short limited h) z = absurd (omega arith)
     by (scant e short limited m h) z = absurd (omega arith)
     by (taken e short limited m lent) z = m
+
+-- the mode that is taken
+pub taken-lends : {mode limit : ℕ} {code w : List ℕ} {x : Result Mode Refusal} {m : Mode} → Tested (length code) limit mode (length w) x → x ≡ Ok m → Lends limit code w
+taken-lends {m = m} t e = early-lends (t.taken m e).0 refl
+
+module _ {n w mode limit : ℕ} {x : Result Mode Refusal} (m : Mode) (t : Tested n limit mode w x) (e : x ≡ Ok m) where
+  pub taken-small : mode ≤ 1
+  taken-small = early-mode (t.taken m e).0 refl
+
+  pub taken-mode : mode_of m ≡ mode
+  taken-mode = (t.taken m e).1
+
+-- a refusal has a number
+pub some-number : (e : Refusal) → refusals.number_of e ≡ 0 → ⊥
+some-number Code z = omega (arith, z)
+some-number Limit z = omega (arith, z)
+some-number Work z = omega (arith, z)
+some-number (Room P) z = omega (arith, z)
+some-number (Room S) z = omega (arith, z)
+some-number (Room T) z = omega (arith, z)
+some-number (Room R) z = omega (arith, z)
+some-number (Room Q) z = omega (arith, z)
+some-number Output z = omega (arith, z)
+some-number Input z = omega (arith, z)
+some-number Text z = omega (arith, z)
+some-number (Entry _) z = omega (arith, z)
+some-number refusal.Mode z = omega (arith, z)
+some-number Log z = omega (arith, z)
+some-number Counts z = omega (arith, z)
+some-number Total z = omega (arith, z)
+some-number (Path _) z = omega (arith, z)
+some-number Archive z = omega (arith, z)
 
 late-all : (limit choice mode : ℕ) (code : List ℕ) (l : Lent) → Late (number_of (rest l limit choice mode code))
 late-all limit choice mode code l = late-rest l (mapped (in_mode mode) choice code (searched (in_mode mode) limit code)) _ (late-shortage l (searched (in_mode mode) limit code).needs)
@@ -136,11 +193,10 @@ module _ (limit choice mode : ℕ) (code : List ℕ) (m : Mem) (out : List ℕ) 
         q = same m.q;
       }
 
-  pub mapped-early : {x : ℕ} {a : Answer} → First (length code) limit mode (length m.w) x → (x ≡ 0 → ⊥) → a ≡ record { number = x; written = 0 }
-      → Mapped limit choice mode code m out m out a
-  mapped-early {x} f z e =
-      let k = refuses limit choice mode code (lent_of m out) (subst (Early (length code) limit mode (length m.w)) (sym f.is) (tested _ _ _ _)) z in
-      rw e (untouched x k.0 k.1)
+  pub mapped-early : {x : Result Mode Refusal} {e : Refusal} → Tested (length code) limit mode (length m.w) x → x ≡ Err e → Mapped limit choice mode code m out m out (told (Err e))
+  mapped-early {e = e} t is =
+      let k = refuses limit choice mode code (lent_of m out) (subst (Early (length code) limit mode (length m.w)) (sym (t.refused e is).is) (tested _ _ _ _)) (some-number e) in
+      untouched _ k.0 k.1
 
   module _ (h : Lends limit code m.w) (is-mode : mode ≤ 1) {k : ℕ} (is_number : k ≡ mode) {m₁ m' : Mem} {out' : List ℕ} {a : Answer}
       (run : Ran limit choice k code m out out' a) (x : Wiped m₁ m') where
@@ -195,11 +251,11 @@ module _ (limit choice mode : ℕ) (code : List ℕ) (m : Mem) (out text : List 
         q = same m.q;
       }
 
-  pub both-early : {x : ℕ} {a : Both} → First (length code) limit mode (length m.w) x → (x ≡ 0 → ⊥) → a ≡ record { number = x; written = 0; texted = 0 }
-      → MappedBoth limit choice mode code m out text m out text a
-  both-early {x} f z e =
-      let k = refuses limit choice mode code (lent_of m out) (subst (Early (length code) limit mode (length m.w)) (sym f.is) (tested _ _ _ _)) z in
-      rw e (untouched-both x k.0 (given-as k.1))
+  pub both-early : {x : Result Mode Refusal} {e : Refusal} → Tested (length code) limit mode (length m.w) x → x ≡ Err e
+      → MappedBoth limit choice mode code m out text m out text (told_both (Err e))
+  both-early {e = e} t is =
+      let k = refuses limit choice mode code (lent_of m out) (subst (Early (length code) limit mode (length m.w)) (sym (t.refused e is).is) (tested _ _ _ _)) (some-number e) in
+      untouched-both _ k.0 (given-as k.1)
 
   module _ (h : Lends limit code m.w) (is-mode : mode ≤ 1) {k : ℕ} (is_number : k ≡ mode) {m₁ m' : Mem} {out' text' : List ℕ} {a : Both}
       (run : RanBoth limit choice k code m out out' text text' a) (x : Wiped m₁ m') where

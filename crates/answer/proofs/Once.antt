@@ -3,9 +3,8 @@ use mathlib.Core.Path.{◌≡◌, sym, ◌∙◌}
 use mathlib.Core.List.{List}
 use Prim.Native.Nat.{ℕ}
 use Rattle.layout.specs.Buffers.{Mem}
+use Rattle.answer.specs.Told.{Answer, Both}
 use Rattle.answer.specs.Promises.{Mapped, MappedBoth}
-use Rattle.answer.specs.declared.map.Answer.{Answer}
-use Rattle.answer.specs.declared.both.Both.{Both}
 
 pub same-rooms : {m n : Mem} → m.w ≡ n.w → m.p ≡ n.p → m.s ≡ n.s → m.t ≡ n.t → m.r ≡ n.r → m.q ≡ n.q → m ≡ n
 same-rooms w p s t r q = λ i. record { w = w i; p = p i; s = s i; t = t i; r = r i; q = q i }

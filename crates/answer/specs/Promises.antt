@@ -1,5 +1,5 @@
 -- What a call gives and leaves, against document 01's answer. Assumes nothing.
-use Rattle.std.specs.Prelude.{◌≡◌, ℕ, ◌≤◌, ◌^◌, ◌<◌, List, ltb, length, replicate}
+use Rattle.std.specs.Prelude.{◌≡◌, Result, Ok, Err, ℕ, ◌≤◌, ◌^◌, ◌<◌, List, ltb, length, replicate}
 use Rattle.spec.specs.Opcodes.{in_mode}
 use Rattle.spec.specs.Lists.{if}
 use Rattle.spec.specs.Rooms.{Lent, shortage, longest, work_need}
@@ -8,13 +8,14 @@ use Rattle.spec.specs.Answer as spec
 use Rattle.spec.specs.Answer.{refused, number_of, written, searched, mapped, within_out, within_rooms, answer, room_after, output_after}
 use Rattle.spec.specs.JsonAnswer.{within_text, json_answer, texted, text_after}
 use Rattle.layout.specs.Buffers.{Mem}
-use Rattle.steps.specs.declared.Run.{Run}
+use Rattle.refusal.specs.Numbers as refusals
+use Rattle.refusal.specs.declared.Refusal.{Refusal}
+use Rattle.exec.specs.Modes.{mode_of}
+use Rattle.exec.specs.declared.mode.Mode.{Mode}
 use Rattle.initial.specs.Rows.{Listed}
 use Rattle.reachable.specs.Marks.{flagged}
 use Rattle.entries.specs.Promises.{map_of, Ends, Writes}
-use Rattle.answer.specs.declared.find.Finding.{Finding}
-use Rattle.answer.specs.declared.map.Answer.{Answer}
-use Rattle.answer.specs.declared.both.Both.{Both}
+use Rattle.answer.specs.Told.{Answer, Both, Found}
 
 -- the lengths of the lent buffers
 abbrev pub lent_of : Mem → List ℕ → Lent
@@ -33,6 +34,11 @@ early_of n limit mode w = if (ltb longest n) 1 (if (ltb 500000 limit) 2 (if (ltb
 pub record First (n limit mode w x : ℕ) : Type 0 where
   pub is : x ≡ early_of n limit mode w
 
+-- what the tests answer: the first, or the mode
+pub record Tested (n limit mode w : ℕ) (x : Result Mode Refusal) : Type 0 where
+  pub refused : (e : Refusal) → x ≡ Err e → First n limit mode w (refusals.number_of e)
+  pub taken : (m : Mode) → x ≡ Ok m → First n limit mode w 0 × (mode_of m ≡ mode)
+
 -- ---- the map in the rooms
 
 -- W, R and Q hold the map that document 01 gives
@@ -44,15 +50,15 @@ pub record Leaves (limit mode : ℕ) (code w r q : List ℕ) (m energy : ℕ) : 
   pub small : energy < 2 ^ 32
 
 -- the number of the first shortage, whatever the output's length; or 0, and the map is left, with so many addresses flagged, and the list of its blocks' starts
-pub record Finds (limit mode : ℕ) (code : List ℕ) (m : Mem) (w r q : List ℕ) (f : Finding) : Type 0 where
-  pub number : (out : List ℕ) → f.run.code ≡ shortage (lent_of m out) (searched (in_mode mode) limit code).needs
-  pub leaves : f.run.code ≡ 0 → Leaves limit mode code w r q f.run.counts.records f.run.energy
-  pub flags : f.run.code ≡ 0 → f.flags ≡ length (flagged w (length code))
-  pub listed : f.run.code ≡ 0 → Listed (length code) w f.blocks
+pub record Finds (limit mode : ℕ) (code : List ℕ) (m : Mem) (w r q : List ℕ) (f : Found) : Type 0 where
+  pub number : (out : List ℕ) → f.code ≡ shortage (lent_of m out) (searched (in_mode mode) limit code).needs
+  pub leaves : f.code ≡ 0 → Leaves limit mode code w r q f.records f.energy
+  pub flags : f.code ≡ 0 → f.flags ≡ length (flagged w (length code))
+  pub listed : f.code ≡ 0 → Listed (length code) w f.blocks
 
 -- some map is left, to be written
-pub record Holds (w r q : List ℕ) (n : ℕ) (f : Finding) : Type 0 where
-  pub writes : Writes w r q n f.run.counts.records f.run.energy
+pub record Holds (w r q : List ℕ) (n : ℕ) (f : Found) : Type 0 where
+  pub writes : Writes w r q n f.records f.energy
   pub flags : f.flags ≡ length (flagged w n)
   pub listed : Listed n w f.blocks
 
@@ -70,15 +76,10 @@ pub record Tells (x : spec.Answer) (out out' : List ℕ) (a : Answer) : Type 0 w
   pub out_is : out' ≡ output_after x out
 
 -- the shortage answered; or 9 tested, and the rest written, for the map that W, R and Q hold
-pub record Put (w r q : List ℕ) (n : ℕ) (d : Run) (choice : ℕ) (out out' : List ℕ) (a : Answer) : Type 0 where
+pub record Put (w r q : List ℕ) (n : ℕ) (d : Found) (choice : ℕ) (out out' : List ℕ) (a : Answer) : Type 0 where
   pub short : (d.code ≡ 0 → ⊥) → Tells (refused d.code) out out' a
-  pub answer : d.code ≡ 0 → (mode : ℕ) (code : List ℕ) (recs : List Rec) → Ends w r q n d.counts.records mode code recs → (l : Lent) → length out ≡ l.out
+  pub answer : d.code ≡ 0 → (mode : ℕ) (code : List ℕ) (recs : List Rec) → Ends w r q n d.records mode code recs → (l : Lent) → length out ≡ l.out
       → Tells (within_out l (map_of mode code recs d.energy choice)) out out' a
-
--- 9 for no bytes
-pub record Counted (written : ℕ) (a : Answer) : Type 0 where
-  pub none : written ≡ 0 → a ≡ record { number = 9; written = 0 }
-  pub some : (written ≡ 0 → ⊥) → a ≡ record { number = 0; written = written }
 
 abbrev pub Ran : ℕ → ℕ → ℕ → List ℕ → Mem → List ℕ → List ℕ → Answer → Type 0
 Ran limit choice mode code m out out' a = Tells (rest (lent_of m out) limit choice mode code) out out' a
@@ -113,9 +114,9 @@ pub record TellsBoth (x : spec.Answer) (out out' text text' : List ℕ) (a : Bot
   pub text_is : text' ≡ text_after x text
 
 -- the shortage answered; or 9 and 11 tested, and the rest written
-pub record PutBoth (w r q : List ℕ) (n : ℕ) (d : Run) (choice : ℕ) (out out' text text' : List ℕ) (a : Both) : Type 0 where
+pub record PutBoth (w r q : List ℕ) (n : ℕ) (d : Found) (choice : ℕ) (out out' text text' : List ℕ) (a : Both) : Type 0 where
   pub short : (d.code ≡ 0 → ⊥) → TellsBoth (refused d.code) out out' text text' a
-  pub answer : d.code ≡ 0 → (mode : ℕ) (code : List ℕ) (recs : List Rec) → Ends w r q n d.counts.records mode code recs → (l : Lent) → length out ≡ l.out
+  pub answer : d.code ≡ 0 → (mode : ℕ) (code : List ℕ) (recs : List Rec) → Ends w r q n d.records mode code recs → (l : Lent) → length out ≡ l.out
       → TellsBoth (within_text (length text) (within_out l (map_of mode code recs d.energy choice))) out out' text text' a
 
 abbrev pub RanBoth : ℕ → ℕ → ℕ → List ℕ → Mem → List ℕ → List ℕ → List ℕ → List ℕ → Both → Type 0

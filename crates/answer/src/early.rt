@@ -2,10 +2,12 @@
 // "1, 2, 3 are tested in that order and touch nothing." "Refusals: 13, mode neither 0 nor 1, tested after 2."
 ghost use Rattle.std.specs.Prelude.{◌≡◌, ◌≤◌};
 ghost use Rattle.spec.specs.Rooms.{longest, work_need};
-ghost use Rattle.answer.specs.Promises.{First};
+ghost use Rattle.answer.specs.Promises.{Tested};
 
+use exec::mode::Mode;
 use layout::LONGEST;
 use layout::part::{NEED, NEED_MORE};
+use refusal::Refusal;
 
 // "Work W needs 64 × code length + 256 bytes."
 fn need_of(size: usize) -> usize
@@ -15,21 +17,23 @@ fn need_of(size: usize) -> usize
     NEED * size + NEED_MORE
 }
 
-// The first of 1, 2, 13 and 3 that applies to a code of `size` bytes, a limit, a mode, and a W of so many bytes; 0 if none does.
-pub fn early(size: usize, limit: usize, mode: usize, lent: usize) -> usize
-    ensures { First size limit mode lent result }
+// The first of 1, 2, 13 and 3 that applies to a code of `size` bytes, a limit, a mode, and a W of so many bytes; the mode if none does.
+pub fn early(size: usize, limit: usize, mode: usize, lent: usize) -> Result<Mode, Refusal>
+    ensures { Tested size limit mode lent result }
 {
     if LONGEST < size {
-        return 1;
+        return Err(Refusal::Code);
     }
     if 500000 < limit {
-        return 2;
+        return Err(Refusal::Limit);
     }
-    if 1 < mode {
-        return 13;
-    }
+    // Not by `?`, behind which the proof does not see which refusal is handed on.
+    let taken = match Mode::try_from(mode) {
+        Ok(taken) => taken,
+        Err(refusal) => return Err(refusal),
+    };
     if lent < need_of(size) {
-        return 3;
+        return Err(Refusal::Work);
     }
-    0
+    Ok(taken)
 }

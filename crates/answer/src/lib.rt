@@ -6,5 +6,5 @@ mod early;
 mod find;
 mod map;
 
-pub use both::{Both, map_json};
-pub use map::{Answer, map_code};
+pub use both::{Written, map_json};
+pub use map::map_code;

@@ -1,5 +1,5 @@
 -- The number, or the count. Assumes nothing.
-use mathlib.Core.Path.{◌≡◌, refl, sym, ◌∙◌}
+use mathlib.Core.Path.{◌≡◌, refl, sym, subst, ◌∙◌}
 use Prim.Native.Nat.{ℕ, ◌+◌, ◌*◌, ◌/◌, ◌^◌, ◌≤◌}
 use native.Mathlib.Nat.{min-le_right}
 use native.Mathlib.Omega.{arith}
@@ -12,10 +12,37 @@ use Rattle.spec.specs.JsonAnswer.{json_answer, texted, exported_json}
 use Rattle.theorems.proofs.JsonCall.{gave-text}
 use Rattle.layout.specs.Buffers.{Mem}
 use Rattle.answer.specs.Promises.{lent_of, Mapped, MappedBoth}
-use Rattle.answer.specs.declared.map.Answer.{Answer}
-use Rattle.answer.specs.declared.both.Both.{Both}
+use Rattle.std.specs.Prelude.{Result, Ok, Err}
+use Rattle.refusal.specs.Numbers as refusal
+use Rattle.refusal.specs.declared.Refusal.{Refusal}
+use Rattle.answer.specs.Told.{Answer, Both, told, told_both}
+use Rattle.answer.specs.declared.both.Written.{Written}
 use Rattle.answer.proofs.Numbers.{by_zero}
+use Rattle.aznifrem.proofs.Telling.{number-some}
 use Rattle.aznifrem.specs.Promises.{Gives, Exported, Few, GivesBoth, ExportedJson}
+
+-- ---- given
+
+module _ {a : Result ℕ Refusal} where
+  pub gives-count : {n : ℕ} → a ≡ Ok n → Gives (told a) n
+  gives-count q = rw q (record { number = λ h. absurd (h refl); count = λ _. refl })
+
+  pub gives-number : {e : Refusal} → a ≡ Err e → {n : ℕ} → n ≡ refusal.number_of e → Gives (told a) n
+  gives-number {e} q k = rw (q, k) (record { number = λ _. refl; count = λ z. absurd (number-some e z) })
+
+module _ {a : Result Written Refusal} where
+  pub gives-counts : {b : Written} → a ≡ Ok b → GivesBoth (told_both a) (b.entries + 2 ^ 32 * b.text)
+  gives-counts q = rw q (record { number = λ h. absurd (h refl); counts = λ _. refl })
+
+  pub gives-refusal : {e : Refusal} → a ≡ Err e → {n : ℕ} → Gives (told (Err e)) n → GivesBoth (told_both a) n
+  gives-refusal {e} q k = rw q (record { number = k.number; counts = λ z. absurd (number-some e z) })
+
+  -- both counts fit one number
+  pub few-entries : Few (told_both a) → {b : Written} → a ≡ Ok b → b.entries ≤ 2 ^ 30
+  few-entries f q = let k = rw q at f in k.out
+
+  pub few-text : Few (told_both a) → {b : Written} → a ≡ Ok b → b.text ≤ 2 ^ 30
+  few-text f q = let k = rw q at f in k.text
 
 -- a number that is not 0 is the refusal's
 number-given : (x : spec.Answer) → (number_of x ≡ 0 → ⊥) → number_of x ≡ exported x
@@ -26,9 +53,9 @@ count-given : (x : spec.Answer) → number_of x ≡ 0 → length (written x) ≡
 count-given (refused n) h = sym h
 count-given (answered m) h = refl
 
-pub exported-given : {limit choice mode : ℕ} {code : List ℕ} {m m' : Mem} {out out' : List ℕ} {a : Answer} {x : ℕ} → Mapped limit choice mode code m out m' out' a → Gives a x
+exported-gives : {limit choice mode : ℕ} {code : List ℕ} {m m' : Mem} {out out' : List ℕ} {a : Answer} {x : ℕ} → Mapped limit choice mode code m out m' out' a → Gives a x
     → Exported limit choice mode code m out m' out' x
-exported-given {limit} {choice} {mode} {code} {m} {m'} {out} {out'} {a} d g =
+exported-gives {limit} {choice} {mode} {code} {m} {m'} {out} {out'} {a} d g =
     let y = spec.answer (in_mode mode) (lent_of m out) limit choice code in
     record {
       number = by_zero a.number (λ z. g.count z ∙ d.tells.count ∙ count-given y (sym d.tells.number ∙ z))
@@ -41,6 +68,11 @@ exported-given {limit} {choice} {mode} {code} {m} {m'} {out} {out'} {a} d g =
       r = d.r;
       q = d.q;
     }
+
+-- the six are back
+pub exported-given : {limit choice mode : ℕ} {code : List ℕ} {m m' n : Mem} {out out' : List ℕ} {a : Answer} {x : ℕ} → Mapped limit choice mode code m out m' out' a → Gives a x → m' ≡ n
+    → Exported limit choice mode code m out n out' x
+exported-given {limit} {choice} {mode} {code} {m} {out = out} {out'} {x = x} d g e = subst (λ (k : Mem). Exported limit choice mode code m out k out' x) e (exported-gives d g)
 
 -- ---- with the text
 
@@ -73,8 +105,8 @@ module _ {limit choice mode : ℕ} {code : List ℕ} {m m' : Mem} {out text out'
   pub json-few : Few a
   json-few = record { out = omega (arith, d.tells.count, small.out); text = omega (arith, d.tells.shows, small.text) }
 
-  pub json-given : {x : ℕ} → GivesBoth a x → ExportedJson limit choice mode code m out text m' out' text' x
-  json-given g = record {
+  json-gives : {x : ℕ} → GivesBoth a x → ExportedJson limit choice mode code m out text m' out' text' x
+  json-gives g = record {
     number = by_zero a.number (λ z. g.counts z ∙ rw (d.tells.count, d.tells.shows) (counts-both answers (sym d.tells.number ∙ z)))
         (λ h. g.number h ∙ d.tells.number ∙ number-both answers (λ z. h (d.tells.number ∙ z)));
     out_is = d.tells.out_is;
@@ -86,3 +118,6 @@ module _ {limit choice mode : ℕ} {code : List ℕ} {m m' : Mem} {out text out'
     r = d.r;
     q = d.q;
   }
+
+  pub json-given : {x : ℕ} → GivesBoth a x → {n : Mem} → m' ≡ n → ExportedJson limit choice mode code m out text n out' text' x
+  json-given {x} g e = subst (λ (k : Mem). ExportedJson limit choice mode code m out text k out' text' x) e (json-gives g)

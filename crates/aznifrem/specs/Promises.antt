@@ -5,8 +5,7 @@ use Rattle.spec.specs.Answer.{answer, room_after, output_after, exported}
 use Rattle.spec.specs.JsonAnswer.{json_answer, text_after, exported_json}
 use Rattle.layout.specs.Buffers.{Mem}
 use Rattle.answer.specs.Promises.{lent_of}
-use Rattle.answer.specs.declared.map.Answer.{Answer}
-use Rattle.answer.specs.declared.both.Both.{Both}
+use Rattle.answer.specs.Told.{Answer, Both}
 
 -- "the exported entry gives whichever isn't 0"
 pub record Gives (a : Answer) (x : ℕ) : Type 0 where

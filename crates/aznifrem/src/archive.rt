@@ -2,6 +2,7 @@
 // "Refusals: 18, output room short, nothing written."
 ghost use Rattle.aznifrem.specs.Archives.{ExportedSalvage};
 
+use crate::told::told_of;
 use salvage::salvage;
 
 // Copies the maps that read whole into `out`, up to the first that does not, and prints four numbers of 8 bytes into `report`: maps and bytes copied, bytes
@@ -9,5 +10,5 @@ use salvage::salvage;
 pub fn aznifrem_salvage(archive: &[u8], out: &mut [u8], report: &mut [u8]) -> u64
     ensures { ExportedSalvage archive.now out.old report.old out.new report.new result }
 {
-    salvage(archive, out, report) as u64
+    told_of(salvage(archive, out, report))
 }

@@ -12,12 +12,17 @@ mod trace;
 ghost use Rattle.std.specs.Prelude.{◌≡◌};
 ghost use Rattle.spec.specs.Reader as definitions;
 ghost use Rattle.spec.specs.Reader.{reads_as};
+ghost use Rattle.reader.specs.Scanning.{reading_of};
+ghost use Rattle.aznifrem.specs.Told.{refusing};
 ghost use Rattle.layout.specs.Buffers.{buffers};
+ghost use Rattle.answer.specs.Told.{told, told_both};
 ghost use Rattle.aznifrem.specs.Promises.{Gives, Exported, Few, GivesBoth, ExportedJson};
 
-use answer::{Answer, Both, map_code, map_json};
+use answer::{Written, map_code, map_json};
 pub use archive::aznifrem_salvage;
+use layout::buffers::Buffers;
 use reader::read;
+use refusal::Refusal;
 pub use release::{aznifrem_report_add, aznifrem_report_join};
 pub use second::{aznifrem_inspect, aznifrem_inspect_from};
 use told::told_of;
@@ -42,29 +47,25 @@ pub fn aznifrem_map(
     ensures { Exported limit choice mode code.now (buffers w.old p.old s.old t.old r.old q.old)
         out.old (buffers w.new p.new s.new t.new r.new q.new) out.new result }
 {
+    let mut buffers = Buffers { w, p, s, t, r, q };
     given(map_code(
         limit as usize,
         choice as usize,
         mode as usize,
         code,
-        w,
-        p,
-        s,
-        t,
-        r,
-        q,
+        &mut buffers,
         out,
     ))
 }
 
 // "the exported entry gives whichever isn't 0"
-fn given(a: Answer) -> u64
-    ensures { Gives a result }
+fn given(answer: Result<usize, Refusal>) -> u64
+    ensures { Gives (told answer) result }
 {
-    if a.number != 0 {
-        return a.number as u64;
+    match answer {
+        Ok(written) => written as u64,
+        Err(refusal) => refusal.number() as u64,
     }
-    a.written as u64
 }
 
 // The same, and the JSON text of the blocks in an eighth lent buffer; gives the number of the refusal, or the bytes of entries and 2^32 times those of text
@@ -87,37 +88,40 @@ pub fn aznifrem_json(
         out.old text.old (buffers w.new p.new s.new t.new r.new q.new)
         out.new text.new result }
 {
+    let mut buffers = Buffers { w, p, s, t, r, q };
     given_both(map_json(
         limit as usize,
         choice as usize,
         mode as usize,
         code,
-        w,
-        p,
-        s,
-        t,
-        r,
-        q,
+        &mut buffers,
         out,
         text,
     ))
 }
 
 // The number, or both counts as one.
-fn given_both(b: Both) -> u64
-    requires { Few b }
-    ensures { GivesBoth b result }
+fn given_both(answer: Result<Written, Refusal>) -> u64
+    requires { Few (told_both answer) }
+    ensures { GivesBoth (told_both answer) result }
 {
-    if b.number != 0 {
-        return b.number as u64;
+    match answer {
+        Ok(written) => (written.entries + 4294967296 * written.text) as u64,
+        Err(refusal) => given(Err(refusal)),
     }
-    (b.written + 4294967296 * b.texted) as u64
+}
+
+// Judges a byte string as a stored map.
+fn reading(map: &[u8]) -> Result<(), Refusal>
+    ensures { result ≡ refusing (reading_of (definitions.read map.now)) }
+{
+    read(map)?;
+    Ok(())
 }
 
 // Judges a byte string as a stored map: 0 where it holds one, else 12 and 256 times the offset of its first bad entry (`told`).
 pub fn aznifrem_read(map: &[u8]) -> u64
     ensures { result ≡ reads_as (definitions.read map.now) }
 {
-    let r = read(map);
-    told_of(r.number, r.offset)
+    told_of(reading(map))
 }

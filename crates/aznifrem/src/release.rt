@@ -10,13 +10,12 @@ use report::{add, join};
 pub fn aznifrem_report_add(report: &mut [u8], map: &[u8]) -> u64
     ensures { ExportedReport report.old (report_add report.old map.now) report.new result }
 {
-    let r = add(report, map);
-    told_of(r.number, r.offset)
+    told_of(add(report, map))
 }
 
 // Joins another report to a report; gives 0, or 16 where a total would not fit.
 pub fn aznifrem_report_join(report: &mut [u8], other: &[u8]) -> u64
     ensures { ExportedReport report.old (report_join report.old other.now) report.new result }
 {
-    join(report, other) as u64
+    told_of(join(report, other))
 }

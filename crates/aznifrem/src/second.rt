@@ -11,8 +11,7 @@ use inspector::{inspect, inspect_from};
 pub fn aznifrem_inspect(mode: u64, code: &[u8], map: &[u8], w: &mut [u8], place: &mut [u8]) -> u64
     ensures { ExportedInspect mode code.now map.now w.old place.old w.new place.new result }
 {
-    let i = inspect(mode as usize, code, map, w, place);
-    told_of(i.number, i.value)
+    told_of(inspect(mode as usize, code, map, w, place))
 }
 
 // The same of those that stand at the offset `from` or later; with 17 all that are not right in `rows`, 16 bytes each, as many as it has room for.
@@ -26,6 +25,5 @@ pub fn aznifrem_inspect_from(
 ) -> u64
     ensures { ExportedInspectFrom mode code.now map.now from w.old rows.old w.new rows.new result }
 {
-    let i = inspect_from(mode as usize, code, map, from as usize, w, rows);
-    told_of(i.number, i.value)
+    told_of(inspect_from(mode as usize, code, map, from as usize, w, rows))
 }

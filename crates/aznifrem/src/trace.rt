@@ -2,7 +2,7 @@
 // "Write a follower that takes an answer, the code and such a log (8-byte little-endian numbers), and walks it block by block."
 ghost use Rattle.aznifrem.specs.FollowContract.{ExportedFollow};
 
-use crate::told::told_of;
+use crate::told::told_place;
 use follow::follow;
 
 // Follows a log through a stored map: 0 and 256 times the place of the first step that is not in the map, or of the log's end; or the refusal's number, with
@@ -16,6 +16,5 @@ pub fn aznifrem_follow(
 ) -> u64
     ensures { ExportedFollow map.now code.now log.now work.old counts.old work.new counts.new result }
 {
-    let f = follow(map, code, log, work, counts);
-    told_of(f.number, f.value)
+    told_place(follow(map, code, log, work, counts))
 }

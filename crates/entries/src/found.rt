@@ -96,7 +96,7 @@ impl Found<'_> {
         self.goal_of(row).is_some()
     }
 
-    // Where the paths before a row end in Q, in addresses.
+    // Where the paths before a row end in Q, in addresses: what `tables::end_before` reads of a record, which has it elsewhere (docs/LAYOUT.md).
     pub fn begin_of(&self, row: usize) -> usize
         requires { record_place row ≤ length self.now.r.now }
         ensures { PathsEnd self.now.r.now row result }

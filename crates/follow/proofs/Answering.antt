@@ -1,5 +1,5 @@
 -- The follower's answers and refusals. Assumes nothing.
-use Rattle.std.proofs.Common.{◌≡◌, ℕ, suc, true, false, ◌+◌, ◌*◌, ◌/◌, ◌%◌, ◌^◌, ◌<◌, ◌≤◌, eqb, leb, List, ◌++◌, length, drop, replicate, sym, refl, ap, ◌∙◌, subst, arith, drop_at, eq-eqb, ne_eqb, le-leb, Bor, Option as Maybe, Result, Ok, Err, IsErr, IsErrAnd}
+use Rattle.std.proofs.Common.{◌≡◌, ℕ, suc, true, false, ◌+◌, ◌*◌, ◌/◌, ◌%◌, ◌^◌, ◌<◌, ◌≤◌, eqb, leb, List, ◌++◌, length, drop, replicate, sym, refl, ap, ◌∙◌, subst, arith, drop_at, eq-eqb, ne_eqb, le-leb, Option as Maybe, Result, Ok, Err, IsErr, IsErrAnd}
 use lib.ListN.{length-replicate}
 use borrow.Author.Tests.{lt-leb}
 use Rattle.spec.specs.Lists.{total}
@@ -18,7 +18,7 @@ use Rattle.reader.specs.Walks.{Walking}
 use Rattle.reader.specs.declared.scan.BadEntry.{BadEntry}
 use Rattle.reader.proofs.Walked.{begun}
 use Rattle.follow.specs.Blocks.{finals_at}
-use Rattle.follow.specs.Finding.{slots_of, Fitting, room_in, Ready, Finds, Filled}
+use Rattle.follow.specs.Finding.{slots_of, Fitting, room_in, Ready, Filled}
 use Rattle.follow.specs.Walking.{Zeroed, Walked}
 use Rattle.follow.specs.Following.{Answered, result_of, FollowedAs}
 use Rattle.refusal.specs.declared.Refusal.{Refusal}
@@ -26,12 +26,6 @@ use Rattle.refusal.specs.declared.Refusal.TheVariants.{Entry, Log}
 use Rattle.follow.proofs.Following.{held-blocks}
 
 -- ---- answer
-
-pub answer-wiped : (work : List ℕ) {work₁ : List ℕ} → work₁ ≡ replicate (length work) 0 → work₁ ≡ replicate (length work₁) 0
-answer-wiped work e = e ∙ ap (λ (n : ℕ). replicate n 0) (sym (ap length e ∙ length-replicate (length work) 0))
-
-pub answer-finds : {map work : Bor (List ℕ)} {work₀ : List ℕ} {rows : Maybe ℕ} → Ready map.now → Filled map.now work₀ work.now rows → Finds (record { map = map; work = work; rows = rows })
-answer-finds y f = record { ready = y; index = f.index }
 
 module _ (b c : List ℕ) {c₁ : List ℕ} (n : ℕ) (e : n ≡ slots_of (finals_at b 0)) (l : 8 * n ≤ length c) (s : Stored (8 * n) c 0 (replicate (8 * n) 0) c₁) where
   front : c₁ ≡ over (replicate (8 * n) 0) c

@@ -1,18 +1,17 @@
 -- The index of edges: what stands there is right, and what is found there is what stands there. Assumes nothing.
-use Rattle.std.proofs.Common.{◌≡◌, ℕ, ◌+◌, ◌-◌, ◌*◌, ◌/◌, ◌%◌, ◌^◌, ◌<◌, ◌≤◌, Bool, true, false, ◌&&◌, eqb, List, [], ◌∷◌, ◌++◌, length, length-append, append_assoc, sym, refl, ap, ◌∙◌, subst, mod-lt, arith, eq-eqb, ne_eqb, eqb-true, Option, Some, None, Bor}
+use Rattle.std.proofs.Common.{◌≡◌, ℕ, ◌+◌, ◌-◌, ◌*◌, ◌/◌, ◌%◌, ◌^◌, ◌<◌, ◌≤◌, Bool, true, false, eqb, List, [], ◌∷◌, ◌++◌, length, length-append, append_assoc, sym, refl, ap, ◌∙◌, subst, mod-lt, arith, eqb-true, Option, Some, Bor}
 use native.Mathlib.Decide.{dec_lt}
 use borrow.Author.Tests.{eqb-false}
 use Rattle.spec.specs.Lists.{little}
 use Rattle.spec.specs.Counting.{distinct}
 use Rattle.spec.specs.Follow.{outgoing}
-use Rattle.theorems.proofs.ReaderPlaces.{never}
-use Rattle.lent.specs.Bytes.{num_at, Holds, Stored}
+use Rattle.lent.specs.Bytes.{num_at, Stored}
 use Rattle.lent.proofs.Stored.{kept-num, read_back}
 use Rattle.reader.specs.Walks.{Walking}
 use Rattle.follow.specs.Blocks.{named_by}
 use Rattle.follow.specs.Places.{PlaceOf, place_in, distinct_left, none_passed}
 use Rattle.follow.specs.Finding.{Tells, Table, Index}
-use Rattle.follow.specs.Edges.{ShelfAt, shelf_in, EntryOf, Looked, Known, PlaceSo, Entered, Inserted, no_free, put_at, Kept, not_kept, kept_at, Owned, Linked}
+use Rattle.follow.specs.Edges.{ShelfAt, shelf_in, EntryOf, Looked, Known, PlaceSo, Entered, Inserted, no_free, put_at, Kept, not_kept, kept_at, Owned}
 use Rattle.follow.specs.declared.block.Named.{Named}
 use Rattle.follow.specs.declared.find.Counted.{Counted}
 use Rattle.follow.specs.declared.place.Distinct.{Distinct}
@@ -30,33 +29,7 @@ module _ (long rows : ℕ) (l : 16 * rows ≤ long) where
   pub shelf-at : 16 ≤ (long - 16 * rows) / 24 → {i : ℕ} → i < (long - 16 * rows) / 24 - 15 → ShelfAt long rows (16 * rows + 24 * i)
   shelf-at n {i} g = record { first = i; is = refl; fits = omega arith }
 
-pub shelf-fits : (long rows : ℕ) {x : Option ℕ} → shelf_in long rows x → {shelf : ℕ} → x ≡ Some shelf → shelf + 384 ≤ long
-shelf-fits long rows h e = (subst (shelf_in long rows) e h).fits
-
 -- ---- looking an edge up
-
-module _ {w : List ℕ} {at a : ℕ} (key q : ℕ) (h : Holds 8 w at a) where
-  pub is-not : (a ≡ key → ⊥) → false ≡ (eqb (num_at 8 w at) key && eqb (num_at 8 w (at + 8)) q)
-  is-not n = sym (ap (λ (t : Bool). t && eqb (num_at 8 w (at + 8)) q) (ne_eqb (num_at 8 w at) key (λ e. n (h.is ∙ e))))
-
-  pub is_same : a ≡ key → {v : ℕ} → Holds 8 w (at + 8) v → eqb v q ≡ (eqb (num_at 8 w at) key && eqb (num_at 8 w (at + 8)) q)
-  is_same e g = ap (λ (x : ℕ). eqb x q) g.is ∙ sym (ap (λ (t : Bool). t && eqb (num_at 8 w (at + 8)) q) (eq-eqb (num_at 8 w at) key (sym h.is ∙ e)))
-
-pub look_none : (w : List ℕ) (shelf key q : ℕ) → Looked w shelf key q None
-look_none w shelf key q = record { found = λ n. never (cc) }
-
-pub look-found : {w : List ℕ} {shelf key q : ℕ} (i : ℕ) {t : Bool} → t ≡ (eqb (num_at 8 w (shelf + 24 * i)) key && eqb (num_at 8 w (shelf + 24 * i + 8)) q) → t ≡ true
-    → {v : ℕ} → Holds 8 w (shelf + 24 * i + 16) v → {r : Option ℕ} → ((n : ℕ) → r ≡ Some n → v ≡ n + 1) → Looked w shelf key q r
-look-found {w} {shelf} {key} {q} i e z {v} h {r} f =
-    record { found = λ {n} s. record { i = i; entry = by_tests (n + 1) (f n s) (eqb (num_at 8 w (shelf + 24 * i)) key) refl (eqb (num_at 8 w (shelf + 24 * i + 8)) q) refl (sym e ∙ z) } }
-  where
-    by_tests : (m : ℕ) → v ≡ m → (s : Bool) → eqb (num_at 8 w (shelf + 24 * i)) key ≡ s → (u : Bool) → eqb (num_at 8 w (shelf + 24 * i + 8)) q ≡ u → s && u ≡ true → EntryOf w (shelf + 24 * i) key q m
-    by_tests m o true x true y k = record { key_is = eqb-true _ key x; to_is = eqb-true _ q y; place_is = sym h.is ∙ o }
-    by_tests m o true x false y k = never (cc)
-    by_tests m o false x u y k = never (cc)
-
-pub known-none : (w : List ℕ) (rows : Option ℕ) (key q : ℕ) → Known w rows key q None
-known-none w rows key q = record { found = λ n. never (cc) }
 
 -- an entry of a shelf is one of all
 on-shelf : (rows first i : ℕ) {shelf : ℕ} → shelf ≡ 16 * rows + 24 * first → shelf + 24 * i ≡ 16 * rows + 24 * (first + i)
@@ -138,27 +111,9 @@ link_start {map} {work} {rows} {c} e x l t =
     record { put = []; all = sym (choose-all e); count = refl; few = few-distinct c x l; table = t; rows_kept = λ i h. refl; kept = refl }
 
 module _ {b work : List ℕ} {rows : ℕ} {c : Named} {s : Distinct} {n : ℕ} {w : List ℕ} (i : Linking b work rows c s n w) where
-  pub link_fits : 16 * rows ≤ length w
-  link_fits = i.table.fits
-
-  pub link-kept : length w ≡ length work
-  link-kept = i.kept
-
-  pub link-over : distinct_left s ≡ [] → Linked b work rows c w n
-  link-over e =
-      record {
-        many = omega (arith, i.count, ap length i.all, ap length e, length-append i.put (distinct_left s));
-        table = i.table;
-        rows_kept = i.rows_kept;
-        kept = i.kept;
-      }
-
   module _ {to : ℕ} (t : Distinct) (e : distinct_left s ≡ to ∷ distinct_left t) where
     its : distinct (named_by b c) ≡ i.put ++ to ∷ distinct_left t
     its = i.all ∙ ap (λ (l : List ℕ). i.put ++ l) e
-
-    pub link-place : n + 1 < 2 ^ 64
-    link-place = omega (arith, ap length its, length-append i.put (to ∷ distinct_left t), i.count, i.few)
 
     module _ {key : ℕ} (o : Owned b key c) {w' : List ℕ} (k : Kept w rows key to n w') where
       place : PlaceOf to (distinct (named_by b c)) n

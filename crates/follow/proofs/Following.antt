@@ -191,12 +191,6 @@ flag-low : (t : Bool) → flag t ≤ 1
 flag-low true = omega arith
 flag-low false = omega arith
 
-pub follow-standing : {b code log c₀ : List ℕ} {i : ℕ} {s : Maybe Stand} {c : List ℕ} → Following b code log c₀ i s c → Standing b s
-follow-standing f = record { at = f.at; stands = f.stands }
-
-pub follow-fits : {b code log c₀ : List ℕ} {i : ℕ} {s : Maybe Stand} {c : List ℕ} → Following b code log c₀ i s c → 8 * slots_of (finals_at b 0) ≤ length c
-follow-fits f = omega (arith, f.kept, f.fits)
-
 -- one more in a block's count, and in an edge's
 module _ (b c₀ : List ℕ) (rising : Rising 0 (finals-at (finals_at b 0))) (E : ℕ → ℕ) (W : ℕ → ℕ → ℕ) where
   many : length (numbers (counts_of b E W)) ≡ slots_of (finals_at b 0)
@@ -321,6 +315,3 @@ follow-ends {b} {code} {log} {i} f l =
     (sym f.same
     ∙ ap (λ (x : ℕ). follow_from f.m code (drop x (steps log)) f.at x (counts_of b f.E f.W)) e
     ∙ ap (λ (xs : List ℕ). follow_from f.m code xs f.at n (counts_of b f.E f.W)) (steps-end n log)) f.counts
-
-pub follow-kept : {b code log c₀ : List ℕ} {i : ℕ} {s : Maybe Stand} {c : List ℕ} → Following b code log c₀ i s c → {q : ℕ} {c' : List ℕ} {r : Maybe Stand} → Turned b code s q c c' r → length c' ≡ length c₀
-follow-kept f d = d.kept ∙ f.kept

@@ -151,9 +151,6 @@ pub record BlockFrom (b : List ℕ) (from at : ℕ) : Type 0 where
   pub same : finals_at b from ≡ finals_at b at
   pub on : from ≤ at
 
-pub block_start : {b : List ℕ} {from : ℕ} → Walking b from → BlockFrom b from from
-block_start w = record { walking = w; same = refl; on = omega arith }
-
 module _ {b : List ℕ} {from at : ℕ} (i : BlockFrom b from at) {r : Option Step} (h : r ≡ walk_at b at) where
   module _ {s : Step} (q : r ≡ Some s) where
     abbrev e : Result Entry Fault
@@ -222,9 +219,6 @@ pub record SevensFrom (b : List ℕ) (from at : ℕ) : Type 0 where
   pub walking : Walking b at
   pub same : outs_at b from ≡ outs_at b at
   pub on : from ≤ at
-
-pub seven-start : {b : List ℕ} {from : ℕ} → Walking b from → SevensFrom b from from
-seven-start w = record { walking = w; same = refl; on = omega arith }
 
 module _ {b : List ℕ} {from at : ℕ} (i : SevensFrom b from at) {r : Option Step} (h : r ≡ walk_at b at) where
   module _ {s : Step} (q : r ≡ Some s) {v : Option (Option ℕ)} (k : v ≡ way_of s.entry) where

@@ -1,5 +1,5 @@
 -- The index's rows are right, block by block. Assumes nothing.
-use Rattle.std.proofs.Common.{◌≡◌, ℕ, ◌+◌, ◌-◌, ◌*◌, ◌^◌, ◌<◌, ◌≤◌, Bool, true, false, eqb, List, [], ◌∷◌, ◌++◌, length, replicate, sym, refl, ap, ◌∙◌, subst, arith, w64, Fits, eqb-true, Option as Maybe, Some, None, Bor}
+use Rattle.std.proofs.Common.{◌≡◌, ℕ, ◌+◌, ◌-◌, ◌*◌, ◌^◌, ◌<◌, ◌≤◌, Bool, true, false, eqb, List, [], ◌∷◌, ◌++◌, length, replicate, sym, refl, ap, ◌∙◌, subst, arith, w64, Fits, eqb-true, Option as Maybe, Some, Bor}
 use native.Mathlib.Decide.{dec_lt}
 use mathlib.Core.Option.{none, some}
 use borrow.Author.Tests.{eqb-false}
@@ -15,14 +15,12 @@ use Rattle.theorems.proofs.FollowCounts.{above}
 use Rattle.lent.specs.Bytes.{num_at, Stored}
 use Rattle.lent.proofs.Numbers.{num-zeros}
 use Rattle.lent.proofs.Stored.{kept-num, read_back}
-use Rattle.reader.specs.Walks.{Walking}
-use Rattle.follow.specs.Blocks.{finals_at, Begins, next_block, GivesBlock}
-use Rattle.follow.specs.Finding.{Ready, Spot, RowIs, Rows, RowPut, Tells, Table, Filled}
+use Rattle.follow.specs.Blocks.{finals_at, Begins, GivesBlock}
+use Rattle.follow.specs.Finding.{Ready, Spot, RowIs, Rows, RowPut, Tells, Table}
 use Rattle.follow.specs.Edges.{Owned, Linked}
 use Rattle.follow.specs.declared.block.Block.{Block}
 use Rattle.follow.specs.declared.block.Blocks.{Blocks}
-use Rattle.follow.proofs.Going.{inside}
-use Rattle.follow.proofs.Passing.{Passing, pass_on, pass-sum, pass-walking, its-block, split-here, found-here, same-slot, slots-none, ready-walks, starting-append, starting-nil, starting-here, starting-later}
+use Rattle.follow.proofs.Passing.{Passing, pass_on, pass-sum, its-block, split-here, same-slot, slots-none, ready-walks, starting-append, starting-nil, starting-here, starting-later}
 use Rattle.follow.proofs.Following.{held-rises}
 
 -- ---- the first of blocks that starts at an address
@@ -79,10 +77,6 @@ fill_start {work} {rows} e y z l =
     nought : (i : ℕ) → num_at 8 work i ≡ 0
     nought i = ap (λ (x : List ℕ). num_at 8 x i) z ∙ num-zeros 8 (length work) i
 
--- no row, no index
-pub fill_none : {b work : List ℕ} → Filled b work work None
-fill_none = record { index = record { built = λ n. never (cc); edges = λ n. never (cc) }; kept = refl }
-
 -- a row in bytes that are the same there
 row_moved : {b : List ℕ} {fs : List Final} {w w' : List ℕ} {q : ℕ} → RowIs b fs w q
     → num_at 8 w' (16 * q) ≡ num_at 8 w (16 * q) → num_at 8 w' (16 * q + 8) ≡ num_at 8 w (16 * q + 8) → RowIs b fs w' q
@@ -111,33 +105,7 @@ row-later {b} {fs} {w} {w'} {q} f r n e d =
         })
 
 module _ {b work : List ℕ} {rows : ℕ} {s : Blocks} {slot : ℕ} {w : List ℕ} (i : Filling b work rows s slot w) {r : Maybe Block} {t : Blocks} (h : GivesBlock s r t) where
-  pub fill-kept : length w ≡ length work
-  fill-kept = i.kept
-
-  pub fill-ends : r ≡ None → Filled b work w (Some rows)
-  fill-ends q =
-      record {
-        index = record {
-          built = λ {n} e. let m : rows ≡ n = cc in subst (λ (k : ℕ). Rows b (finals_at b 0) w k) m (subst (λ (fs : List Final). Rows b fs w rows) (sym all) i.filled);
-          edges = λ {n} e. let m : rows ≡ n = cc in subst (λ (k : ℕ). Table b w k) m i.table;
-        };
-        kept = i.kept;
-      }
-    where
-      nothing : (l : List Final) → l ++ [] ≡ l
-      nothing [] = refl
-      nothing (x ∷ l) = ap {B = List Final} (λ (k : List Final). x ∷ k) (nothing l)
-
-      all : finals_at b 0 ≡ i.passing.before
-      all = i.passing.is ∙ ap (λ (l : List Final). i.passing.before ++ l) (subst (next_block b s.at) q (found-here i.passing h)) ∙ nothing i.passing.before
-
   module _ {k : Block} (z : r ≡ Some k) where
-    pub fill-short : Filled b work w None
-    fill-short = record { index = record { built = λ n. never (cc); edges = λ n. never (cc) }; kept = i.kept }
-
-    pub fill-walking : Walking b k.named.at
-    fill-walking = pass-walking i.passing h z
-
     pub fill-owned : Owned b (slot + 1) k.named
     fill-owned =
         let its = its-block i.passing h z in
@@ -150,13 +118,7 @@ module _ {b work : List ℕ} {rows : ℕ} {s : Blocks} {slot : ℕ} {w : List �
     pub fill_one : Ready b → Fits w64 (slot + 1)
     fill_one y = omega (arith, pass-sum i.passing h z refl, y.few)
 
-    pub fill-next : length b < 2 ^ 64 → k.own + 1 < 2 ^ 64
-    fill-next l = omega (arith, (its-block i.passing h z).own_on, inside fill-walking)
-
     module _ (l : k.start < rows) where
-      pub fill-fits : 16 * k.start + 16 ≤ length w
-      fill-fits = omega (arith, i.filled.fits)
-
       module _ {w₁ : List ℕ} (put : RowPut w k.start k.own slot w₁) where
         -- the entries stand behind the rows
         pub fill-table : Table b w₁ rows

@@ -1,5 +1,5 @@
 -- A step of the code is the definitions' move. Assumes nothing.
-use Rattle.std.proofs.Common.{◌≡◌, ℕ, suc, ◌+◌, ◌-◌, ◌<◌, ◌≤◌, Bool, true, false, ◌&&◌, eqb, ltb, leb, List, [], ◌∷◌, length, sym, ap, ◌∙◌, subst, arith, length-append, w64, Fits, le-ltb, lt-ltb, eq-eqb, ne_eqb, eqb-true, Option as Maybe, Some, None}
+use Rattle.std.proofs.Common.{◌≡◌, ℕ, suc, ◌+◌, ◌<◌, ◌≤◌, Bool, true, false, ◌&&◌, eqb, ltb, leb, List, [], ◌∷◌, length, sym, ap, ◌∙◌, subst, arith, length-append, w64, Fits, le-ltb, lt-ltb, eq-eqb, ne_eqb, eqb-true, Option as Maybe, Some, None}
 use mathlib.Core.Option.{Option, some}
 use Rattle.spec.specs.Lists.{if, mem}
 use Rattle.spec.specs.Opcodes.{row}
@@ -101,27 +101,10 @@ module _ (b : List ℕ) (k : Counted) (q : ℕ) {r : Maybe ℕ} (h : PlaceSo b k
               subst (λ (w : spec.Move). MoveAs b w (Some (Takes (k.slot + 1 + n) to)))
               (sym (if-true (mem q (outgoing f)) _ _ (in_mem q i) ∙ ap (taking f) t.starts)) v
 
--- ---- goes_on
+-- ---- size
 
 pub size_is : {op s : ℕ} → SizeIs op s → op < 256 → s ≡ (row op).size
 size_is {op} h l = h.size ∙ sym (row-size op l)
-
-module _ (code : List ℕ) (pc q end : ℕ) where
-  abbrev goes : Bool
-  goes = eqb q (pc + size_at code pc) && leb q end
-
-  no-good : (q ≡ pc + size_at code pc → ⊥) → false ≡ goes
-  no-good n = sym (ap (λ (t : Bool). t && leb q end) (ne_eqb q (pc + size_at code pc) n))
-
-  pub goes_back : q < pc → false ≡ goes
-  goes_back l = no-good (λ e. omega arith)
-
-  module _ {s : ℕ} (h : s ≡ size_at code pc) (l : pc ≤ q) where
-    pub goes-aside : (q - pc ≡ s → ⊥) → false ≡ goes
-    goes-aside n = no-good (λ e. n (omega arith))
-
-    pub goes-next : q - pc ≡ s → leb q end ≡ goes
-    goes-next e = sym (ap (λ (t : Bool). t && leb q end) (eq-eqb q (pc + size_at code pc) (omega arith)))
 
 -- ---- inside
 

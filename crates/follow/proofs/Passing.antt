@@ -11,7 +11,7 @@ use Rattle.lent.specs.Bytes.{num_at, Holds}
 use Rattle.reader.specs.Walks.{Walking}
 use Rattle.reader.proofs.Walked.{begins}
 use Rattle.follow.specs.Blocks.{finals_at, named_by, Begins, next_block, CanGo, GivesBlock}
-use Rattle.follow.specs.Finding.{slots_of, Fitting, Ready, FoundAt, Spot, Indexed, Finds}
+use Rattle.follow.specs.Finding.{slots_of, Ready, FoundAt, Spot, Indexed, Finds}
 use Rattle.follow.specs.declared.block.Block.{Block}
 use Rattle.follow.specs.declared.block.Blocks.{Blocks}
 use Rattle.follow.specs.declared.find.Finder.{Finder}
@@ -65,14 +65,6 @@ module _ {b : List ℕ} {s : Blocks} {n : ℕ} (i : Passing b s n) {r : Option B
   pub found-here : next_block b s.at r
   found-here = subst (λ (m : List ℕ). next_block m s.at r) i.same g.here
 
-  pub pass_all : r ≡ None → n ≡ slots_of (finals_at b 0)
-  pass_all q =
-      i.count ∙ omega_zero
-      ∙ sym (ap slots_of i.is ∙ slots-append i.before (finals_at b s.at) ∙ ap (λ (l : List Final). slots_of i.before + slots_of l) (subst (next_block b s.at) q found-here) ∙ ap (λ (k : ℕ). slots_of i.before + k) slots-none)
-    where
-      omega_zero : slots_of i.before ≡ slots_of i.before + 0
-      omega_zero = omega arith
-
   module _ {k : Block} (q : r ≡ Some k) where
     pub its-block : Begins b s.at k
     its-block = subst (next_block b s.at) q found-here
@@ -113,13 +105,7 @@ pub room-start : {map : Bor (List ℕ)} {lent : ℕ} {s : Blocks} → s ≡ reco
 room-start e w = record { passing = pass-start e w; low = omega arith }
 
 module _ {b : List ℕ} {lent : ℕ} {s : Blocks} {n : ℕ} (i : Rooming b lent s n) {r : Option Block} {t : Blocks} (g : GivesBlock s r t) where
-  pub room_fits : r ≡ None → Fitting lent (slots_of (finals_at b 0)) n
-  room_fits q = record { is = pass_all i.passing g q; fits = i.low }
-
   module _ {k : Block} (q : r ≡ Some k) where
-    pub room-walking : Walking b k.named.at
-    room-walking = pass-walking i.passing g q
-
     module _ {m : ℕ} (e : m ≡ length (distinct (named_by b k.named))) where
       pub room_short : lent - n ≤ m → (Counts ≡ Counts) × (lent < slots_of (finals_at b 0))
       room_short l = (refl, omega (arith, pass-sum i.passing g q e, i.low))
@@ -161,9 +147,6 @@ so_far : {b : List ℕ} {q : ℕ} {s : Blocks} {slot : ℕ} → Scanning b q s s
 so_far {b} {q} {s} i = ap (starting q) i.passing.is ∙ starting-append q i.passing.before (finals_at b s.at) i.none_yet
 
 module _ {b : List ℕ} {q : ℕ} {s : Blocks} {slot : ℕ} (i : Scanning b q s slot) {r : Option Block} {t : Blocks} (g : GivesBlock s r t) where
-  pub scan-none : r ≡ None → starting q (finals_at b 0) ≡ none
-  scan-none z = so_far i ∙ ap (starting q) (subst (next_block b s.at) z (found-here i.passing g)) ∙ starting-nil q
-
   module _ {k : Block} (z : r ≡ Some k) where
     abbrev first : Begins b s.at k
     first = its-block i.passing g z
@@ -181,9 +164,6 @@ module _ {b : List ℕ} {q : ℕ} {s : Blocks} {slot : ℕ} (i : Scanning b q s 
             slot_is = i.passing.count;
           };
         }
-
-    pub scan-walking : Walking b k.named.at
-    scan-walking = pass-walking i.passing g z
 
     module _ {m : ℕ} (e : m ≡ length (distinct (named_by b k.named))) where
       pub scan-one : Ready b → Fits w64 (1 + m)
@@ -210,12 +190,6 @@ pub one-some : {a : ℕ} {r : Option ℕ} → SomeIff r (1 ≤ a) (a - 1) → {o
 one-some {a} {r} h {own} e = let s = subst (λ (o : Option ℕ). SomeIff o (1 ≤ a) (a - 1)) e h in omega (arith, s.0, s.1)
 
 module _ {b work : List ℕ} {rows q : ℕ} (x : Indexed b work rows) (l : q < rows) where
-  pub row_fits : 16 * q + 8 ≤ length work
-  row_fits = omega (arith, x.fits)
-
-  pub row-fits-2 : 16 * q + 8 + 8 ≤ length work
-  row-fits-2 = omega (arith, x.fits)
-
   module _ {a : ℕ} (g : Holds 8 work (16 * q) a) where
     pub row-none : a ≡ 0 → starting q (finals_at b 0) ≡ none
     row-none z = (x.row q l).empty (sym g.is ∙ z)
@@ -251,6 +225,3 @@ module _ {b work : List ℕ} {rows q : ℕ} (x : Indexed b work rows) (l : q < r
 module _ {x : Finder} (f : Finds x) {rows : ℕ} (e : x.rows ≡ Some rows) where
   pub find-index : Indexed x.map.now x.work.now rows
   find-index = f.index.built e
-
-  pub find-beyond : {q : ℕ} → rows ≤ q → starting q (finals_at x.map.now 0) ≡ none
-  find-beyond {q} l = find-index.beyond q l

@@ -1,12 +1,12 @@
 -- A destination's place among the distinct ones of a list, found from the front. Assumes nothing.
-use Rattle.std.proofs.Common.{◌≡◌, ℕ, zero, suc, ◌+◌, ◌-◌, ◌*◌, ◌^◌, ◌<◌, ◌≤◌, Bool, true, false, not, ◌||◌, eqb, List, [], ◌∷◌, ◌++◌, length, take, drop, sym, refl, ap, ◌∙◌, subst, ap₂, append_assoc, arith, length-append, take_at, drop_at, w64, Fits, eq-eqb, ne_eqb, eqb-true, Option, Some, None, Bor, cond, ltb, lt-ltb, le-ltb}
-use Rattle.std.specs.List.{position_or_len}
+use Rattle.std.proofs.Common.{◌≡◌, ℕ, suc, ◌+◌, ◌-◌, ◌*◌, ◌^◌, ◌<◌, ◌≤◌, Bool, true, false, not, ◌&&◌, ◌||◌, eqb, List, [], ◌∷◌, ◌++◌, length, take, drop, sym, refl, ap, ◌∙◌, subst, ap₂, append_assoc, arith, length-append, take_at, drop_at, w64, Fits, eq-eqb, ne_eqb, eqb-true, Option, Some, None, Bor, cond, ltb, lt-ltb, le-ltb}
+use Rattle.std.specs.List.{position_or_len, list_all}
 use borrow.Author.Tests.{eqb-false}
 use Rattle.spec.specs.Lists.{if, keep, mem}
 use Rattle.spec.specs.Counting.{count, distinct}
 use Rattle.spec.specs.Entries.{flag}
 use Rattle.laws.proofs.Branch.{both, if-true, if-false}
-use Rattle.laws.proofs.Members.{In, here, mem-in, in_mem, in_right}
+use Rattle.laws.proofs.Members.{In, here, in_right}
 use Rattle.theorems.proofs.ReaderPlaces.{never}
 use Rattle.theorems.proofs.DistinctOnes.{in-distinct, distinct-once}
 use Rattle.reader.specs.Walks.{Walking}
@@ -86,13 +86,6 @@ parted q (x ∷ xs) ys h =
           (ap (others x) p.is ∙ others-append x (distinct xs) (q ∷ p.later) ∙ ap (λ (l : List ℕ). others x (distinct xs) ++ l) (others-other x q p.later k.0));
     }
 
-mem-distinct : (q : ℕ) (xs : List ℕ) → mem q xs ≡ false → mem q (distinct xs) ≡ false
-mem-distinct q xs h = go (mem q (distinct xs)) refl
-  where
-    go : (t : Bool) → mem q (distinct xs) ≡ t → t ≡ false
-    go true e = let z = in_mem q (in-distinct q xs (mem-in q (distinct xs) e)) in never (cc)
-    go false e = refl
-
 mem-last : (q x : ℕ) (xs : List ℕ) → mem q xs ≡ false → (q ≡ x → ⊥) → mem q (xs ++ x ∷ []) ≡ false
 mem-last q x [] h n = ap (λ (t : Bool). t || false) (ne_eqb q x n)
 mem-last q x (y ∷ xs) h n =
@@ -101,33 +94,13 @@ mem-last q x (y ∷ xs) h n =
 
 -- ---- fresh
 
--- what is left to look at says what the whole says
-pub record FreshFrom (d : ℕ) (whole : List ℕ) (left : ℕ) (ds : List ℕ) : Type 0 where
-  pub same : mem d whole ≡ mem d (take left ds)
-
-pub fresh_start : {d n left : ℕ} {ds es : List ℕ} → left ≡ n → es ≡ ds → FreshFrom d (take n ds) left es
-fresh_start {d} e q = record { same = ap₂ (λ (m : ℕ) (l : List ℕ). mem d (take m l)) (sym e) (sym q) }
-
-module _ {d : ℕ} {whole : List ℕ} {left : ℕ} {ds : List ℕ} (i : FreshFrom d whole left ds) where
-  pub fresh-end : (0 < left → (ds ≡ []) × (ds ≡ [])) → true ≡ not (mem d whole)
-  fresh-end e = sym (ap not (i.same ∙ none left (λ z. (e z).0)))
-    where
-      none : (n : ℕ) → (0 < n → ds ≡ []) → mem d (take n ds) ≡ false
-      none zero g = refl
-      none (suc n) g = ap (λ (l : List ℕ). mem d (take (suc n) l)) (g (omega arith))
-
-  module _ {to : ℕ} {others : List ℕ} (less : ℕ) (h : (ds ≡ to ∷ others) × (less + 1 ≡ left)) where
-    one_less : mem d whole ≡ eqb d to || mem d (take less others)
-    one_less = i.same ∙ ap (λ (k : List ℕ). mem d (take left k)) h.0 ∙ ap (λ (n : ℕ). mem d (take n (to ∷ others))) (more less left h.1)
-      where
-        more : (n m : ℕ) → n + 1 ≡ m → m ≡ suc n
-        more n m z = omega arith
-
-    pub fresh-found : to ≡ d → false ≡ not (mem d whole)
-    fresh-found z = sym (ap not (one_less ∙ ap (λ (t : Bool). t || mem d (take less others)) (eq-eqb d to (sym z))))
-
-    pub fresh_on : (to ≡ d → ⊥) → FreshFrom d whole less others
-    fresh_on n = record { same = one_less ∙ ap (λ (t : Bool). t || mem d (take less others)) (ne_eqb d to (λ z. n (sym z))) }
+pub all-not : (q : ℕ) (xs : List ℕ) → list_all (λ (x : ℕ). not (eqb x q)) xs ≡ not (mem q xs)
+all-not q [] = refl
+all-not q (x ∷ xs) = go (eqb x q) refl (all-not q xs)
+  where
+    go : (t : Bool) → eqb x q ≡ t → list_all (λ (y : ℕ). not (eqb y q)) xs ≡ not (mem q xs) → not t && list_all (λ (y : ℕ). not (eqb y q)) xs ≡ not (eqb q x || mem q xs)
+    go true e ih = sym (ap (λ (b : Bool). not (b || mem q xs)) (eq-eqb q x (sym (eqb-true x q e))))
+    go false e ih = ih ∙ sym (ap (λ (b : Bool). not (b || mem q xs)) (ne_eqb q x (λ z. eqb-false x q e (sym z))))
 
 -- ---- the distinct ones that are left behind those before
 

@@ -1,5 +1,6 @@
 // The index of the blocks: with it a block is found in one step, however large the map is.
 // "walks it block by block"
+// No heap, fixed memory: it is rows of numbers in the bytes that are lent.
 ghost use Rattle.std.specs.Prelude.{◌≡◌, ◌+◌, ◌*◌, ◌^◌, ◌<◌, ◌≤◌, length, replicate};
 ghost use Rattle.follow.specs.Finding.{Ready, RowPut, Filled};
 

@@ -16,12 +16,9 @@ fn fresh(map: &[u8], named: Named, count: usize, asked: usize) -> bool
     requires { Walking map.now named.at }
     ensures { result ≡ not (mem asked (take count (named_by map.now named))) }
 {
-    for to in (Destinations { map, named }).take(count) {
-        if to == asked {
-            return false;
-        }
-    }
-    true
+    (Destinations { map, named })
+        .take(count)
+        .all(|to| to != asked)
 }
 
 // A block's distinct destinations: each where it is named first. So many are passed, and the others are left.

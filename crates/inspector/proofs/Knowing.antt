@@ -1,16 +1,14 @@
 -- A block of a path is sound: its run, one instruction after the other, meets no unknown byte. Assumes nothing.
-use Prim.Native.Nat.{ℕ, ◌≤◌, ◌<◌}
+use Prim.Native.Nat.{ℕ}
 use mathlib.Core.Path.{◌≡◌, refl, sym, ap, subst, ◌∙◌}
 use mathlib.Core.Bool.{Bool, true, false, ◌&&◌, ◌||◌, not}
 use mathlib.Core.List.{List, []}
-use lib.ListN.{length, drop}
-use borrow.Author.Tests.{lt-ltb, le-ltb}
+use lib.ListN.{drop}
 use Rattle.std.specs.Prelude.{Option, Some, None}
 use Rattle.std.specs.Borrow.{Bor}
 use Rattle.spec.specs.Walk.{walk}
 use Rattle.spec.specs.Opcodes.{row}
 use Rattle.spec.specs.PathMeaning.{all_known}
-use Rattle.spec.specs.Inspector.{sound}
 use Rattle.evm.specs.Walker.{walker_at, Walks}
 use Rattle.evm.specs.declared.walk.Instruction.{Instruction}
 use Rattle.evm.specs.declared.walker.Walker.{Walker}
@@ -61,9 +59,3 @@ module _ {code : List ℕ} {start : ℕ} {w v : Walker} (i : Knows code start w)
             })
 
 -- ---- is_sound
-
-pub sound-past : (code : List ℕ) (start : ℕ) → length code ≤ start → false ≡ sound row code start
-sound-past code start h = rw (le-ltb start (length code) h)
-
-pub sound-known : (code : List ℕ) (start : ℕ) → start < length code → {r : Bool} → r ≡ known_at code start start → r ≡ sound row code start
-sound-known code start h e = rw (lt-ltb start (length code) h) e

@@ -1,5 +1,5 @@
 -- A path entry, one block after the other: what is left to judge ends as the whole does. Assumes nothing.
-use Prim.Native.Nat.{ℕ, zero, suc, ◌+◌, ◌*◌, ◌-◌, ◌≤◌, ◌<◌}
+use Prim.Native.Nat.{ℕ, zero, suc, ◌+◌, ◌*◌, ◌≤◌, ◌<◌}
 use native.Mathlib.Omega.{arith}
 use native.Mathlib.Numerals.{add-one}
 use mathlib.Core.Path.{◌≡◌, refl, sym, ap, ap₂, ◌∙◌}
@@ -99,9 +99,6 @@ module _ {mode : ℕ} {b code w₀ : List ℕ} {p : Path} {first : ℕ} {symbol 
 
   pub passed-tables : Tables b code w
   passed-tables = k.filled.tables
-
-  pub passed-less : i < p.count → p.count - (i + 1) < p.count - i
-  passed-less l = omega arith
 
   pub passed-looks : i < p.count → Looks (sym_of x)
   passed-looks l = record { deep = omega (arith, k.near, l, h.few) }

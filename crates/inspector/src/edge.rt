@@ -1,6 +1,7 @@
 // An edge of the map, found in a few steps: by the table of edges that were found, or by the row of the block that it leaves.
 // "blocks joined by edges of that map"
 // W has a number of 8 bytes for each address, one more than the offset of the block that starts there, and five for each address of edges found.
+// No heap, fixed memory: they are numbers in the bytes that are lent.
 ghost use Rattle.std.specs.Prelude.{◌<◌, length};
 ghost use Rattle.inspector.specs.Edges.{Sought};
 ghost use Rattle.inspector.specs.Tables.{Tables, Between, Joined};

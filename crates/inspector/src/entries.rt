@@ -11,6 +11,7 @@ use crate::replay::Replay;
 use reader::{Entry, Fault, Step, next};
 
 // What an entry shows, with the start of the block before it: a path with a destination, of the block at `owner`; or the block that 7s behind it are of.
+// Neither is the lack of the other, so an Option or a Result would be no plainer.
 #[derive(Clone, Copy)]
 pub enum Shown {
     Path { owner: usize, path: Path },

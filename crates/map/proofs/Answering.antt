@@ -15,7 +15,7 @@ use Rattle.theorems.proofs.Refusals.{made, Verdict, code-over, limit-over, mode-
 use Rattle.lent.specs.Bytes.{Stored}
 use Rattle.layout.specs.Buffers.{Mem}
 use Rattle.answer.specs.Promises.{lent_of, Tells, Mapped}
-use Rattle.answer.specs.declared.map.Answer.{Answer}
+use Rattle.answer.specs.Told.{Answer}
 use Rattle.map.specs.Promises as contracts
 use Rattle.map.specs.Promises.{Numbered, map, Told, Shows, Prints}
 use Rattle.map.specs.Rooms.{Lends}

@@ -5,6 +5,8 @@ use mathlib.Core.Option.{Option, none, some}
 use Prim.Native.Nat.{ℕ, suc, ◌+◌, ◌*◌, ◌≤◌, ◌<◌}
 use native.Mathlib.Nat.{zero-add}
 use native.Mathlib.Omega.{arith}
+use Rattle.std.specs.Prelude as std
+use Rattle.std.specs.Prelude.{Some, None}
 use lib.ListN.{length, get_or, drop, drop_of_length-le}
 use lib.Seq.{drop-cons, append_snoc}
 use borrow.Author.Tests.{eq-eqb, ne_eqb}
@@ -35,10 +37,13 @@ pair-second none o = refl
 pair-second (some a) o = refl
 
 -- nothing is taken
-refuses : {text code code' : List ℕ} → length code' ≡ length code → program text ≡ says_refused 10 → Decodes text code code' 513
-refuses l e = record { taken = λ h. absurd (omega arith); rest = λ h. absurd (omega arith); refused = λ _. e; small = omega arith; long = l }
+refuses : {text code code' : List ℕ} → length code' ≡ length code → program text ≡ says_refused 10 → Decodes text code code' None
+refuses {text} {code} {code'} l e = record { taken = λ n q. other q; rest = λ n q. other q; small = λ n q. other q; refused = λ _. e; long = l }
+  where
+    other : {A : Type 0} {n : ℕ} → None ≡ Some n → A
+    other q = cc
 
-pub decodes-long : (text code : List ℕ) → 1025 < length text → Decodes text code code 513
+pub decodes-long : (text code : List ℕ) → 1025 < length text → Decodes text code code None
 decodes-long text code h = refuses refl (refused-long text h)
 
 -- i bytes are decoded, from 2 i characters
@@ -52,7 +57,7 @@ pub decoding-none : (text code : List ℕ) → Decoding text code code 0
 decoding-none text code = record { done = []; are = after_nothing (decoded text); stored = stored-none code 0 (omega arith); behind = omega arith }
 
 module _ {text code₀ code : List ℕ} {i : ℕ} (s : Decoding text code₀ code i) where
-  bad : decoded text ≡ none → Decodes text code₀ code 513
+  bad : decoded text ≡ none → Decodes text code₀ code None
   bad e = refuses s.stored.kept (refused_none text e)
 
   -- ---- two characters
@@ -70,33 +75,36 @@ module _ {text code₀ code : List ℕ} {i : ℕ} (s : Decoding text code₀ cod
     unfolding decoded
     rest = s.are ∙ ap (λ (r : List ℕ). after s.done (decoded r)) next
 
-    module _ {a b : ℕ} (p : Worth x a) (q : Worth y b) where
-      pub decoding-more : {code' : List ℕ} → a ≤ 15 → b ≤ 15 → Stored 1 code i (little 1 (16 * a + b)) code' → Decoding text code₀ code' (i + 1)
-      decoding-more f e t = record {
+    pub first_bad : {v : std.Option ℕ} → Worth x v → v ≡ None → Decodes text code₀ code None
+    first_bad p f = bad (rest ∙ rw (p.refused f))
+
+    module _ {v u : std.Option ℕ} (p : Worth x v) (q : Worth y u) where
+      pub decoding-more : {a b : ℕ} {code' : List ℕ} → v ≡ Some a → u ≡ Some b → Stored 1 code i (little 1 (16 * a + b)) code' → Decoding text code₀ code' (i + 1)
+      decoding-more {a} {b} f e t = record {
         done = s.done ++ (16 * a + b) ∷ [];
-        are = rest ∙ rw (p.taken f, q.taken e) (after-pair s.done a b (decoded (drop (2 * (i + 1)) text)));
-        stored = stored-join s.stored (rw zero-add (stored-small (omega arith) t));
+        are = rest ∙ rw ((p.taken a f).0, (q.taken b e).0) (after-pair s.done a b (decoded (drop (2 * (i + 1)) text)));
+        stored = stored-join s.stored (rw zero-add (stored-small (omega (arith, (p.taken a f).1, (q.taken b e).1)) t));
         behind = omega arith;
       }
 
-      pub first_bad : 15 < a → Decodes text code₀ code 513
-      first_bad f = bad (rest ∙ rw (p.refused f))
-
-      pub second-bad : 15 < b → Decodes text code₀ code 513
+      pub second-bad : u ≡ None → Decodes text code₀ code None
       second-bad f = bad (rest ∙ rw (q.refused f, pair-second))
 
   -- ---- the end
 
-  ends : decoded (drop (2 * i) text) ≡ some [] → i ≤ 512 → Decodes text code₀ code i
+  ends : decoded (drop (2 * i) text) ≡ some [] → i ≤ 512 → Decodes text code₀ code (Some i)
   ends e f = record {
-    taken = λ _. s.are ∙ rw (e, read_all s.stored, append-nil);
-    rest = λ _. kept-drop s.stored i (omega arith);
-    refused = λ g. absurd (omega arith);
-    small = omega arith;
+    taken = λ n q. let same : i ≡ n = cc in rw (← same) (s.are ∙ rw (e, read_all s.stored, append-nil));
+    rest = λ n q. let same : i ≡ n = cc in rw (← same) (kept-drop s.stored i (omega arith));
+    small = λ n q. let same : i ≡ n = cc in rw (← same) f;
+    refused = λ q. other q;
     long = s.stored.kept;
   }
+    where
+      other : {A : Type 0} → Some i ≡ None → A
+      other q = cc
 
-  pub decoding-done : 2 * i ≡ length text → length text ≤ 1025 → Decodes text code₀ code i
+  pub decoding-done : 2 * i ≡ length text → length text ≤ 1025 → Decodes text code₀ code (Some i)
   unfolding decoded
   decoding-done e f = ends (rw (drop_of_length-le text (let l : length text ≤ 2 * i = omega arith in l))) (omega arith)
 
@@ -108,10 +116,10 @@ module _ {text code₀ code : List ℕ} {i : ℕ} (s : Decoding text code₀ cod
         let k : 2 * i < length text = omega (arith, s.behind, z) in
         rw (← byte-held h, ← drop_of_length-le text few) (drop-cons text (2 * i) 0 k)
 
-    pub line-feed : x ≡ 0x0A → length text ≤ 1025 → Decodes text code₀ code i
+    pub line-feed : x ≡ 0x0A → length text ≤ 1025 → Decodes text code₀ code (Some i)
     unfolding decoded
     line-feed e f = ends (ap decoded last ∙ if-true _ _ _ (eq-eqb x 0x0A e)) (omega arith)
 
-    pub odd : (x ≡ 0x0A → ⊥) → Decodes text code₀ code 513
+    pub odd : (x ≡ 0x0A → ⊥) → Decodes text code₀ code None
     unfolding decoded
     odd e = bad (s.are ∙ ap (after s.done) (ap decoded last ∙ if-false _ _ _ (ne_eqb x 0x0A e)))

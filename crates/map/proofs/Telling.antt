@@ -1,5 +1,5 @@
 -- An answer that is handed over, and what is printed of it. Assumes nothing.
-use mathlib.Core.Path.{◌≡◌, sym}
+use mathlib.Core.Path.{◌≡◌, refl, sym}
 use mathlib.Core.List.{List}
 use Prim.Native.Nat.{ℕ, ◌≤◌, ◌<◌}
 use native.Mathlib.Omega.{arith}
@@ -8,6 +8,9 @@ use Rattle.spec.specs.Entries.{Map, bytes, entries}
 use Rattle.spec.specs.Answer.{Answer, refused, answered}
 use Rattle.spec.specs.Program.{says_refused, prints}
 use Rattle.lent.specs.Bytes.{Stored}
+use Rattle.std.specs.Prelude.{Result, Ok}
+use Rattle.refusal.specs.declared.Refusal.{Refusal}
+use Rattle.answer.specs.Told.{told}
 use Rattle.map.specs.Promises.{Cut, Lists, Lined, Numbered, refusal, map, Told, Shows, Prints}
 use Rattle.map.proofs.Items.{entries-items}
 
@@ -51,3 +54,12 @@ prints-map (answered m) z l (map h) t = l.stored (entries m) (cut-entries m t)
 
 pub map-printed : {number count end : ℕ} {raw out out' : List ℕ} → number ≡ 0 → Lined raw count out out' end → Prints number count raw out out' end
 map-printed z l = record { stored = λ x t. prints-map x z l t.numbered t; kept = l.kept }
+
+-- ---- the same of what a call gives
+
+module _ {x : Result ℕ Refusal} {written : ℕ} (e : x ≡ Ok written) where
+  pub map-told : {raw out : List ℕ} → Shows (told x).number (told x).written raw out → Lists raw written out
+  map-told s = map-lists refl (rw e at s)
+
+  pub told-map : {end : ℕ} {raw out out' : List ℕ} → Lined raw written out out' end → Prints (told x).number (told x).written raw out out' end
+  told-map l = rw e (map-printed refl l)

@@ -1,5 +1,5 @@
 -- What each function asks and promises, a record each. Assumes nothing.
-use Rattle.std.specs.Prelude.{◌≡◌, List, [], ◌∷◌, ◌++◌, ℕ, ◌+◌, ◌*◌, ◌^◌, ◌≤◌, ◌<◌, length, take, drop}
+use Rattle.std.specs.Prelude.{◌≡◌, Option, Some, None, List, [], ◌∷◌, ◌++◌, ℕ, ◌+◌, ◌*◌, ◌^◌, ◌≤◌, ◌<◌, length, take, drop}
 use Rattle.std.proofs.Math.Option.{none, some}
 use Rattle.spec.specs.Lists.{gather}
 use Rattle.spec.specs.Entries.{Map, item, joined, bytes}
@@ -9,18 +9,17 @@ use Rattle.lent.specs.Bytes.{Stored}
 
 -- ---- from what is typed to the code
 
--- what a character is worth, 16 if it is no digit
-pub record Worth (c v : ℕ) : Type 0 where
-  pub taken : v ≤ 15 → digit c ≡ some v
-  pub refused : 15 < v → digit c ≡ none
-  pub small : v ≤ 16
+-- what a character is worth, if it is a digit
+pub record Worth (c : ℕ) (v : Option ℕ) : Type 0 where
+  pub taken : (d : ℕ) → v ≡ Some d → (digit c ≡ some d) × (d ≤ 15)
+  pub refused : v ≡ None → digit c ≡ none
 
--- the code stands in the first n bytes, and all else is as it was; or n is 513, and the program refuses
-pub record Decodes (text code code' : List ℕ) (n : ℕ) : Type 0 where
-  pub taken : n ≤ 512 → decoded text ≡ some (take n code')
-  pub rest : n ≤ 512 → drop n code' ≡ drop n code
-  pub refused : 512 < n → program text ≡ says_refused 10
-  pub small : n ≤ 513
+-- the code stands in the first n bytes, and all else is as it was; or there is none, and the program refuses
+pub record Decodes (text code code' : List ℕ) (size : Option ℕ) : Type 0 where
+  pub taken : (n : ℕ) → size ≡ Some n → decoded text ≡ some (take n code')
+  pub rest : (n : ℕ) → size ≡ Some n → drop n code' ≡ drop n code
+  pub small : (n : ℕ) → size ≡ Some n → n ≤ 512
+  pub refused : size ≡ None → program text ≡ says_refused 10
   pub long : length code' ≡ length code
 
 -- ---- from the answer to what is printed

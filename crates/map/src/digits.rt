@@ -5,58 +5,57 @@ ghost use Rattle.map.specs.Promises.{Worth, Decodes};
 
 use lent::{get8, put8};
 
-// What a character is worth as a digit, or 16.
-fn worth(character: usize) -> usize
+// What a character is worth as a digit, if it is one.
+fn worth(character: usize) -> Option<usize>
     ensures { Worth character result }
 {
     if character < 0x30 {
-        return 16;
+        return None;
     }
     if character <= 0x39 {
-        return character - 0x30;
+        return Some(character - 0x30);
     }
     if character < 0x41 {
-        return 16;
+        return None;
     }
     if character <= 0x46 {
-        return character - 0x37;
+        return Some(character - 0x37);
     }
     if character < 0x61 {
-        return 16;
+        return None;
     }
     if character <= 0x66 {
-        return character - 0x57;
+        return Some(character - 0x57);
     }
-    16
+    None
 }
 
-// The code that is typed, put at the start of `code`, and its length; or 513 where it is refused.
-pub fn decode(code: &mut [u8], text: &[u8]) -> usize
+// The code that is typed, put at the start of `code`: its length, or none where it is refused.
+pub fn decode(code: &mut [u8], text: &[u8]) -> Option<usize>
     requires { 512 ≤ length code.old }
     ensures { Decodes text.now code.old code.new result }
 {
     let size = text.len();
     if 1025 < size {
-        return 513;
+        return None;
     }
-    let mut i = 0;
-    while 2 * i + 1 < size {
-        let a = worth(get8(text, 2 * i));
-        let b = worth(get8(text, 2 * i + 1));
-        if 15 < a {
-            return 513;
-        }
-        if 15 < b {
-            return 513;
-        }
+    let count = size / 2;
+    for i in 0..count {
+        let first = get8(text, 2 * i);
+        let second = get8(text, 2 * i + 1);
+        let Some(a) = worth(first) else {
+            return None;
+        };
+        let Some(b) = worth(second) else {
+            return None;
+        };
         put8(code, i, 16 * a + b);
-        i += 1;
     }
-    if 2 * i == size {
-        return i;
+    if 2 * count == size {
+        return Some(count);
     }
-    if get8(text, 2 * i) == 0x0A {
-        return i;
+    if get8(text, 2 * count) == 0x0A {
+        return Some(count);
     }
-    513
+    None
 }

@@ -4,9 +4,11 @@ ghost use Rattle.std.specs.Prelude.{◌+◌, ◌*◌, ◌≤◌, ◌<◌, length
 ghost use Rattle.spec.specs.Lists.{gather};
 ghost use Rattle.spec.specs.Program.{hex, line, says_refused};
 ghost use Rattle.lent.specs.Bytes.{Stored};
+ghost use Rattle.answer.specs.Told.{told};
 ghost use Rattle.map.specs.Promises.{Spells, PutsHex, Lists, Lined, Shows, Prints};
 
 use lent::{get8, get32, put8, put16, put64};
+use refusal::Refusal;
 
 // The character of a digit.
 fn character(value: usize) -> usize
@@ -33,10 +35,8 @@ fn put_hex(raw: &[u8], from: usize, count: usize, out: &mut [u8], at: usize)
     requires { PutsHex raw.now from count out.old at (2 * count) }
     ensures { Stored (2 * count) out.old at (gather hex (take count (drop from raw.now))) out.new }
 {
-    let mut i = 0;
-    while i < count {
+    for i in 0..count {
         put_digits(out, at + 2 * i, get8(raw, from + i));
-        i += 1;
     }
 }
 
@@ -56,6 +56,7 @@ pub fn put_lines(raw: &[u8], count: usize, out: &mut [u8]) -> usize
 {
     let mut at = 0;
     let mut end = 0;
+    // No `for`: each entry says how far the next one is.
     while at < count {
         let size = get32(raw, at) + 6;
         put_line(raw, at, size, out, end);
@@ -81,13 +82,13 @@ pub fn put_refused(number: usize, out: &mut [u8]) -> usize
     11
 }
 
-// What is printed of an answer: its number, or the entries that stand in its first `written` bytes; gives where it ends.
-pub fn put_answer(number: usize, written: usize, raw: &[u8], out: &mut [u8]) -> usize
-    requires { Shows number written raw.now out.old }
-    ensures { Prints number written raw.now out.old out.new result }
+// What is printed of an answer: the number of its refusal, or the entries that stand in the first bytes of `raw`; gives where it ends.
+pub fn put_answer(answer: Result<usize, Refusal>, raw: &[u8], out: &mut [u8]) -> usize
+    requires { Shows (told answer).number (told answer).written raw.now out.old }
+    ensures { Prints (told answer).number (told answer).written raw.now out.old out.new result }
 {
-    if number != 0 {
-        return put_refused(number, out);
+    match answer {
+        Ok(written) => put_lines(raw, written, out),
+        Err(refusal) => put_refused(refusal.number(), out),
     }
-    put_lines(raw, written, out)
 }

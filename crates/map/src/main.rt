@@ -12,6 +12,7 @@ ghost use Rattle.lent.specs.Bytes.{Stored};
 
 use digits::decode;
 use lines::put_refused;
+use refusal::Refusal;
 use rooms::put_code;
 
 // What the program prints, from what is typed: it is put at the start of `out`, and its end is given.
@@ -20,11 +21,10 @@ fn render(out: &mut [u8], text: &[u8]) -> usize
     ensures { Stored result out.old 0 (program text.now) out.new }
 {
     let mut code = [0u8; 512];
-    let n = decode(&mut code, text);
-    if 512 < n {
-        return put_refused(10, out);
-    }
-    put_code(&code[..n], out)
+    let Some(size) = decode(&mut code, text) else {
+        return put_refused(Refusal::Input.number(), out);
+    };
+    put_code(&code[..size], out)
 }
 
 // A text of 1,026 characters is refused whatever follows it (`first-decide` in proofs/Refusing.antt), so that no more is read.

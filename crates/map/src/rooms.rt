@@ -5,31 +5,20 @@ ghost use Rattle.spec.specs.Opcodes.{in_mode};
 ghost use Rattle.spec.specs.Answer.{answer};
 ghost use Rattle.spec.specs.Program.{lends, prints};
 ghost use Rattle.lent.specs.Bytes.{Stored};
-ghost use Rattle.layout.specs.Buffers.{buffers};
+ghost use Rattle.layout.specs.Buffers.{held};
 ghost use Rattle.map.specs.Rooms.{Lends};
 
 use crate::lines::put_answer;
 use answer::map_code;
+use layout::buffers::Buffers;
 
 // The answer for a code, printed. Its records are of kind 8 and its mode is 0, so that document 01's sessions stand.
-fn put_map(
-    code: &[u8],
-    w: &mut [u8],
-    p: &mut [u8],
-    s: &mut [u8],
-    t: &mut [u8],
-    r: &mut [u8],
-    q: &mut [u8],
-    raw: &mut [u8],
-    out: &mut [u8],
-) -> usize
-    requires { Lends (buffers w.old p.old s.old t.old r.old q.old) raw.old out.old }
+fn put_map(code: &[u8], buffers: &mut Buffers<'_>, raw: &mut [u8], out: &mut [u8]) -> usize
+    requires { Lends (held buffers.old) raw.old out.old }
     ensures { Stored result out.old 0 (prints (answer (in_mode 0) lends 500000 1 code.now)) out.new }
 {
-    let a = map_code(500000, 1, 0, code, w, p, s, t, r, q, raw);
-    let number = a.number;
-    let written = a.written;
-    put_answer(number, written, raw, out)
+    let answer = map_code(500000, 1, 0, code, buffers, raw);
+    put_answer(answer, raw, out)
 }
 
 // The same, in rooms of its own.
@@ -44,7 +33,13 @@ pub fn put_code(code: &[u8], out: &mut [u8]) -> usize
     let mut r = [0u8; 32768];
     let mut q = [0u8; 32768];
     let mut raw = [0u8; 32768];
-    put_map(
-        code, &mut w, &mut p, &mut s, &mut t, &mut r, &mut q, &mut raw, out,
-    )
+    let mut buffers = Buffers {
+        w: &mut w,
+        p: &mut p,
+        s: &mut s,
+        t: &mut t,
+        r: &mut r,
+        q: &mut q,
+    };
+    put_map(code, &mut buffers, &mut raw, out)
 }

@@ -4,10 +4,10 @@ use mathlib.Core.Bool.{Bool, true, false}
 use mathlib.Core.List.{List, [], ◌∷◌}
 use Prim.Native.Nat.{ℕ, ◌≤◌, ◌<◌}
 use native.Mathlib.Omega.{arith}
-use lib.Dec.{eqb}
+use lib.Dec.{eqb, leb}
 use lib.ListN.{length, take, drop, length-drop}
 use Rattle.std.specs.Prelude.{Option, Some, None}
-use borrow.Author.Tests.{eq-eqb, ne_eqb, le-ltb}
+use borrow.Author.Tests.{eq-eqb, ne_eqb, lt-leb, le-ltb}
 use Rattle.spec.specs.Lists.{number}
 use Rattle.spec.specs.Entries.{wide_code, way_kind, record_kind, numbered_kind, absent}
 use Rattle.spec.specs.Forms.{wide_in, field, sort, Sort as Means, HEAD, BLOCK, WAY, RECORD, UNKNOWN}
@@ -82,8 +82,8 @@ one_byte (x ∷ y ∷ l) h s = absurd (omega arith)
 
 module _ (b : List ℕ) where
   -- with fewer bytes no code length stands there, and none above 255 can
-  pub wide_short : length b < 8 → Bytes b → false ≡ wide_in b
-  wide_short h w = sym (le-ltb _ (field 6 2 b) (omega (arith, one_byte (drop 6 b) (bytes_drop 6 b w) (omega (arith, length-drop 6 b)))))
+  pub wide_short : length b < 8 → Bytes b → leb 8 (length b) ≡ wide_in b
+  wide_short h w = lt-leb 8 (length b) h ∙ sym (le-ltb _ (field 6 2 b) (omega (arith, one_byte (drop 6 b) (bytes_drop 6 b w) (omega (arith, length-drop 6 b)))))
 
   pub wide-there : {n : ℕ} {r : Bool} → Holds 2 b 6 n → r ≡ wide_code n → r ≡ wide_in b
   unfolding num_at

@@ -33,10 +33,7 @@ fn wide_code(size: usize) -> bool
 pub fn wide_in(map: &[u8]) -> bool
     ensures { result ≡ wide_in map.now }
 {
-    if map.len() < 8 {
-        return false;
-    }
-    wide_code(get16(map, 6))
+    8 <= map.len() && wide_code(get16(map, 6))
 }
 
 // The kinds of path entries in a family: of 7s, of records without their number, and with it.

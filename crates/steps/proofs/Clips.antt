@@ -12,13 +12,13 @@ use Rattle.spec.specs.Lists.{if}
 use Rattle.spec.specs.Rooms.{or_else}
 use Rattle.lent.specs.Bytes.{num_at, Holds}
 use Rattle.layout.specs.Rows as rows
-use Rattle.parents.specs.Promises.{Number, Link}
+use Rattle.parents.specs.Promises.{Number}
 use Rattle.laws.proofs.Branch.{both, if-true, if-false}
 use Rattle.laws.proofs.Members.{and_both}
 use Rattle.steps.specs.Cursors.{clipped, up_to, first_cursor, next_cursor, last_cursor, Cursor, Asks}
 use Rattle.layout.specs.Fields.{first_found_at, FIRST-FOUND}
 use Rattle.layout.specs.Parts.{fields_place}
-use Rattle.layout.specs.Records.{RECORD, record_place, R-ENDS, R-NEXT, end_of}
+use Rattle.layout.specs.Records.{record_place, R-ENDS, R-NEXT, end_of}
 use Rattle.layout.specs.Rows.{start_of}
 
 -- ---- a link to a found parent
@@ -61,17 +61,7 @@ or-first (suc a) b d = refl
 
 -- ---- what they read
 
-module _ {w r : List ℕ} {n b at : ℕ} where
-  pub row-found : Cursor w r n b at → 0x10000 ≤ at → record_place (at - 0x10000) + RECORD ≤ length r
-  row-found h l = h.found l
-
-  pub row-direct : Cursor w r n b at → at < 0x10000 → Link w at
-  row-direct h l = record { some = h.some; inside = h.direct l }
-
 module _ {r q : List ℕ} {at : ℕ} where
-  pub row-asked : Asks r q at → 0x10000 ≤ at → record_place (at - 0x10000) + RECORD ≤ length r
-  row-asked h l = h.row l
-
   pub path-asked : {x : ℕ} → Asks r q at → 0x10000 ≤ at → Holds 4 r (record_place (at - 0x10000) + R-ENDS) x → (1 ≤ x) × (2 * x ≤ length q)
   unfolding end_of
   path-asked h l e = rw e.is (h.path l)

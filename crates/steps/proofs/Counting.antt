@@ -14,10 +14,10 @@ use Rattle.tables.specs.Addrs.{addrs}
 use Rattle.tables.proofs.Addrs.{addrs-length}
 use Rattle.tables.proofs.Chains.{keyed}
 use Rattle.reachable.specs.Promises.{Room}
-use Rattle.steps.specs.Paths.{occurs, Inside, OnPath, CountsOnly, Counting, Uncounting, Counted}
+use Rattle.steps.specs.Paths.{occurs, Inside, OnPath, CountsOnly, Counted}
 use Rattle.steps.proofs.Splits.{addrs-more, inside-at}
 use Rattle.steps.proofs.Occurs.{occurs-append, occurs-most, occurs-one, occurs-other}
-use Rattle.steps.proofs.Paths.{only_none, only-after}
+use Rattle.steps.proofs.Paths.{only-after}
 
 -- ---- a count that is stored
 
@@ -68,17 +68,6 @@ pub record Along (n : ℕ) (w p : List ℕ) (from to i : ℕ) (w' : List ℕ) : 
   pub counted : Counted n w p i w'
 
 module _ {n from to : ℕ} {w p : List ℕ} where
-  begun : (i : ℕ) → Room n w → 2 * to ≤ length p → to ≤ 2 ^ 30 → Inside n (addrs p 0 to) → from ≤ i → i ≤ to → OnPath n w (addrs p 0 i)
-      → Along n w p from to i w
-  begun i a b c d lo hi o =
-      record { lent = a; in_p = b; most = c; inside = d; low = lo; high = hi; counted = record { counts = o; only = only_none } }
-
-  pub count-first : Counting n w p from to → Along n w p from to from w
-  count-first c = begun from c.lent c.in_p c.most c.inside (omega arith) c.order c.counts
-
-  pub uncount-first : Uncounting n w p from to → Along n w p from to to w
-  uncount-first c = begun to c.lent c.in_p c.most c.inside c.order (omega arith) c.counts
-
   module _ {i : ℕ} {w₁ : List ℕ} (o : Along n w p from to i w₁) where
     -- the j-th address is one of the code's, and its fields lie in W
     address : (j x : ℕ) → j < to → Holds 2 p (2 * j) x → x ≤ n
@@ -141,6 +130,3 @@ module _ {n from to : ℕ} {w p : List ℕ} where
 
     pub count-done : to ≤ i → Counted n w p to w₁
     count-done l = let e : i ≡ to = omega (arith, o.high) in rw e at o.counted
-
-    pub uncount-done : i ≤ from → Counted n w p from w₁
-    uncount-done l = let e : i ≡ from = omega (arith, o.low) in rw e at o.counted

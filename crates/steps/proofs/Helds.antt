@@ -2,8 +2,6 @@
 use mathlib.Core.Path.{◌≡◌, refl, sym, ap, subst, ◌∙◌}
 use mathlib.Core.Logic.{◌⊎◌, inl, inr}
 use mathlib.Core.List.{List}
-use Rattle.std.specs.Prelude.{Option, Some, None}
-use Rattle.std.proofs.lemmas.Option.{none-some, same_Some}
 use Prim.Native.Nat.{ℕ, ◌+◌, ◌-◌, ◌*◌, ◌≤◌, ◌<◌}
 use native.Mathlib.Omega.{arith}
 use lib.ListN.{length, take, drop}
@@ -21,7 +19,7 @@ use Rattle.exec.specs.Owns.{runs_room, Owned}
 use Rattle.exec.specs.declared.run.Own.{Own}
 use Rattle.steps.specs.Plans.{mode_in}
 use Rattle.steps.specs.declared.plan.Plan.{Plan}
-use Rattle.steps.specs.Helds.{link_of, filled_of, cell_of, count_of, HeldAt, Helds, HoldAsks, HeldRoom, HeldPut, HoldDone, HeldAsks, HeldIs, OwnAsks, RanNow, Gave}
+use Rattle.steps.specs.Helds.{link_of, filled_of, cell_of, count_of, HeldAt, Helds, HoldAsks, HeldRoom, HeldPut, HoldDone, OwnAsks, RanNow, Gave}
 use Rattle.steps.specs.declared.own.StateAt.{StateAt}
 
 -- ---- where what lies between the buckets in use and the part for runs stays
@@ -211,7 +209,7 @@ module _ {k : Plan} {code w : List ℕ} {start : ℕ} (a : OwnAsks k code w star
           (record { lies = h.lies; few = h.few; beyond = record { helds = a.helds; front = refl; back = refl; long = refl } })
       either (inr y) = rw y.1.is (ran-given y.1)
 
--- ---- the ways out of `hold` and `own_state`
+-- ---- the ways out of `hold`
 
 module _ (k : Plan) {w : List ℕ} {links v : ℕ} (is : links ≡ bucket_place k.size k.buckets) (h : Holds 4 w (links + 2 * (k.size + 1)) v) where
   filled_is : v ≡ filled_of k w
@@ -241,53 +239,3 @@ module _ (k : Plan) {w : List ℕ} {links v : ℕ} (is : links ≡ bucket_place 
             total = rw (is, filled_is) at total;
           } in
           record { is = inl ((omega (arith, filled_is, few), omega (arith, filled_is, is, room)), put) }
-
-module _ (k : Plan) {w : List ℕ} (start : ℕ) {links v : ℕ} (is : links ≡ bucket_place k.size k.buckets) (h : Holds 2 w (links + 2 * start) v) where
-  link-is : v ≡ link_of k w start
-  link-is = rw is at h.is
-
-  pub held_none : v ≡ 0 → HeldIs k w start None
-  held_none z = record { is = inl ((sym link-is ∙ z), refl) }
-
-  module _ (some : v ≡ 0 → ⊥) where
-    pub held-inside : HeldAsks k w start → links + 2 * (k.size + 1) + 4 + 9 * (v - 1) + 2 ≤ length w
-    held-inside a = omega (arith, link-is, is, some, a.leads (λ z. some (link-is ∙ z)))
-
-    pub held-some : {n : ℕ} → Holds 2 w (links + 2 * (k.size + 1) + 4 + 9 * (v - 1)) n → HeldIs k w start (Some (record { at = links + 2 * (k.size + 1) + 4 + 9 * (v - 1) + 9; n = n }))
-    held-some {n} g =
-        let at-is : links + 2 * (k.size + 1) + 4 + 9 * (v - 1) + 9 ≡ cell_of k (link_of k w start) = omega (arith, link-is, is, some) in
-        let n-is : n ≡ count_of k w (link_of k w start - 1) = rw (is, link-is) at g.is in
-        record { is = inr ((λ z. some (link-is ∙ z)), (λ i. Some (record { at = at-is i; n = n-is i }))) }
-
--- ---- the own state, held or run
-
-module _ {k : Plan} {code w : List ℕ} {start : ℕ} (a : OwnAsks k code w start) where
-  pub own-leads : HeldAsks k w start
-  own-leads =
-      record {
-        inside = a.inside;
-        room = omega (arith, a.helds.room, a.runs.inside);
-        leads = λ n. omega (arith, (a.helds.each start a.inside n).used, a.helds.room, a.runs.inside);
-      }
-
-  pub own_held : {x : StateAt} → HeldIs k w start (Some x) → Gave k code start w w x
-  own_held {x} h = either h.is
-    where
-      either : ((link_of k w start ≡ 0) × (Some x ≡ None))
-          ⊎ ((link_of k w start ≡ 0 → ⊥) × (Some x ≡ Some (record { at = cell_of k (link_of k w start); n = count_of k w (link_of k w start - 1) }))) → Gave k code start w w x
-      either (inl y) = absurd (none-some _ (sym y.1))
-      either (inr y) = record { is = inl (y.0, refl, same_Some _ _ y.1) }
-
-  unlinked : {x : Option StateAt} → x ≡ None → HeldIs k w start x → link_of k w start ≡ 0
-  unlinked {x} none h = either h.is
-    where
-      either : ((link_of k w start ≡ 0) × (x ≡ None))
-          ⊎ ((link_of k w start ≡ 0 → ⊥) × (x ≡ Some (record { at = cell_of k (link_of k w start); n = count_of k w (link_of k w start - 1) }))) → link_of k w start ≡ 0
-      either (inl y) = y.0
-      either (inr y) = absurd (none-some _ (sym none ∙ y.1))
-
-  pub own-ran : HeldIs k w start None → {w' : List ℕ} {y : StateAt} → RanNow k code start w w' y → Gave k code start w w' y
-  own-ran h r = record { is = inr (unlinked refl h, r) }
-
-  pub ran-now : {w₁ w' : List ℕ} {y : Own} → Owned (mode_in k) code start w k.end w₁ y → HoldDone k w₁ start y.at y.n w' → RanNow k code start w w' (record { at = y.at; n = y.n })
-  ran-now {w₁} {y = y} o g = record { w₁ = w₁; own = y; owned = o; held = g; is = refl }

@@ -23,7 +23,6 @@ use Rattle.lent.proofs.Stored.{kept-take, kept-drop, kept-part, kept-num}
 use Rattle.layout.specs.Fields.{FIRST-FOUND, LAST-FOUND, COUNT, HIGHEST, FLAG, mark_at, high_at}
 use Rattle.layout.specs.Parts.{rows_end, fields_place, list_place, bucket_place, SameRows, SameFields, SameList, PastBuckets}
 use Rattle.state.specs.Cells.{stack_at}
-use Rattle.reachable.specs.Edges.{sides_at}
 use Rattle.reachable.specs.Promises.{Address, SidesWithin, Marked, Highest, raised, Raised}
 use Rattle.reachable.proofs.Tests.{mem-append, mem-one}
 use Rattle.reachable.proofs.Frames.{num-in, part_in}
@@ -200,9 +199,6 @@ module _ {n a when : ℕ} {w w₁ : List ℕ} (at : Address n w a) (m : Marked n
 
   pub raises-within : SidesWithin w n → SidesWithin w₁ n
   raises-within s = within-sides (sides-kept w w₁ n (marked-kept at m).rows) s
-
-pub found-marked : {n a when : ℕ} {w w₁ w₂ : List ℕ} → Marked n w a when w₁ → Raised n (sides_at w₁ a) w₁ a w₂ → FoundMarked n w a when w₂
-found-marked {w₁ = w₁} m v = record { between = w₁; marks = m; raises = v; long = v.long ∙ m.long }
 
 -- ---- noted: recorded, and marked if it is new
 

@@ -2,17 +2,17 @@
 use mathlib.Core.Path.{◌≡◌, refl, sym, ap, ◌∙◌}
 use mathlib.Core.Bool.{Bool, true, false}
 use mathlib.Core.List.{List}
-use Prim.Native.Nat.{ℕ, ◌≤◌}
+use Prim.Native.Nat.{ℕ}
 use native.Mathlib.Omega.{arith}
 use Rattle.spec.specs.Lists.{some?}
 use Rattle.reachable.proofs.Tests.{not-both}
 use Rattle.tables.specs.Chains.{any}
-use Rattle.tables.specs.Rows.{met_of, seen_met, equal_met, is_met, Stamped, Finds}
-use Rattle.tables.specs.Mets.{Memorizes, Memorized}
+use Rattle.tables.specs.Rows.{met_of, seen_met, equal_met, is_met}
+use Rattle.tables.specs.Mets.{Memorized}
 use Rattle.tables.specs.declared.Counts.{Counts}
 use Rattle.tables.specs.Replies.{Reply}
 use Rattle.tables.specs.declared.row.Seen.{Seen}
-use Rattle.tables.proofs.Turns.{met-found, fresh-finds, row-short}
+use Rattle.tables.proofs.Turns.{met-found, row-short}
 use Rattle.steps.specs.Meets.{Meets, Met}
 use Rattle.steps.specs.declared.plan.Plan.{Plan}
 
@@ -26,17 +26,6 @@ module _ {t s : List ℕ} {k : Plan} {c : Counts} {x : Seen} (h : Meets t s k c 
 
   pub met-roomless : k.rooms.t ≡ 0 → Met t s k c x t (record { code = 6; met = false; counts = c })
   met-roomless z = record { met_is = none-met z; again = λ e. not-both e refl; new = λ e. row-short h.remembers (omega arith) }
-
-  -- else there are shelves
-  module _ (d : k.rooms.t ≡ 0 → ⊥) {sum : ℕ} (g : Stamped s x sum) where
-    shelved : 1 ≤ k.shelves
-    shelved = h.some (omega arith)
-
-    pub meets-finds : Finds t s k.shelves c.rows x sum
-    meets-finds = fresh-finds shelved h.remembers h.fresh g
-
-    pub meets-memorizes : Memorizes k.shelves k.rooms t s c x sum
-    meets-memorizes = record { some = shelved; remembers = h.remembers; fresh = h.fresh; stamped = g }
 
   module _ {b : Bool} (e : b ≡ any (is_met t s (seen_met s x)) c.rows) where
     pub met-again : b ≡ true → Met t s k c x t (record { code = 0; met = true; counts = c })

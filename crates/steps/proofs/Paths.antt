@@ -7,7 +7,6 @@ use native.Mathlib.Omega.{arith}
 use lib.Dec.{eqb}
 use lib.ListN.{take}
 use Rattle.spec.specs.Lists.{mem}
-use Rattle.lent.specs.Bytes.{Holds}
 use Rattle.lent.proofs.Numbers.{num-prefix}
 use Rattle.layout.specs.Fields.{COUNT, HIGHEST, FLAG, flag_at, count_at}
 use Rattle.layout.specs.Parts.{fields_place, list_place, SameFields}
@@ -18,9 +17,6 @@ use Rattle.steps.specs.Paths.{OnPath, CountsOnly}
 use Rattle.steps.proofs.Occurs.{occurs-mem}
 
 -- ---- what is read
-
-pub is-on-path : (n a : ℕ) {v : ℕ} {w : List ℕ} → Holds 4 w (fields_place n a + COUNT) v → not (eqb v 0) ≡ not (eqb (count_at w n a) 0)
-is-on-path n a h = rw h.is
 
 module _ {n : ℕ} {w path : List ℕ} (o : OnPath n w path) where
   pub on-path : (a : ℕ) → a ≤ n → not (eqb (count_at w n a) 0) ≡ mem a path

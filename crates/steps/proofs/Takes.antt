@@ -6,14 +6,12 @@ use Rattle.refusal.specs.declared.Shortage.TheVariants as short
 use mathlib.Core.List.{List, [], ◌∷◌}
 use native.Mathlib.Omega.{arith}
 use lib.Dec.{ltb}
-use lib.ListN.{length}
 use borrow.Author.Tests.{lt-ltb, le-ltb, le-leb, lt-leb}
 use Rattle.spec.specs.Opcodes.{in_mode}
 use Rattle.spec.specs.Lists.{if}
 use Rattle.spec.specs.Walk.{instructions}
 use Rattle.spec.specs.Stacks.{Stack, cells, read, Ran, run, compose}
 use Rattle.spec.specs.Search.{S}
-use Rattle.spec.specs.Rooms.{longest}
 use Rattle.laws.proofs.Branch.{if-true, if-false}
 use Rattle.lent.specs.Bytes.{Holds}
 use Rattle.lent.proofs.Stored.{kept-take, kept-drop}
@@ -154,12 +152,6 @@ module _ {code w s r : List ℕ} {k : Plan} {c : Counts} {l : Level} {at : ℕ} 
     module _ {w' : List ℕ} {x : StateAt} (g : Gave k code start w w' x) where
       o : Given k code start w w' x
       o = given direct-asks g
-
-      pub direct-long : length w' ≡ length w
-      direct-long = o.beyond.long
-
-      pub direct-few : l.cells + x.n ≤ k.rooms.s + (longest + 17)
-      direct-few = omega (arith, o.few, q.is, q.runs.short, q.low, q.fits)
 
       own_is : P ≡ stack_at w' x.at x.n
       unfolding P

@@ -1,6 +1,7 @@
--- `aznifrem_map`: the number, or the count. Assumes nothing.
+-- `aznifrem_map` gives the number, or the count. Assumes nothing.
+use Rattle.aznifrem.proofs.Backs.{six-back}
 use Rattle.aznifrem.proofs.Exports.{exported-given}
 use Rattle.aznifrem.proofs.aznifrem_map.Goals as goal
 
 pub returns : goal.returns
-returns c = exported-given c.map_code.ensures c.given.ensures
+returns c = search (six-back, exported-given)

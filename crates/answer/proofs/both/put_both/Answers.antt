@@ -1,35 +1,18 @@
 -- `put_both`: the shortage, 9, 11, or both written. Assumes nothing.
-use Rattle.entries.proofs.Writing.{writes-any}
-use Rattle.answer.proofs.Told.{text-room, both-short, both-nine, both-eleven, both-full, both-done}
+use Rattle.answer.proofs.Told.{both-nine, both-eleven, both-full, both-done}
 use Rattle.answer.proofs.both.put_both.Goals as goal
 
-pub returns-then-d-ne0 : goal.returns-then-d-ne0
-returns-then-d-ne0 c = search both-short
-
-pub text_fits-requires : goal.text_fits-requires
-text_fits-requires c = let h = c.requires c.if-d-ne0.false in
-    (writes-any h.writes, h.flags, h.listed)
-
-pub entries_fit-requires : goal.entries_fit-requires
-entries_fit-requires c = let h = c.requires c.if-d-ne0.false in
-    (writes-any h.writes, h.flags, h.listed)
-
 pub returns-then-not-entries_fit : goal.returns-then-not-entries_fit
-returns-then-not-entries_fit c = search both-nine
+returns-then-not-entries_fit c = both-nine _ _ _ _ _ _ _ c.in_ok-finding.was c.units-then-not-text_fits.ensures c.entries_fit.ensures c.if-not-entries_fit.true
 
 pub returns-then-not-text_fits : goal.returns-then-not-text_fits
-returns-then-not-text_fits c = search both-eleven
+returns-then-not-text_fits c =
+    both-eleven _ _ _ _ _ _ _ c.in_ok-finding.was c.units.ensures c.text_fits.ensures c.if-not-text_fits.true c.units-then-not-text_fits.ensures c.entries_fit.ensures
+    c.if-not-entries_fit.false
 
-pub write_entries-written-requires : goal.write_entries-written-requires
-write_entries-written-requires c = let h = c.requires c.if-d-ne0.false in
-    (h.writes, h.flags, h.listed)
-
-pub returns-then-written-eq0 : goal.returns-then-written-eq0
-returns-then-written-eq0 c = search both-full
-
-pub write_text-texted-requires : goal.write_text-texted-requires
-write_text-texted-requires c = let h = c.requires c.if-d-ne0.false in
-    (writes-any h.writes, h.listed, text-room c.units.ensures c.text_fits.ensures c.if-not-text_fits.false)
+pub returns-in_default : goal.returns-in_default
+returns-in_default c = both-full _ _ _ _ _ _ _ c.in_ok-finding.was c.write_entries.ensures c.in_default.is
 
 pub returns : goal.returns
-returns c = search both-done
+returns c =
+    both-done _ _ _ _ _ _ _ c.in_ok-finding.was c.write_entries.ensures c.in-Some.is c.units.ensures c.text_fits.ensures c.if-not-text_fits.false c.write_text-text.ensures

@@ -8,11 +8,11 @@ returns-then-size-gt-LONGEST c = search first-long
 pub returns-then-limit-gt500000 : goal.returns-then-limit-gt500000
 returns-then-limit-gt500000 c = search first-over
 
-pub returns-then-mode-gt1 : goal.returns-then-mode-gt1
-returns-then-mode-gt1 c = search first-moded
+pub returns-in-Err : goal.returns-in-Err
+returns-in-Err c = first-moded _ _ _ _ c.if-size-gt-LONGEST.false c.if-limit-gt500000.false c.in-Err.ensures
 
 pub returns-then-lent-need_of : goal.returns-then-lent-need_of
-returns-then-lent-need_of c = search first-scant
+returns-then-lent-need_of c = first-scant _ _ _ _ c.if-size-gt-LONGEST.false c.if-limit-gt500000.false _ c.in-Ok.ensures c.need_of.ensures c.if-lent-need_of.true
 
 pub returns : goal.returns
-returns c = search first-none
+returns c = first-none _ _ _ _ c.if-size-gt-LONGEST.false c.if-limit-gt500000.false _ c.in-Ok.ensures c.need_of.ensures c.if-lent-need_of.false

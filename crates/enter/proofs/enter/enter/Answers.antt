@@ -1,18 +1,12 @@
 -- `enter`: skipped, short of P, past the weight, or followed. Assumes nothing.
 use mathlib.Core.Path.{refl}
 use Rattle.std.proofs.lemmas.Result.{err_from_is_err_and}
-use Rattle.enter.proofs.StepsTwoAndThree.{enter-skips, entered-skip, enter-grows, entered-short, enter-strays, entered-stops, enter-following, entered-follows}
+use Rattle.enter.proofs.StepsTwoAndThree.{entered-skip, entered-short, enter-strays, entered-stops, enter-following, entered-follows}
 use Rattle.enter.proofs.PathEnds.{ended-in}
 use Rattle.enter.proofs.enter.enter.Goals as goal
 
-pub skipped-requires : goal.skipped-requires
-skipped-requires c = enter-skips c.requires
-
 pub returns-then-skipped-clause-entered : goal.returns-then-skipped-clause-entered
 returns-then-skipped-clause-entered c = entered-skip c.requires c.skipped.ensures c.if-skipped.true refl
-
-pub grow-requires : goal.grow-requires
-grow-requires c = enter-grows c.requires
 
 pub returns-in_err-np-clause-entered : goal.returns-in_err-np-clause-entered
 returns-in_err-np-clause-entered c =

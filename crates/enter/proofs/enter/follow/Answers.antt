@@ -3,7 +3,7 @@ use mathlib.Core.Path.{refl}
 use Rattle.std.proofs.lemmas.Result.{err_from_is_err_and}
 use Rattle.tables.proofs.Shorts.{short-some}
 use Rattle.enter.proofs.StepsFourToSix.{follow-composing}
-use Rattle.enter.proofs.FollowWays.{followed-short, followed-met, followed-full, follow-sees, follow-meets, follow-arriving, followed-arrived}
+use Rattle.enter.proofs.FollowWays.{followed-short, followed-met, followed-full, follow-meets, follow-arriving, followed-arrived}
 use Rattle.enter.proofs.enter.follow.Goals as goal
 
 pub take_state-requires : goal.take_state-requires
@@ -13,9 +13,6 @@ pub returns-in_err-taken-clause-followed : goal.returns-in_err-taken-clause-foll
 returns-in_err-taken-clause-followed c =
     let p = err_from_is_err_and c.from_residual.result c.from_residual.ensures.1 in
     rw (p.1, p.2) (followed-short c.requires c.in_err-taken.ensures)
-
-pub seen-seen-requires : goal.seen-seen-requires
-seen-seen-requires c = follow-sees c.requires
 
 pub meet-requires : goal.meet-requires
 meet-requires c = follow-meets c.requires c.in_ok-taken.ensures c.seen-seen.ensures

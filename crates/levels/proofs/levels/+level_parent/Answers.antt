@@ -3,7 +3,7 @@ use Rattle.std.proofs.Common.{arith, refl}
 use Rattle.std.proofs.lemmas.Result.{err_from_is_err_and}
 use Rattle.tables.proofs.Shorts.{short-some}
 use Rattle.enter.proofs.Lendings.{still-lent, lent-then}
-use Rattle.levels.proofs.LevelLoop.{level-at-block, level-address, level-starts, going-block, going-cursor, going-asks, going-falls, going-spend, going-tries, level-skips, level-passes, level-refused, level-tried, level-ends}
+use Rattle.levels.proofs.LevelLoop.{level-at-block, level-address, level-starts, going-block, going-cursor, going-asks, going-falls, going-tries, level-skips, level-passes, level-refused, level-tried, level-ends}
 use Rattle.levels.proofs.ParentDeeper.{parent-shut, opens-lighter, parent-counts, parent-opens, parent-refused, parent-uncounts, parent-done}
 use Rattle.levels.proofs.levels.+level_parent.Goals as goal
 
@@ -21,9 +21,6 @@ level-next_cursor-at-requires t c = (going-block c.requires c.loop-at.invariant.
 
 pub level-reached_then-requires : goal.level-reached_then-requires
 level-reached_then-requires t c = going-asks c.requires c.loop-at.invariant.going c.loop-at-test.true
-
-pub level-spend-requires : goal.level-spend-requires
-level-spend-requires t c = going-spend c.requires c.loop-at.invariant.going
 
 pub level-returns-then-plan-run-clause-leveled : goal.level-returns-then-plan-run-clause-leveled
 level-returns-then-plan-run-clause-leveled t c =

@@ -1,11 +1,6 @@
 -- `decode`: after i turns i bytes are decoded. Assumes nothing.
 use Rattle.map.proofs.DecodeLoop.{Decoding}
-use Prim.Native.Nat.{◌-◌}
-use lib.ListN.{length}
 use Rattle.map.proofs.digits.decode.Given as goal
 
 abbrev pub invariant-loop-i : goal.invariant-loop-i
 invariant-loop-i l = Decoding l.text l.initial.code l.code l.i
-
-abbrev pub decreases-loop-i : goal.decreases-loop-i
-decreases-loop-i l = length l.text - l.i

@@ -1,15 +1,9 @@
--- `put_answer`: a refusal, or a map. Assumes nothing.
-use Rattle.map.proofs.Telling.{refusal-fits, refusal-printed, map-lists, map-printed}
+-- `put_answer`: a refusal's line, or one for each entry. Assumes nothing.
+use Rattle.map.proofs.Telling.{map-told, told-map}
 use Rattle.map.proofs.lines.put_answer.Goals as goal
 
-pub put_refused-requires : goal.put_refused-requires
-put_refused-requires c = search refusal-fits
-
-pub returns-then-number-ne0 : goal.returns-then-number-ne0
-returns-then-number-ne0 c = search refusal-printed
-
 pub put_lines-requires : goal.put_lines-requires
-put_lines-requires c = search map-lists
+put_lines-requires c = map-told c.in-Ok.is c.requires
 
-pub returns : goal.returns
-returns c = search map-printed
+pub returns-in-Ok : goal.returns-in-Ok
+returns-in-Ok c = told-map c.in-Ok.is c.put_lines.ensures

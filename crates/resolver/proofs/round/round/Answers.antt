@@ -7,9 +7,6 @@ use Rattle.enter.proofs.Lendings.{still-lent, lent-then}
 use Rattle.resolver.proofs.RoundLoop.{round-begins, round-row, round-address, round-turns, round-skips, round-over, round-refused, round-goes-on, round-done}
 use Rattle.resolver.proofs.round.round.Goals as goal
 
-pub overflow_add-by : goal.overflow_add-by
-overflow_add-by c = let w = c.requires.idle.tables.within in omega (arith, w.fits_r, w.most_r)
-
 pub loop-left-init : goal.loop-left-init
 loop-left-init c = record { lent = still-lent; going = round-begins c.requires refl }
 

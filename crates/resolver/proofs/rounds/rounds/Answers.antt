@@ -4,18 +4,12 @@ use Prim.Native.Nat.{◌+◌, ◌-◌}
 use native.Mathlib.Omega.{arith}
 use Rattle.std.proofs.lemmas.Result.{err_from_is_err_and}
 use Rattle.tables.proofs.Shorts.{short-some}
-use Rattle.enter.proofs.Lendings.{still-lent, lent-then}
-use Rattle.resolver.proofs.RoundsLoop.{so-far-start, so-far-limit, so-far-settles, so-far-asks, so-far-short, so_far_last, so-far-next, so-far-done, lent-but-w}
+use Rattle.enter.proofs.Lendings.{lent-then}
+use Rattle.resolver.proofs.RoundsLoop.{so-far-limit, so-far-asks, so-far-short, so_far_last, so-far-next, so-far-done, lent-but-w}
 use Rattle.resolver.proofs.rounds.rounds.Goals as goal
-
-pub loop-done-init : goal.loop-done-init
-loop-done-init c = record { lent = still-lent; so_far = so-far-start c.requires }
 
 pub returns-then-plan-run-clause-rounds : goal.returns-then-plan-run-clause-rounds
 returns-then-plan-run-clause-rounds c = so-far-limit c.loop-done.invariant.so_far (λ z. omega (arith, z, c.loop-done-test.true)) c.if-plan-run.true
-
-pub hand_all-requires : goal.hand_all-requires
-hand_all-requires c = so-far-settles c.loop-done.invariant.so_far
 
 pub round-requires : goal.round-requires
 round-requires c = so-far-asks c.loop-done.invariant.so_far c.hand_all.ensures

@@ -1,5 +1,5 @@
 -- `hand_all`: the destinations from `since` on are expanded, batch after batch. Assumes nothing.
-use Rattle.resolver.proofs.SettleLoop.{settle-start, settle-hands, settle-turn, settle-done}
+use Rattle.resolver.proofs.SettleLoop.{settle-start, settle-hands, settle-turn}
 use borrow.Author.Rules.{rules}
 use Rattle.resolver.proofs.settle.hand_all.Goals as goal
 
@@ -11,6 +11,3 @@ hand_over-i-requires c = record { hands_over = search settle-hands; from_lt_reco
 
 pub loop-i-preserved : goal.loop-i-preserved
 loop-i-preserved c = search settle-turn
-
-pub returns : goal.returns
-returns c = search settle-done

@@ -1,19 +1,10 @@
 -- `last_block`: a direct parent's own block, or the last address of a found one's path. Assumes nothing.
 use borrow.Author.Rules.{rules}
-use Rattle.steps.proofs.Clips.{row-asked, path-asked, last-direct, last_found}
+use Rattle.steps.proofs.Clips.{path-asked, last-direct, last_found}
 use Rattle.steps.proofs.cursor.last_block.Goals as goal
 
 pub returns-then-at-lt-FOUND : goal.returns-then-at-lt-FOUND
 returns-then-at-lt-FOUND c = search last-direct
-
-pub overflow_mul-at : goal.overflow_mul-at
-overflow_mul-at c = let h = row-asked c.requires c.if-at-lt-FOUND.false in search rules
-
-pub overflow_add-at : goal.overflow_add-at
-overflow_add-at c = let h = row-asked c.requires c.if-at-lt-FOUND.false in search rules
-
-pub get32-requires : goal.get32-requires
-get32-requires c = let h = row-asked c.requires c.if-at-lt-FOUND.false in search rules
 
 pub overflow_sub-get32 : goal.overflow_sub-get32
 overflow_sub-get32 c = let h = path-asked c.requires c.if-at-lt-FOUND.false c.get32.ensures in search rules

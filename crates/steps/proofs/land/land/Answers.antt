@@ -1,13 +1,8 @@
 -- `land`: a room is short, there is no destination, the record is new and its destination is marked, or nothing is. Assumes nothing.
 use mathlib.Core.Path.{refl}
-use borrow.Author.Rules.{rules}
 use Rattle.std.proofs.lemmas.Result.{err_from_is_err_and}
-use Rattle.steps.proofs.Lands.{lands-few, lands-address, lands_within, landed-nowhere, landed-new, landed-old}
+use Rattle.steps.proofs.Lands.{lands-address, lands_within, landed-nowhere, landed-new, landed-old}
 use Rattle.steps.proofs.land.land.Goals as goal
-
-pub overflow_add-counts : goal.overflow_add-counts
-overflow_add-counts c = let few = lands-few c.requires in
-    search rules
 
 pub mark_found-requires : goal.mark_found-requires
 mark_found-requires c = let asks = c.requires in

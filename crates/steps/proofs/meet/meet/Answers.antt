@@ -1,19 +1,13 @@
 -- `meet`: T has no room, it was met, or it is new. Assumes nothing.
 use Rattle.std.proofs.lemmas.Result.{err_from_is_err_and}
-use Rattle.steps.proofs.Meets.{met-roomless, meets-finds, meets-memorizes, met-again, met-new}
+use Rattle.steps.proofs.Meets.{met-roomless, met-again, met-new}
 use Rattle.steps.proofs.meet.meet.Goals as goal
 
 pub returns-then-plan-eq0 : goal.returns-then-plan-eq0
 returns-then-plan-eq0 c = search met-roomless
 
-pub find_row-requires : goal.find_row-requires
-find_row-requires c = meets-finds c.requires c.if-plan-eq0.false c.stamp_of-sum.ensures
-
 pub returns-then-find_row : goal.returns-then-find_row
 returns-then-find_row c = search met-again
-
-pub remember-requires : goal.remember-requires
-remember-requires c = meets-memorizes c.requires c.if-plan-eq0.false c.stamp_of-sum.ensures
 
 pub returns-in_err-after : goal.returns-in_err-after
 returns-in_err-after c =

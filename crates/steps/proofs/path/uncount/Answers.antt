@@ -1,9 +1,6 @@
 -- `uncount`: the counts are those of the addresses left. Assumes nothing.
-use Rattle.steps.proofs.Counting.{uncount-first, uncount-room, uncount-some, uncount-turn, uncount-done}
+use Rattle.steps.proofs.Counting.{uncount-room, uncount-some, uncount-turn}
 use Rattle.steps.proofs.path.uncount.Goals as goal
-
-pub loop-i-init : goal.loop-i-init
-loop-i-init c = search uncount-first
 
 pub get32-requires : goal.get32-requires
 get32-requires c = search uncount-room
@@ -16,6 +13,3 @@ put32-requires c = search uncount-room
 
 pub loop-i-preserved : goal.loop-i-preserved
 loop-i-preserved c = search uncount-turn
-
-pub returns : goal.returns
-returns c = search uncount-done

@@ -1,19 +1,6 @@
 -- `take_found`: the kept cells are found by the record, and the state in them is taken. Assumes nothing.
-use native.Mathlib.Omega.{arith}
 use Rattle.steps.proofs.Takes.{found_inside, found-rises, found-readable, found-short, found-composes, found-took}
 use Rattle.steps.proofs.state_of.take_found.Goals as goal
-
-pub overflow_mul-at : goal.overflow_mul-at
-overflow_mul-at c = let p = c.requires in omega (arith, p.composing.row p.le_at)
-
-pub overflow_add-at : goal.overflow_add-at
-overflow_add-at c = let p = c.requires in omega (arith, p.composing.row p.le_at)
-
-pub get32-kept-requires : goal.get32-kept-requires
-get32-kept-requires c = let p = c.requires in omega (arith, p.composing.row p.le_at)
-
-pub kept_before-requires : goal.kept_before-requires
-kept_before-requires c = let p = c.requires in omega (arith, p.composing.row p.le_at)
 
 pub overflow_sub-theirs : goal.overflow_sub-theirs
 overflow_sub-theirs c = search found-rises
@@ -28,12 +15,6 @@ symbol_at-symbol-requires c = let p = c.requires in
 
 pub returns-then-room-counts : goal.returns-then-room-counts
 returns-then-room-counts c = search found-short
-
-pub overflow_mul-level-2 : goal.overflow_mul-level-2
-overflow_mul-level-2 c = let p = c.requires.composing in omega (arith, p.low, p.fits, p.most_s)
-
-pub overflow_mul-counts : goal.overflow_mul-counts
-overflow_mul-counts c = let p = c.requires.composing in omega (arith, p.fits, p.most_s)
 
 pub compose_kept-made-requires : goal.compose_kept-made-requires
 compose_kept-made-requires c = let p = c.requires in found-composes p.composing p.le_at c.get32-kept.ensures c.kept_before.ensures c.base_at.ensures c.composed_len-cells.ensures c.if-room-counts.false
