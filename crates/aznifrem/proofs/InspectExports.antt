@@ -1,10 +1,10 @@
 -- What aznifrem_inspect and aznifrem_inspect_from give. Assumes nothing.
-use mathlib.Core.Path.{◌≡◌, refl, sym, ap, ap₂, ◌∙◌}
+use mathlib.Core.Path.{◌≡◌, refl, sym, ap₂, ◌∙◌}
 use Prim.Native.Nat.{ℕ}
 use mathlib.Core.List.{List}
 use Rattle.std.specs.Prelude.{Result, Ok, Err}
 use Rattle.spec.specs.Reader.{told}
-use Rattle.spec.specs.Inspector.{Inspection, number_of, value_of, exported}
+use Rattle.spec.specs.Inspector.{Inspection, exported}
 use Rattle.refusal.specs.declared.Refusal.{Refusal}
 use Rattle.inspector.specs.Calling.{number_in, value_in, IsOutcome, InspectedFrom, InspectedAs}
 use Rattle.aznifrem.specs.InspectContract.{ExportedInspect, ExportedInspectFrom}

@@ -1,10 +1,7 @@
 -- What aznifrem_salvage gives. Assumes nothing.
-use mathlib.Core.Path.{◌≡◌, refl, sym, ap, ◌∙◌}
+use mathlib.Core.Path.{◌≡◌, refl, ap, ◌∙◌}
 use mathlib.Core.List.{List}
 use Prim.Native.Nat.{ℕ}
-use lib.Dec.{leb}
-use lib.ListN.{length}
-use mathlib.Core.Bool.{◌&&◌}
 use Rattle.std.specs.Prelude.{Result}
 use Rattle.spec.specs.Salvage.{salvage, has_room, salvages_as}
 use Rattle.laws.proofs.Branch.{both}

@@ -15,7 +15,7 @@ pub struct Family {
     pub missing: usize,
 }
 
-// That of a code of `size` bytes.
+// That of a code of `size` bytes. The document's own numbers: an enum would only stand for them once more.
 pub fn family_of(size: usize) -> Family
     ensures { result ≡ family_of (wide_code size) }
 {

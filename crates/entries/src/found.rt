@@ -37,7 +37,8 @@ pub struct Span {
     pub steps: usize,
 }
 
-// The row that a link leads to, if it leads to one: the link is the row's number and 1 more.
+// The row that a link leads to, if it leads to one: the link is the row's number and 1 more. `reachable` reads links by either key while it writes them, these are read by
+// the place alone and from what is only lent to be read: one for both would be no plainer.
 fn row_of(link: usize) -> Option<usize>
     ensures { link_of result ≡ link }
 {

@@ -3,7 +3,7 @@ ghost use Rattle.std.specs.Prelude.{◌≡◌};
 ghost use Rattle.spec.specs.Opcodes.{row};
 ghost use Rattle.evm.specs.Rows.{RowIs, SizeIs, ArgumentIs, WordsAre, each};
 
-// An instruction's bytes of code, the words that it takes and gives, and whether its byte is known.
+// An instruction's bytes of code, the words that it takes and gives, and whether its byte is known: a flag, since the document gives an unknown byte a row too, 0/0.
 #[derive(Clone, Copy)]
 pub struct Row {
     pub size: u8,

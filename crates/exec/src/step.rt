@@ -20,7 +20,7 @@ use evm::op::{
 use evm::walk::{Instruction, argument_at};
 use state::sym::StackSym;
 
-// What an instruction leaves: the run goes on, ends, or jumps to where a symbol says.
+// What an instruction leaves: the run goes on, ends, or jumps to where a symbol says. As the definition has it, case by case.
 #[derive(Clone, Copy)]
 pub enum Stepped {
     On(Top),

@@ -273,18 +273,18 @@ few-outs {b} {at} (here l n w) =
 module _ (b : List ℕ) (c : Named) where
   pub dest-two : Walking b c.at → {x y : ℕ} → c.sides ≡ Two x y → Leads b c x (record { sides = One y; at = c.at })
   unfolding named_by
-  dest-two w e = record { is = ap (λ (l : Sides). sides_in l ++ outs_at b c.at) e; walking = w; spent = rw e (omega arith) }
+  dest-two w e = record { is = ap (λ (l : Sides). sides_in l ++ outs_at b c.at) e; walking = w; few = rw e (omega arith); spent = rw e (omega arith) }
 
   pub dest-one : Walking b c.at → {x : ℕ} → c.sides ≡ One x → Leads b c x (record { sides = Zero; at = c.at })
   unfolding named_by
-  dest-one w e = record { is = ap (λ (l : Sides). sides_in l ++ outs_at b c.at) e; walking = w; spent = rw e (omega arith) }
+  dest-one w e = record { is = ap (λ (l : Sides). sides_in l ++ outs_at b c.at) e; walking = w; few = rw e (omega arith); spent = rw e (omega arith) }
 
   module _ (e : c.sides ≡ Zero) {r : Option Seven} (h : next_seven b c.at r) where
     pub dest-seven : {s : Seven} → r ≡ Some s → Leads b c s.to (record { sides = Zero; at = s.behind })
     unfolding named_by
     dest-seven {s} q =
         let t : SevenTo b c.at s.to s.behind = subst (next_seven b c.at) q h in
-        record { is = ap (λ (l : Sides). sides_in l ++ outs_at b c.at) e ∙ t.is; walking = t.walking; spent = rw e (omega (arith, t.on)) }
+        record { is = ap (λ (l : Sides). sides_in l ++ outs_at b c.at) e ∙ t.is; walking = t.walking; few = rw e (omega arith); spent = rw e (omega (arith, t.on)) }
 
     pub dest-none : r ≡ None → named_by b c ≡ []
     unfolding named_by

@@ -121,6 +121,7 @@ many_in (Two x y) = 2
 pub record Leads (b : List ℕ) (c : Named) (to : ℕ) (rest : Named) : Type 0 where
   pub is : named_by b c ≡ to ∷ named_by b rest
   pub walking : Walking b rest.at
+  pub few : many_in rest.sides ≤ many_in c.sides
   pub spent : 6 * many_in rest.sides + c.at + 6 ≤ 6 * many_in c.sides + rest.at
 
 abbrev pub next_dest : List ℕ → Named → Option Lead → Type 0

@@ -12,7 +12,7 @@ use layout::record::RECORD;
 use layout::row::{BlockType, END, ROW, put_block};
 use lent::{get16, get32};
 
-// Merges the blocks by the records.
+// Merges the blocks by the records. W and the code's length stay two parameters here too: crates/reachable/src/lib.rt says why.
 pub fn merge_all(w: &mut [u8], size: usize, r: &[u8], records: usize)
     requires { Notes size records w.old r.now }
     ensures { MergedAll size records w.old r.now w.new }

@@ -13,7 +13,7 @@ use lent::{get16, get32, put32};
 
 const SEVERAL: usize = 0xFFFF_FFFF;
 
-// Notes the destinations of the records, where no note stands yet.
+// Notes the destinations of the records, where no note stands yet. Of W and the code's length crates/reachable/src/lib.rt says why they stay two parameters.
 pub fn note_all(w: &mut [u8], size: usize, r: &[u8], records: usize)
     requires { Notes size records w.old r.now }
     ensures { Noted size records w.old r.now w.new }

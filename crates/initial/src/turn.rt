@@ -34,6 +34,7 @@ pub enum Walking {
 }
 
 // What an instruction does in the open block: it goes on, or closes the block, whose last instruction is at end; how the walk stands then is said of both.
+// Neither is the lack of the other, so it is no Option.
 #[derive(Clone, Copy)]
 pub enum Effect {
     Goes(Walking),

@@ -8,6 +8,7 @@ ghost use Rattle.inspector.specs.Edges.{sight_by, sight_of, Stands, Sought};
 
 use reader::{Entry, Fault, Step, next};
 
+// Three cases of their own, none the lack of another.
 // What an entry is to an edge that is looked for: it has the edge, it is of the block that the edge leaves, or of another.
 #[derive(Clone, Copy, PartialEq, Eq)]
 pub enum Sight {

@@ -17,23 +17,26 @@ use Rattle.output.specs.Promises.{PutsFew}
 use Rattle.entries.specs.Promises.{PathsEnd, Writes}
 use Rattle.entries.proofs.Writing.{writes-all, answered}
 use Rattle.json_text.specs.Rows.{map_text}
-use Rattle.json_text.specs.Promises.{FitsRoom, Written}
+use Rattle.json_text.specs.Promises.{IsBytes, FitsRoom, Written}
 use Rattle.json_text.proofs.Matched.{text_is}
 use Rattle.json_text.proofs.Lengths.{text-few}
 
 -- what a slice holds is bytes
-pub are-bytes : {b : List ℕ} → ((i : ℕ) → val.Fits w8 (get_or b i 0)) → Bytes b
+pub are-bytes : {b : List ℕ} → ((i : ℕ) → val.Fits w8 (get_or b i 0)) → IsBytes b
 are-bytes h = record { small = λ i. (h i).fits }
+
+all-bytes : {b : List ℕ} → IsBytes b → Bytes b
+all-bytes h = record { small = h.small }
 
 module _ (w r q : List ℕ) (n m room : ℕ) where
   fits_by : {b : Bool} → b ≡ leb (length (map_text w r q n m)) room → FitsRoom w r q n m room b
   fits_by h = record { is = λ mode code recs energy choice e. rw (text_is e energy choice) h }
 
   -- the longest text fits
-  pub fits-surely : {flags ends : ℕ} → Writes w r q n m 0 → Bytes w → Bytes r → Bytes q
+  pub fits-surely : {flags ends : ℕ} → Writes w r q n m 0 → IsBytes w → IsBytes r → IsBytes q
       → flags ≡ length (flagged w n) → PathsEnd r m ends → 2 + 100 * flags + 23 * m + 6 * ends ≤ room → FitsRoom w r q n m room true
   fits-surely x ws rs qs e p h =
-      let few = text-few n ws rs qs (writes-all x p).rows (omega (arith, x.short)) in
+      let few = text-few n (all-bytes ws) (all-bytes rs) (all-bytes qs) (writes-all x p).rows (omega (arith, x.short)) in
       fits_by (sym (le-leb (length (map_text w r q n m)) room (omega (arith, few, p.is))))
 
   -- it was counted

@@ -1,5 +1,5 @@
 -- What each function asks and promises, a record each. Assumes nothing.
-use Rattle.std.specs.Prelude.{◌≡◌, Bool, Option, Some, List, ◌++◌, ℕ, ◌+◌, ◌*◌, ◌^◌, ◌≤◌, ◌<◌, leb, length, drop}
+use Rattle.std.specs.Prelude.{◌≡◌, Bool, Option, Some, List, ◌++◌, ℕ, ◌+◌, ◌*◌, ◌^◌, ◌≤◌, ◌<◌, leb, length, drop, get_or}
 use Rattle.spec.specs.Search.{Rec}
 use Rattle.spec.specs.Json.{text}
 use Rattle.layout.specs.Rows.{to_of, other_of}
@@ -22,6 +22,10 @@ pub record Sides (t : BlockType) : Type 0 where
   pub other : other_of t < 65536
 
 -- ---- the whole
+
+-- a list of bytes, as what any slice of them holds is, by its type
+pub record IsBytes (b : List ℕ) : Type 0 where
+  pub small : (i : ℕ) → get_or b i 0 < 256
 
 -- whether the text has at most so many bytes
 pub record FitsRoom (w r q : List ℕ) (n m room : ℕ) (b : Bool) : Type 0 where

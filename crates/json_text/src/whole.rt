@@ -4,10 +4,9 @@ ghost use Rattle.std.specs.Prelude.{◌≡◌, true, ◌^◌, length};
 ghost use Rattle.spec.specs.Rooms.{units};
 ghost use Rattle.initial.specs.Rows.{Listed};
 ghost use Rattle.output.specs.Promises.{PutsFew};
-ghost use Rattle.entries.specs.Promises.{Holds, PutsBlocks};
+ghost use Rattle.entries.specs.Promises.{Holds, PutsBlocks, Writes};
 ghost use Rattle.json_text.specs.Rows.{map_text};
-ghost use Rattle.lent.proofs.Once.{Bytes};
-ghost use Rattle.json_text.specs.Promises.{FitsRoom, Written};
+ghost use Rattle.json_text.specs.Promises.{IsBytes, FitsRoom, Written};
 
 use crate::kept::add_blocks;
 use entries::found::Found;
@@ -26,7 +25,7 @@ fn add_map(found: &Found<'_>, output: &mut Output<'_>)
 
 // What three buffers hold is bytes: told to the proof, where the buffers stand in a struct; nothing is done.
 fn hold_bytes(w: &[u8], r: &[u8], q: &[u8])
-    ensures { (Bytes w.now) × (Bytes r.now) × (Bytes q.now) }
+    ensures { (IsBytes w.now) × (IsBytes r.now) × (IsBytes q.now) }
 {}
 
 // Whether the text has at most `room` bytes. Energy and choice are no part of it.
@@ -52,7 +51,9 @@ pub fn text_fits(found: &Found<'_>, room: usize) -> bool
 
 // Writes the text, which `out` has room for: the number of its bytes.
 pub fn write_text(found: &Found<'_>, out: &mut [u8]) -> usize
-    requires { (Holds found.now 0) × (FitsRoom found.now.w.now found.now.r.now found.now.q.now found.now.size found.now.rows (units (length out.old) 1) true) }
+    requires { (Writes found.now.w.now found.now.r.now found.now.q.now found.now.size found.now.rows 0)
+        × (Listed found.now.size found.now.w.now found.now.blocks)
+        × (FitsRoom found.now.w.now found.now.r.now found.now.q.now found.now.size found.now.rows (units (length out.old) 1) true) }
     ensures { Written found.now.w.now found.now.r.now found.now.q.now found.now.size found.now.rows out.old out.new result }
 {
     // Read for its bound: the paths end below 2^32, so that no count passes 64 bits.

@@ -88,7 +88,6 @@ pub stored-over : {m n i at : ℕ} {b b₁ b₂ xs ys : List ℕ} → Stored m b
 stored-over {m} {n} {i} {at} {b} {b₁} {b₂} {xs} {ys} s t h g =
     stored n b at ys b₂ (t.is ∙ rw s.is (patch-over b i xs at ys (fit s) h (omega arith))) t.long (omega arith)
 
--- a number's bytes in two halves
 -- ---- a number, a byte a turn, its lowest first
 
 -- the i lowest bytes of v were stored, and u is what is left of it

@@ -37,6 +37,7 @@ fn reached_then(w: &[u8], r: &[u8], q: &[u8], size: usize, at: usize, opened: us
 }
 
 // "level function and parent function call each other; 256 less the weight is the falling number"
+// A buffer that is only read beside one that is lent is bound before the call (crates/enter/src/enter.rt).
 // A level: the parents of its path's last block, those that are there and reached when it opens, one after the other.
 #[cycle(level_parent)]
 pub fn level(

@@ -33,11 +33,11 @@ link_sides w a (Option.Some (DynamicJumpi f)) = link w a 1 f
 unfoldable pub take_turn : List ℕ → ℕ → ℕ → ℕ → List ℕ
 take_turn w a p many = patch (patch w (row_place a + POSITION) (little 4 p)) (row_place many + TAKER) (little 2 a)
 
--- the static type of a dynamic block; a static one stays
+-- the static type of a dynamic block
 abbrev pub static_type : BlockType → ℕ → BlockType
-static_type (Terminate success) to = Terminate success
-static_type (Jump t) to = Jump t
-static_type (Jumpi t f) to = Jumpi t f
+static_type (Terminate success) to = Jumpi to 0
+static_type (Jump t) to = Jumpi to 0
+static_type (Jumpi t f) to = Jumpi to f
 static_type DynamicJump to = Jump to
 static_type (DynamicJumpi f) to = Jumpi to f
 

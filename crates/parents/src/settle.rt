@@ -59,13 +59,14 @@ fn make_static(w: &mut [u8], start: usize, block: BlockType, to: usize)
     put_block(w, start, last, static_type(block, to));
 }
 
-// The static type of a dynamic block; a static one stays.
+// The static type of a dynamic block: no other is settled, and each keeps its false side.
 fn static_type(block: BlockType, to: usize) -> BlockType
     ensures { result ≡ static_type block to }
 {
     match block {
         BlockType::DynamicJump => BlockType::Jump { to },
         BlockType::DynamicJumpi { other } => BlockType::Jumpi { to, other },
-        _ => block,
+        BlockType::Jumpi { other, .. } => BlockType::Jumpi { to, other },
+        BlockType::Terminate { .. } | BlockType::Jump { .. } => BlockType::Jumpi { to, other: 0 },
     }
 }

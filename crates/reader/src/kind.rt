@@ -8,7 +8,7 @@ ghost use Rattle.reader.specs.Sorts.{sort_of, path_kinds, path_sort};
 use layout::NARROW;
 use lent::get16;
 
-// What an entry is; a record with its number is apart.
+// What an entry is; a record with its number is apart. Which family a map has stays a flag, `wide`, as the definitions have it: it chooses numbers, and no step to run.
 #[derive(Clone, Copy)]
 pub enum Sort {
     Head,

@@ -125,7 +125,7 @@ fn counts(scan: Scan, blocks: usize, records: usize) -> Result<(), BadEntry>
     Err(BadEntry { offset: 0 })
 }
 
-// At the end: an open dynamic block's count, then the head's counts.
+// At the end: an open dynamic block's count, then the head's counts. They stay two numbers, which is plainer: a `Head` has the energy and a place too, which are not judged.
 pub fn last(scan: Scan, blocks: usize, records: usize) -> Result<(), BadEntry>
     ensures { result ≡ last_of scan blocks records }
 {

@@ -89,40 +89,26 @@ pub fn counted(counts: Counts, hand: Open, entry: Entry) -> Counts
     requires { Roomy counts }
     ensures { Counted counts hand entry result }
 {
+    let mut more = counts;
     match entry {
         Entry::Terminate { .. } => {
-            let more = Counts {
-                terminate: counts.terminate + 1,
-                ..counts
-            };
+            more.terminate += 1;
             shut(more, hand)
         }
         Entry::Jump { .. } => {
-            let more = Counts {
-                jump: counts.jump + 1,
-                ..counts
-            };
+            more.jump += 1;
             shut(more, hand)
         }
         Entry::Jumpi { .. } => {
-            let more = Counts {
-                jumpi: counts.jumpi + 1,
-                ..counts
-            };
+            more.jumpi += 1;
             shut(more, hand)
         }
         Entry::DynamicJump { .. } => {
-            let more = Counts {
-                dynamic_jump: counts.dynamic_jump + 1,
-                ..counts
-            };
+            more.dynamic_jump += 1;
             shut(more, hand)
         }
         Entry::DynamicJumpi { .. } => {
-            let more = Counts {
-                dynamic_jumpi: counts.dynamic_jumpi + 1,
-                ..counts
-            };
+            more.dynamic_jumpi += 1;
             shut(more, hand)
         }
         Entry::Way { count, .. } => longer(counts, count),

@@ -123,7 +123,7 @@ pub fn search(
     Ok(run)
 }
 
-// Nothing is recorded, no energy used, nothing in use.
+// Nothing is recorded, no energy used, nothing in use: each count by its name, as the definition has it, where a derived default would need a derive in two crates more.
 fn begin() -> Run
     ensures { under_way result ≡ begun_run }
 {

@@ -19,6 +19,7 @@ struct Batch {
     next: usize,
 }
 
+// W and the code's length stay two parameters here too: crates/reachable/src/lib.rt says why.
 // The next targets of the records from `from` on, as many as a batch has or all that are left.
 fn gather(r: &[u8], from: usize, records: usize, batch: &mut [usize; BATCH]) -> Batch
     requires { Gathers r.now from records batch.old }

@@ -11,6 +11,7 @@ use lent::{copy, put16};
 use levels::level;
 use parents::taker::position_at;
 use refusal::Shortage;
+use state::cell::CELL;
 use steps::own::{StateAt, own_state};
 use steps::path::{count, uncount};
 use steps::plan::Plan;
@@ -54,7 +55,7 @@ fn first_level(
     requires { Places w.old p.old s.old plan.now start own }
     ensures { Placed w.old p.old s.old plan.now start own w.new p.new s.new result }
 {
-    copy(s, 0, w, own.at, 9 * own.n);
+    copy(s, 0, w, own.at, CELL * own.n);
     put16(p, 0, start);
     count(w, plan.size, p, 0, 1);
     Level {

@@ -46,7 +46,8 @@ fn first_found(w: &[u8], size: usize, start: usize, opened: usize) -> usize
     clip(get32(w, ROW * (size + 1 + start) + FIRST_FOUND), opened)
 }
 
-// The first parent of the block `start`; of direct ones, up to the highest that is reached.
+// The first parent of the block `start`; of direct ones, up to the highest that is reached. Block, records and highest parent stay three numbers, which is plainer: the
+// level reads each by itself, and would only build a struct to have it taken apart here.
 pub fn first_cursor(w: &[u8], size: usize, start: usize, opened: usize, highest: usize) -> usize
     requires { AtBlock w.now size start }
     ensures { result ≡ first_cursor w.now size start opened highest }

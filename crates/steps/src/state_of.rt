@@ -14,6 +14,7 @@ use layout::record::{KEPT, RECORD};
 use lent::get32;
 use parents::link::parent_start;
 use refusal::Shortage;
+use state::cell::CELL;
 use state::compose::{compose_kept, compose_own, composed_len};
 use state::read::{base_at, symbol_at};
 use state::sym::StackSym;
@@ -26,7 +27,8 @@ pub struct Taken {
     pub symbol: StackSym,
 }
 
-// Takes the own state of a direct parent, which stands in W.
+// Takes the own state of a direct parent, which stands in W. `take_found` stays a function of its own, which is plainer: what the two share is `state`'s composing, and each
+// finds the state by numbers of its own and lends it from another buffer.
 fn take_direct(
     code: &[u8],
     w: &mut [u8],
@@ -45,7 +47,11 @@ fn take_direct(
     let start = parent_start(at);
     let own = own_state(code, w, plan, start);
     let symbol = symbol_at(w, own.at, own.n, level.position);
-    let cells = composed_len(level.cells, base_at(s, 9 * level.from, level.cells), own.n);
+    let cells = composed_len(
+        level.cells,
+        base_at(s, CELL * level.from, level.cells),
+        own.n,
+    );
     let room = plan.rooms.s;
     if room < counts.kept + counts.used + cells {
         return Err(Shortage::S);
@@ -53,9 +59,9 @@ fn take_direct(
     let made = compose_own(
         w,
         s,
-        9 * level.from,
+        CELL * level.from,
         level.cells,
-        9 * counts.used,
+        CELL * counts.used,
         own.at,
         own.n,
     );
@@ -84,17 +90,21 @@ fn take_found(
     let room = plan.rooms.s;
     let kept = get32(r, RECORD * (at - FOUND) + KEPT);
     let theirs = kept - kept_before(r, at - FOUND);
-    let from = 9 * (room - kept);
+    let from = CELL * (room - kept);
     let symbol = symbol_at(s, from, theirs, level.position);
-    let cells = composed_len(level.cells, base_at(s, 9 * level.from, level.cells), theirs);
+    let cells = composed_len(
+        level.cells,
+        base_at(s, CELL * level.from, level.cells),
+        theirs,
+    );
     if room < counts.kept + counts.used + cells {
         return Err(Shortage::S);
     }
     let made = compose_kept(
         s,
-        9 * level.from,
+        CELL * level.from,
         level.cells,
-        9 * counts.used,
+        CELL * counts.used,
         from,
         theirs,
     );
@@ -104,7 +114,7 @@ fn take_found(
     })
 }
 
-// The kept cells of the records before a record.
+// The kept cells of the records before a record. `tables::end_before` is alike, and no plainer with a field's place as its argument: each has its own bound and law.
 fn kept_before(r: &[u8], row: usize) -> usize
     requires { record_place row ≤ length r.now }
     ensures { result ≡ kept_of r.now row }

@@ -25,7 +25,7 @@ pub struct Rooms {
     pub q: usize,
 }
 
-// How much of the lent buffers is in use (no heap, fixed memory): records, addresses in Q, kept cells at the top of S, other cells at its bottom, and remembered rows.
+// How much of the lent buffers is in use: records, addresses in Q, kept cells at the top of S, other cells at its bottom, and remembered rows (no heap, fixed memory).
 #[derive(Clone, Copy)]
 pub struct Counts {
     pub records: usize,

@@ -13,4 +13,4 @@ add_map-requires c = (search writes-all, search rules, search rules)
 
 pub returns : goal.returns
 returns c = let told = c.out-1.given.1.1 in
-    text-answered c.requires.0.writes c.requires.1 refl c.add_map.ensures told
+    text-answered c.requires.0 c.requires.2 refl c.add_map.ensures told
