@@ -2,9 +2,7 @@ pub mod Each
 pub mod Walking
 pub mod Cutting
 pub mod Composing
-pub mod Stored
 pub mod Trimming
-pub mod Exec
 pub mod Beside
 pub mod Symbols
 pub mod Modes
@@ -38,11 +36,6 @@ pub mod Exits
 pub mod PathWalked
 pub mod PathMet
 pub mod PathSessions
-pub mod Queue
-pub mod Extending
-pub mod AnyOrder
-pub mod Reaching
-pub mod RustSets
 pub mod Agreeing
 pub mod Sessions
 pub mod Landing

@@ -1,5 +1,5 @@
 -- Document 01, "What changes shape": "panic! and assert!: shown never to occur". Here what resolver.rs and reachable.rs assert and unwrap of paths, weights
--- and reached blocks, at every parent that the search counts (`counts` in Records); a block's end is in Cutting, a stack's bottom in Stored and Exec.
+-- and reached blocks, at every parent that the search counts (`counts` in Records); a block's end is in Cutting, a stack's bottom in `source`.
 -- Assumes nothing.
 use Prim.Native.Nat.{ℕ, ◌≤◌}
 use native.Mathlib.Omega.{arith}

@@ -1,6 +1,6 @@
 -- Document 01: "Left out ... the tables states, deep_states, replayed_paths and the replay in materialize_path_state, on two facts to be proved: a block run
--- from any identity depth trims to the same stack, and resolve_with_parent is associative in its stored form." From them: what the Rust replays of a
--- path is the state that is stored for it. Assumes nothing.
+-- from any identity depth trims to the same stack, and resolve_with_parent is associative in its stored form." By the second, the state that is stored for a
+-- path is what its blocks compose to; that the Rust's replay gives just that is said of its text (`source`, Caches). Assumes nothing.
 use Prim.Native.Nat.{ℕ}
 use native.Mathlib.Omega.{arith}
 use mathlib.Core.Path.{◌≡◌, refl, sym, ap, subst, ◌∙◌}
@@ -8,16 +8,12 @@ use mathlib.Core.Logic.{◌⊎◌, inl, inr}
 use mathlib.Core.Bool.{false}
 use mathlib.Core.Option.{Option, none, some}
 use mathlib.Core.List.{List, [], ◌∷◌, ◌++◌}
-use lib.Dec.{ltb}
-use Rattle.spec.specs.Lists.{if}
 use Rattle.spec.specs.Opcodes.{Rules}
-use Rattle.spec.specs.Walk.{Ins, from}
+use Rattle.spec.specs.Walk.{Ins}
 use Rattle.spec.specs.Blocks.{Kind, terminate, jump, jumpi, dynamic_jump, dynamic_jumpi, Block}
-use Rattle.spec.specs.Stacks.{Sym, before, constant, jumpdest, other, Stack, cells, Ran, runs, trimmed, run, compose}
+use Rattle.spec.specs.Stacks.{Sym, before, constant, jumpdest, other, Stack, Ran, run, compose}
 use Rattle.spec.specs.Search.{Node, node, nodes, Taker, taker, takes, takers, sides, Parent, parent, direct, Found, nowhere, found, Rec, leads, found_parents, Level, search}
-use Rattle.laws.proofs.Branch.{both}
 use Rattle.theorems.proofs.Composing.{compose-assoc}
-use Rattle.theorems.proofs.Trimming.{identity, run-any-depth}
 use Rattle.laws.proofs.Members.{In, here, there, in-only, in-cases, in-gather, in_map}
 use Rattle.theorems.proofs.Each.{Each, each_map, each_in}
 use Rattle.theorems.proofs.Records.{Stored, Opens, first-level, deeper-level, Recorded, arrives, is_lost, too-heavy, Came, search-history}
@@ -55,35 +51,10 @@ module _ (rules : Rules) (code : List ℕ) (is : List Ins) where
   abbrev pub own : ℕ → Stack
   own b = (run rules code is b).stack
 
-  -- ---- the Rust's replay
-
-  -- get_state_with_depth: the block run from an identity depth, trimmed
-  abbrev pub deep : ℕ → ℕ → Stack
-  deep d b = (trimmed (runs rules code b (from b is) (identity d))).stack
-
-  -- the loop of materialize_path_state; `depth` is how deep the next block is run, by the state so far
-  abbrev pub replays-on : (Stack → ℕ) → Stack → List ℕ → Stack
-  replays-on depth s [] = s
-  replays-on depth s (b ∷ bs) = replays-on depth (compose s (deep (depth s) b)) bs
-
-  -- materialize_path_state, of a path that has a first block: the summary if it is long enough, else the replay
-  abbrev pub materialized : (Stack → ℕ) → ℕ → ℕ → List ℕ → Stack → Stack
-  materialized depth required b bs summary = if (ltb required (cells summary)) summary (replays-on depth (deep required b) bs)
-
-  -- ---- the same with each block run once
-
+  -- what a path's blocks compose to, each with the next
   unfoldable pub composed-on : Stack → List ℕ → Stack
   composed-on s [] = s
   composed-on s (b ∷ bs) = composed-on (compose s (own b)) bs
-
-  deep-own : (d b : ℕ) → deep d b ≡ own b
-  unfolding run
-  deep-own d b = ap (λ (r : Ran). r.stack) (run-any-depth rules code b (from b is) d)
-
-  replays-composed : (depth : Stack → ℕ) (s : Stack) (bs : List ℕ) → replays-on depth s bs ≡ composed-on s bs
-  unfolding composed-on
-  replays-composed depth s [] = refl
-  replays-composed depth s (b ∷ bs) = rw (deep-own (depth s) b) (replays-composed depth (compose s (own b)) bs)
 
   composed-assoc : (s t : Stack) (bs : List ℕ) → compose s (composed-on t bs) ≡ composed-on (compose s t) bs
   unfolding composed-on
@@ -114,17 +85,6 @@ module _ (rules : Rules) (code : List ℕ) (is : List Ins) where
     path-is = rw (h.path-is, k.path-is);
     stack_is = rw (h.stack_is, k.stack_is) (composed-assoc (composed-on (own h.first) h.rest) (own k.first) k.rest ∙ sym (composed-append (own h.first) h.rest (k.first ∷ k.rest)));
   }
-
-  -- What the Rust materializes of a path, at any depth and by any rule of depths, is the stack that the path's blocks compose to.
-  pub materialized-same : (depth : Stack → ℕ) (required : ℕ) {path : List ℕ} {s : Stack} (h : Replays path s) → materialized depth required h.first h.rest s ≡ s
-  materialized-same depth required {s} h =
-      both (λ (t : Stack). t ≡ s) _ (λ _. refl)
-      (λ _. rw (deep-own required h.first) (replays-composed depth (own h.first) h.rest ∙ sym h.stack_is))
-
-  -- The widening loop of resolve_dynamic_jump_path asks again by what it materialized: it asks for the same depth, and so ends at its first pass.
-  pub widening-ends : (asks : Stack → ℕ) (depth : Stack → ℕ) (required : ℕ) {path : List ℕ} {s : Stack} (h : Replays path s)
-      → asks (materialized depth required h.first h.rest s) ≡ asks s
-  widening-ends asks depth required h = ap asks (materialized-same depth required h)
 
   -- ---- every state of the search is of that kind
 

@@ -109,7 +109,7 @@ same_runs r code start (i ∷ is) h = same_after start i (does r.mode i.op) h (s
 -- ---- identity depths
 
 -- Before 0 to Before (d - 1) spelled out, on top of Before d
-pub identity : ℕ → Stack
+unfoldable pub identity : ℕ → Stack
 identity d = record { above = span entry 0 d; base = d }
 
 reads-span : (i d n : ℕ) → reads (span entry i d) (i + d) n ≡ before (i + n)

@@ -1,10 +1,11 @@
-//! `lists [--check]`: writes `tests/answers.list`, `tests/rust.list`, `tests/sessions.list` and
-//! `tests/rooms.list`, the same bytes each time; with `--check` it writes nothing and fails if a
+//! `lists [--check]`: writes `tests/answers.list`, `tests/rust.list`, `tests/source.list`,
+//! `tests/sessions.list` and `tests/rooms.list`, the same bytes each time; with `--check` it writes nothing and fails if a
 //! file holds anything else.
 
 mod answers;
 mod maps;
 mod sessions;
+mod source;
 mod summary;
 
 use std::fs;
@@ -39,6 +40,15 @@ fn run(check: bool) -> Result<(), String> {
     let texts: Vec<String> = maps.iter().map(|code| maps::text(code)).collect();
     settle(check, "tests/rust.list", &texts)?;
     println!("{}", summary::of_maps(&maps));
+    let source = source::lines();
+    let texts: Vec<String> = source.iter().map(|code| source::text(code)).collect();
+    settle(check, "tests/source.list", &texts)?;
+    let most = source.iter().map(|code| answers::energy(code)).max();
+    println!(
+        "source: {} codes, energy at most {}",
+        source.len(),
+        most.unwrap_or(0)
+    );
     let sessions = sessions::lines();
     let texts: Vec<String> = sessions.iter().map(sessions::text).collect();
     settle(check, "tests/sessions.list", &texts)?;

@@ -1,5 +1,5 @@
--- reachable.rs: the loop `while let Some(current) = queue.pop()`, which both of its functions have. The queue stands with its last first, a set as it was
--- entered, newest first. A panic is none, and so is a loop that has not ended after so many pops. Here: it ends, and what is in the set then. Assumes nothing.
+-- A step of Visiting: the loop `while let Some(current) = queue.pop()` of the transcription's reachable.rs, on the definitions' blocks. It ends, and this is what
+-- is in the set then. Assumes nothing.
 use Prim.Native.Nat.{ℕ, zero, suc, ◌+◌, ◌≤◌}
 use native.Mathlib.Omega.{arith}
 use mathlib.Core.Path.{◌≡◌, refl, sym, ap, subst, ◌∙◌}

@@ -1,5 +1,5 @@
--- Document 02, No. 13, of the Rust: `extend_reachable_nodes` of reachable.rs, lines 63 to 107. It ends without a panic, and leaves the set closed along the
--- blocks' sides and the witness targets; so batches may come in any order, or as one. Assumes nothing.
+-- A step of Visiting: the transcription's `extend_reachable_nodes` on the definitions' blocks. It ends without a panic, and leaves the set closed along the blocks'
+-- sides and the witness targets; so batches may come in any order, or as one. Assumes nothing.
 use Prim.Native.Nat.{ℕ, suc, ◌+◌, ◌≤◌}
 use native.Mathlib.Omega.{arith}
 use mathlib.Core.Path.{◌≡◌, refl, sym, ap, subst, ◌∙◌}
@@ -21,7 +21,7 @@ use Rattle.laws.proofs.Lists.{Rising}
 use Rattle.theorems.proofs.Answered.{finals-at}
 use Rattle.theorems.proofs.Reached.{Closed, Reached, seed, along, closure-sound, closure-complete}
 use Rattle.theorems.proofs.Batches.{◌≈◌, extend, extend-is, reached-from}
-use Rattle.theorems.proofs.Queue.{pushed, pushed-new, pushed-cases, block-there, from_block, pushed_at, Entered, Ended, left-all, while-pops, while-ends}
+use Rattle.source.proofs.Queue.{pushed, pushed-new, pushed-cases, block-there, from_block, pushed_at, Entered, Ended, left-all, while-pops, while-ends}
 
 -- ---- the function
 
@@ -205,10 +205,15 @@ module _ (fs : List Final) (wt : Targets) (rising : Rising 0 (finals-at fs)) (go
 
 -- ---- one call after the other
 
-abbrev pub extend-each : ℕ → List Final → Targets → List ℕ → List (List ℕ) → Option (List ℕ)
+-- as many pops as the transcription gives a call
+abbrev pub pops : List Final → Targets → List ℕ → ℕ
+pops blocks witness-targets seeds = suc (length seeds + pushes-of blocks witness-targets)
+
+-- n pops for each list of seeds
+abbrev pub extend-each : (List ℕ → ℕ) → List Final → Targets → List ℕ → List (List ℕ) → Option (List ℕ)
 extend-each n blocks witness-targets reachable [] = some reachable
 extend-each n blocks witness-targets reachable (seeds ∷ more) =
-    and_then (extend-reachable-nodes n blocks witness-targets reachable seeds) (λ r. extend-each n blocks witness-targets r.reachable more)
+    and_then (extend-reachable-nodes (n seeds) blocks witness-targets reachable seeds) (λ r. extend-each n blocks witness-targets r.reachable more)
 
 abbrev pub joined : List (List ℕ) → List ℕ
 joined = gather (λ (b : List ℕ). b)
@@ -238,7 +243,7 @@ record Went (es : List Edge) (got seeds : List ℕ) (o : Option (List ℕ)) : Ty
   closed : Closed es set
   only : (a : ℕ) → mem a set ≡ true → Reached es (seeds ++ got) a
 
-module _ (fs : List Final) (wt : Targets) (rising : Rising 0 (finals-at fs)) (n : ℕ) where
+module _ (fs : List Final) (wt : Targets) (rising : Rising 0 (finals-at fs)) (n : List ℕ → ℕ) where
   went-first : (got b more : List ℕ) {o : Option Extended} (r : Extends (known-edges fs wt) got b o) (k : Extended → Option (List ℕ))
       → Went (known-edges fs wt) r.out.reachable more (k r.out) → Went (known-edges fs wt) got (b ++ more) (and_then o k)
   went-first got b more r k w =
@@ -275,15 +280,15 @@ module _ (fs : List Final) (wt : Targets) (rising : Rising 0 (finals-at fs)) (n 
           which (inl i) = seed (in_mem s (in_left (in_right b i) got))
           which (inr i) = reached-from wider (r.only s (in_mem s i))
 
-  went : (got : List ℕ) (batches : List (List ℕ)) → ((b : List ℕ) → In b batches → suc (length b + pushes-of fs wt) ≤ n)
+  went : (got : List ℕ) (batches : List (List ℕ)) → ((b : List ℕ) → In b batches → suc (length b + pushes-of fs wt) ≤ n b)
       → Loose (known-edges fs wt) got (joined batches) → Went (known-edges fs wt) got (joined batches) (extend-each n fs wt got batches)
   went got [] h l = record { set = got; is = refl; has = λ a m. m; closed = l; only = λ a m. seed m }
   went got (b ∷ more) h l =
-      let r = extending fs wt rising got b n (h b here) in
+      let r = extending fs wt rising got b (n b) (h b here) in
       went-first got b (joined more) r (λ x. extend-each n fs wt x.reachable more) (went r.out.reachable more (λ c i. h c (there i)) (r.loose (joined more) l))
 
   -- Batches, one call after the other, leave the set extended by all their seeds.
-  pub extending-each : (got : List ℕ) (batches : List (List ℕ)) → ((b : List ℕ) → In b batches → suc (length b + pushes-of fs wt) ≤ n)
+  pub extending-each : (got : List ℕ) (batches : List (List ℕ)) → ((b : List ℕ) → In b batches → suc (length b + pushes-of fs wt) ≤ n b)
       → Loose (known-edges fs wt) got (joined batches) → Leaves (known-edges fs wt) got batches (extend-each n fs wt got batches)
   extending-each got batches h l =
       let w = went got batches h l in

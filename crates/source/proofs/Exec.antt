@@ -1,6 +1,5 @@
--- Document 01, "What changes shape": "panic! and assert!: shown never to occur". Here `exec` and `real_exec` of state.rs, lines 123 to 259, over a list with
--- the top first; `opi` is the row, and the mode is the plain one. A panic, or an assert, expect or index that fails, is none; sums of places are exact. From the stored form of any stack none
--- occurs, and what they leave and return is what `runs` and `trim` give. Assumes nothing.
+-- A step of Mirror: what the transcription's `exec` and `real_exec` do, with the top of the stack first. From the stored form of any stack nothing panics, and
+-- what they leave and return is what `runs` and `trim` give. Assumes nothing.
 use Prim.Native.Nat.{ℕ, zero, suc, ◌+◌, ◌-◌, ◌<◌, ◌≤◌}
 use native.Mathlib.Omega.{arith}
 use native.Mathlib.Nat.{add-zero, suc-add, add-suc, le_refl}
@@ -15,15 +14,13 @@ use lib.Seq.{drop-append-le, drop-drop, set_split}
 use borrow.Author.Tests.{eqb-true, eqb-false, eq-eqb, ne_eqb, leb-true, le-leb, ltb-false}
 use Rattle.spec.specs.Lists.{if, within}
 use Rattle.spec.specs.Opcodes.{argument, Row, Rules}
-use Rattle.spec.specs.Walk.{Ins, big, walk, instructions}
-use Rattle.spec.specs.Stacks.{Sym, before, constant, jumpdest, other, Stack, entry, reads, read, pops, span, swap, trade, from_value, known_value, anded, summed, joins, settle, trims, trim, Does, pushes_value, pushes_pc, dups, swaps, ands, adds, jumps, jumpis, lands, halts, plain, does, act, Ran, after, runs, run}
-use Rattle.spec.specs.Blocks.{Block, blocks}
+use Rattle.spec.specs.Walk.{Ins, big}
+use Rattle.spec.specs.Stacks.{Sym, before, constant, jumpdest, other, Stack, entry, reads, read, pops, span, swap, trade, from_value, known_value, anded, summed, joins, settle, trims, trim, Does, pushes_value, pushes_pc, dups, swaps, ands, adds, jumps, jumpis, lands, halts, plain, does, act, Ran, after, runs}
 use Rattle.laws.proofs.Branch.{both, if-true, if-false, and_then}
-use Rattle.laws.proofs.Members.{In, and_both, and-true}
-use Rattle.theorems.proofs.Walking.{Stands, Walked, stops, steps, walks_from}
-use Rattle.theorems.proofs.Cutting.{block-afresh}
+use Rattle.laws.proofs.Members.{and_both, and-true}
+use Rattle.theorems.proofs.Walking.{Stands, Walked, stops, steps}
 use Rattle.theorems.proofs.Counts.{takes, Lawful, takes-row}
-use Rattle.theorems.proofs.Stored.{bottom, stored, stored-cells, stored-bottom, from-depth}
+use Rattle.source.proofs.Stored.{bottom, stored, stored-cells, stored-bottom, from-depth}
 use Rattle.theorems.proofs.Trimming.{Same, trim_same, same-act, identity, run-any-depth}
 
 -- ---- real_exec
@@ -37,7 +34,7 @@ abbrev pub out : List Sym → Option Sym → Option Out
 out xs o = some (record { stack = xs; symbol = o })
 
 -- Before b, Before (b + 1) and so on downwards, n of them
-abbrev beneath : ℕ → ℕ → List Sym
+abbrev pub beneath : ℕ → ℕ → List Sym
 beneath b zero = []
 beneath b (suc n) = before b ∷ beneath (suc b) n
 
@@ -83,23 +80,23 @@ real-exec row code start (i ∷ is) xs = and_then (ensured (row i.op).taken xs) 
 -- ---- exec
 
 -- line 139: the symbol is Before(nb) with nb + pos == base_before
-abbrev continues : ℕ → ℕ → Sym → Bool
+abbrev pub continues : ℕ → ℕ → Sym → Bool
 continues base pos (before nb) = eqb (nb + pos) base
 continues base pos (constant v) = false
 continues base pos (jumpdest v) = false
 continues base pos (other pc) = false
 
 -- lines 135 to 140: how many do, from the bottom
-abbrev prefix : ℕ → ℕ → List Sym → ℕ
+abbrev pub prefix : ℕ → ℕ → List Sym → ℕ
 prefix base pos [] = 0
 prefix base pos (x ∷ xs) = if (continues base pos x) (suc (prefix base (suc pos) xs)) 0
 
 -- `drain(..n)`: the first n from the bottom
-abbrev drained : ℕ → List Sym → Option (List Sym)
+abbrev pub drained : ℕ → List Sym → Option (List Sym)
 drained n xs = if (leb n (length xs)) (some (reverse (drop n (reverse xs)))) none
 
 -- lines 142 to 144
-abbrev minimal : ℕ → List Sym → Option (List Sym)
+abbrev pub minimal : ℕ → List Sym → Option (List Sym)
 minimal base xs = let n = prefix base 0 (reverse xs) in if (ltb 1 n) (drained (n - 1) xs) (some xs)
 
 -- lines 123 to 146: the bottom is asserted to be a Before, before and after
@@ -388,13 +385,6 @@ pub exec-stored : {row : ℕ → Row} → Lawful row → {code : List ℕ} (star
 exec-stored ok start w s =
     let r = real-exec-stored ok start w s s (record { at = λ _. refl }) in
     rw (stored-bottom s, r.form, stored-bottom r.stack, minimal-stored r.stack, trim_same _ _ r.same)
-
--- of a block of the cut, from `State::new()`
-pub exec-block : {row : ℕ → Row} → Lawful row → (code : List ℕ) {b : Block} → In b (blocks row code (instructions code))
-    → exec row code b.start (walk (drop b.start code) b.start 0) (stored entry)
-    ≡ out (stored (run (plainly row) code (instructions code) b.start).stack) (run (plainly row) code (instructions code) b.start).goes
-unfolding run
-exec-block ok code {b} n = rw (block-afresh ok code n) (exec-stored ok b.start (walks_from code b.start) entry)
 
 -- `State::with_identity(depth)` leaves and returns the same.
 pub exec-deep : {row : ℕ → Row} → Lawful row → {code : List ℕ} (start : ℕ) {at : ℕ} {is : List Ins} → Walked code at is → (depth : ℕ)

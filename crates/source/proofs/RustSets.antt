@@ -1,13 +1,14 @@
 -- Document 02, No. 13, of the Rust: the sets that resolver.rs and mod.rs take from reachable.rs are the search's and pruning's. The search that keeps its set as
 -- resolver.rs does, whole or in batches, is the search: "Maps, records and energy do not change." Assumes nothing.
-use Prim.Native.Nat.{ℕ, zero, suc, ◌+◌, ◌≤◌}
+use Prim.Native.Nat.{ℕ, zero, suc, ◌≤◌}
 use native.Mathlib.Omega.{arith}
+use native.Mathlib.Nat.{le_refl}
 use mathlib.Core.Path.{◌≡◌, refl, sym, ap, subst, ◌∙◌}
 use mathlib.Core.Bool.{Bool, true, false, not}
 use mathlib.Core.Option.{Option, some}
 use mathlib.Core.List.{List, [], ◌∷◌, ◌++◌, append-nil}
 use lib.Dec.{eqb, ltb}
-use lib.ListN.{length, drop, length-append}
+use lib.ListN.{length, drop}
 use lib.Seq.{drop-append_seam}
 use Rattle.spec.specs.Lists.{if, mem, last_of}
 use Rattle.spec.specs.Opcodes.{Rules}
@@ -18,7 +19,7 @@ use Rattle.spec.specs.Search.{Node, nodes, edges, takers, direct, Rec, is_nowher
 use Rattle.spec.specs.Ending.{Final, all_are, merged, ended, entries_of, finals, followed, final_edges}
 use Rattle.spec.specs.Answer.{prepared}
 use Rattle.laws.proofs.Branch.{both, and_then}
-use Rattle.laws.proofs.Members.{In, here, there, in-keep, in_map}
+use Rattle.laws.proofs.Members.{In, in-keep, in_map}
 use Rattle.laws.proofs.Lists.{Rising}
 use Rattle.theorems.proofs.Each.{each_in}
 use Rattle.theorems.proofs.Counts.{Lawful}
@@ -30,9 +31,9 @@ use Rattle.theorems.proofs.Carried.{carry-round}
 use Rattle.theorems.proofs.Answered.{finals-at, final-starts}
 use Rattle.theorems.proofs.Batches.{◌≈◌, batched, batched-join}
 use Rattle.theorems.proofs.BatchedSearch.{round_same}
-use Rattle.theorems.proofs.Extending.{pushes-of, extend-each, joined}
-use Rattle.theorems.proofs.AnyOrder.{held, targets_of, round-leaves}
-use Rattle.theorems.proofs.Reaching.{last?, Pathed, get-reachable-nodes, entries_of-all, Reaches, getting}
+use Rattle.source.proofs.Extending.{pops, extend-each, joined}
+use Rattle.source.proofs.AnyOrder.{held, targets_of, round-leaves}
+use Rattle.source.proofs.Reaching.{last?, Pathed, get-reachable-nodes, entries_of-all, Reaches, getting}
 
 -- ---- pruning
 
@@ -111,7 +112,7 @@ after ns t = held ns (λ (m : Node). entries_of m.block.start t.recs)
 module _ (cut : List ℕ → List (List ℕ)) (limit : ℕ) (ns : List Node) where
   -- line 457, in the lists that `cut` makes of the round's targets, with pops enough
   abbrev pub grown-by : List ℕ → St → St → Option (List ℕ)
-  grown-by got s t = extend-each (suc (length (found_in s t) + pushes-of (after ns t) (targets_of t.recs))) (after ns t) (targets_of t.recs) got (cut (found_in s t))
+  grown-by got s t = extend-each (pops (after ns t) (targets_of t.recs)) (after ns t) (targets_of t.recs) got (cut (found_in s t))
 
   unfoldable pub rust-rounds : ℕ → List ℕ → St → Option St
   rust-rounds zero got s = some s
@@ -125,11 +126,6 @@ module _ (cut : List ℕ → List (List ℕ)) (limit : ℕ) (ns : List Node) whe
   rust-search =
       and_then (get-reachable-nodes (suc (suc (entries_of-all (bare ns)))) (bare ns) 0 (suc (suc (length (edges ns)))) []) (λ set. rust-rounds 128 set begin)
 
-length-joined : (bs : List (List ℕ)) {b : List ℕ} → In b bs → length b ≤ length (joined bs)
-length-joined (b ∷ bs) here = omega (arith, length-append b (joined bs))
-length-joined (b ∷ bs) (there i) = omega (arith, length-append b (joined bs), length-joined bs i)
-length-joined [] {b = b} x' = elim x' [ ]
-
 if_some : {A : Type 0} (b : Bool) (x y : A) → if b (some x) (some y) ≡ some (if b x y)
 unfolding if
 if_some true x y = refl
@@ -139,14 +135,14 @@ module _ (cut : List ℕ → List (List ℕ)) (whole : (xs : List ℕ) → joine
     (rising : (entries : Node → List Rec) → Rising 0 (finals-at (held ns entries))) where
   set_grown : (got : List ℕ) (recs new now : List Rec) → recs ++ new ≡ now → (entries : Node → List Rec) (targets : List ℕ) → targets ≡ dests new → got ≈ reached_by ns recs
       → (set : List ℕ)
-      × (extend-each (suc (length targets + pushes-of (held ns entries) (targets_of now))) (held ns entries) (targets_of now) got (cut targets) ≡ some set)
+      × (extend-each (pops (held ns entries) (targets_of now)) (held ns entries) (targets_of now) got (cut targets) ≡ some set)
       × (set ≈ reached_by ns now)
   set_grown got recs new now e entries targets q h =
       subst
       (λ (now : List Rec). (set : List ℕ)
-      × (extend-each (suc (length targets + pushes-of (held ns entries) (targets_of now))) (held ns entries) (targets_of now) got (cut targets) ≡ some set)
+      × (extend-each (pops (held ns entries) (targets_of now)) (held ns entries) (targets_of now) got (cut targets) ≡ some set)
       × (set ≈ reached_by ns now)) e
-      (round-leaves entries ns recs new got h (rising entries) _ (cut targets) (λ b i. omega (arith, length-joined (cut targets) i, ap length (whole targets))) (whole targets ∙ q))
+      (round-leaves entries ns recs new got h (rising entries) _ (cut targets) (λ b i. le_refl (pops (held ns entries) (targets_of (recs ++ new)) b)) (whole targets ∙ q))
 
   grown-is : (got : List ℕ) (s t : St) → got ≈ reached_by ns s.recs → Grows s t
       → (set : List ℕ) × (grown-by cut limit ns got s t ≡ some set) × (set ≈ reached_by ns t.recs)

@@ -1,5 +1,5 @@
--- Document 02, No. 13, of the Rust: `get_reachable_nodes` of reachable.rs, lines 7 to 61. It ends, without a panic where no path is empty, and gives the set
--- that document 01 reaches: pruning's, and with no entries yet the search's first. Assumes nothing.
+-- A step of Visiting: the transcription's `get_reachable_nodes` on the definitions' blocks. It ends, without a panic where no path is empty, and gives the set that
+-- document 01 reaches: pruning's, and with no entries yet the search's first. Assumes nothing.
 use Prim.Native.Nat.{ℕ, zero, suc, ◌+◌, ◌≤◌}
 use native.Mathlib.Omega.{arith}
 use mathlib.Core.Path.{◌≡◌, refl, sym, ap, subst, ◌∙◌}
@@ -21,8 +21,8 @@ use Rattle.laws.proofs.Lists.{Rising}
 use Rattle.theorems.proofs.Answered.{finals-at}
 use Rattle.theorems.proofs.Reached.{Reached, seed, along, closure-sound, closure-complete}
 use Rattle.theorems.proofs.Batches.{◌≈◌, added, added-reached, mem-added}
-use Rattle.theorems.proofs.Queue.{first-or, block_at, block-there, from_block, pushed_at, Entered, Ended, left-all, while-pops, while-ends}
-use Rattle.theorems.proofs.Extending.{turns, turn-side, side-turn}
+use Rattle.source.proofs.Queue.{first-or, block_at, block-there, from_block, pushed_at, Entered, Ended, left-all, while-pops, while-ends}
+use Rattle.source.proofs.Extending.{turns, turn-side, side-turn}
 
 -- ---- the function
 

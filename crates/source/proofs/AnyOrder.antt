@@ -1,5 +1,5 @@
--- Document 02, No. 13, of the Rust: calls of `extend_reachable_nodes` "with one list of seeds and then another", from any set; and a round's call, which grows
--- the search's own set. Assumes nothing.
+-- A step of Orders and of Rounding: calls of `extend_reachable_nodes`, on the definitions' blocks, "with one list of seeds and then another", from any set; and a
+-- round's call, which grows the search's own set. Assumes nothing.
 use Prim.Native.Nat.{ℕ, zero, suc, ◌+◌, ◌≤◌}
 use native.Mathlib.Omega.{arith}
 use mathlib.Core.Path.{◌≡◌, refl, sym, ap, subst, ◌∙◌}
@@ -20,8 +20,8 @@ use Rattle.laws.proofs.Lists.{Rising}
 use Rattle.theorems.proofs.Answered.{finals-at, rising-keep}
 use Rattle.theorems.proofs.Reached.{Closed, Reached, seed, along, closure-sound, closure-complete}
 use Rattle.theorems.proofs.Batches.{◌≈◌, extend, extend-is, extend-seeds, extend-reached, closure-closed, reached-from}
-use Rattle.theorems.proofs.Queue.{pushed, block_at, of-block, while-pops}
-use Rattle.theorems.proofs.Extending.{Targets, Extended, visits, extend-reachable-nodes, known-edges, Loose, pushes-of, Extends, extending, extend-each, joined, Leaves, extending-each}
+use Rattle.source.proofs.Queue.{pushed, block_at, of-block, while-pops}
+use Rattle.source.proofs.Extending.{Targets, Extended, visits, extend-reachable-nodes, known-edges, Loose, pushes-of, Extends, extending, extend-each, joined, Leaves, extending-each}
 
 -- both end, with the same members
 pub record Alike (o p : Option (List ℕ)) : Type 0 where
@@ -99,9 +99,9 @@ closed-loose : (es : List Edge) (got seeds : List ℕ) → Closed es got → Loo
 closed-loose es got seeds c e i on = in_mem e.to (in_right seeds (mem-in e.to got (c e i on)))
 
 -- fixed blocks and witness targets, and pops enough for each list of seeds; any set
-module _ (fs : List Final) (wt : Targets) (rising : Rising 0 (finals-at fs)) (n : ℕ) where
+module _ (fs : List Final) (wt : Targets) (rising : Rising 0 (finals-at fs)) (n : List ℕ → ℕ) where
   abbrev pub Enough : List ℕ → Type 0
-  Enough seeds = suc (length seeds + pushes-of fs wt) ≤ n
+  Enough seeds = suc (length seeds + pushes-of fs wt) ≤ n seeds
 
   module _ (got : List ℕ) where
     abbrev others : List Final
@@ -113,19 +113,19 @@ module _ (fs : List Final) (wt : Targets) (rising : Rising 0 (finals-at fs)) (n 
     rises : Rising 0 (finals-at others)
     rises = rising-keep _ fs rising
 
-    enough : (seeds : List ℕ) → Enough seeds → suc (length seeds + pushes-of others wt) ≤ n
+    enough : (seeds : List ℕ) → Enough seeds → suc (length seeds + pushes-of others wt) ≤ n seeds
     enough seeds h = omega (arith, fewer-pushes wt got fs)
 
-    same-call : (set seeds : List ℕ) → Among got set → extend-reachable-nodes n fs wt set seeds ≡ extend-reachable-nodes n others wt set seeds
+    same-call : (set seeds : List ℕ) → Among got set → extend-reachable-nodes (n seeds) fs wt set seeds ≡ extend-reachable-nodes (n seeds) others wt set seeds
     same-call set seeds h =
         ap (λ (o : Option (List ℕ)). and_then o (λ s. some (record { reachable = s; grew = not (eqb (length s) (length set)) })))
-        (same-loop fs got (λ s current f. some (visits wt s current f)) n (pushed seeds []) set h)
+        (same-loop fs got (λ s current f. some (visits wt s current f)) (n seeds) (pushed seeds []) set h)
 
     same-calls : (set : List ℕ) (bs : List (List ℕ)) → ((b : List ℕ) → In b bs → Enough b) → Among got set
         → extend-each n fs wt set bs ≡ extend-each n others wt set bs
     same-calls set [] f h = refl
     same-calls set (b ∷ bs) f h =
-        let r = extending fs wt rising set b n (f b here) in
+        let r = extending fs wt rising set b (n b) (f b here) in
         ap (λ (o : Option Extended). and_then o (λ x. extend-each n fs wt x.reachable bs)) r.is
         ∙ same-calls r.out.reachable bs (λ c i. f c (there i)) (λ a m. r.keeps a (h a m))
         ∙ sym (ap (λ (o : Option Extended). and_then o (λ x. extend-each n others wt x.reachable bs)) (sym (same-call set b h) ∙ r.is))
@@ -174,11 +174,11 @@ module _ (fs : List Final) (wt : Targets) (rising : Rising 0 (finals-at fs)) (n 
 
     -- Seeds already reached change nothing, and false is returned;
     pub rust-reached : (seeds : List ℕ) → Enough seeds → ((s : ℕ) → In s seeds → mem s got ≡ true)
-        → extend-reachable-nodes n fs wt got seeds ≡ some (record { reachable = got; grew = false })
+        → extend-reachable-nodes (n seeds) fs wt got seeds ≡ some (record { reachable = got; grew = false })
     rust-reached seeds h reached = same-call got seeds (λ a m. m) ∙ r.is ∙ ap some (nothing r.out r.stayed r.more inside r.out.grew refl)
       where
-        r : Extends es got seeds (extend-reachable-nodes n others wt got seeds)
-        r = extending others wt rises got seeds n (enough seeds h)
+        r : Extends es got seeds (extend-reachable-nodes (n seeds) others wt got seeds)
+        r = extending others wt rises got seeds (n seeds) (enough seeds h)
 
         inside : (a : ℕ) → mem a r.out.reachable ≡ true → mem a got ≡ true
         inside a m = ap (mem a) (sym (extend-reached es got seeds (outside-closed fs wt got) reached)) ∙ extend-is es got seeds a ∙ closure-complete es (seeds ++ got) a (r.only a m)
@@ -189,7 +189,7 @@ module _ (fs : List Final) (wt : Targets) (rising : Rising 0 (finals-at fs)) (n 
         nothing x f g k false e = rw (f e, e) refl
 
     -- nor does an empty list.
-    pub rust-nothing : Enough [] → extend-reachable-nodes n fs wt got [] ≡ some (record { reachable = got; grew = false })
+    pub rust-nothing : Enough [] → extend-reachable-nodes (n []) fs wt got [] ≡ some (record { reachable = got; grew = false })
     rust-nothing h = rust-reached [] h (λ s i. elim i [ ])
 
 -- ---- a round
@@ -309,8 +309,8 @@ module _ (entries : Node → List Rec) (ns : List Node) (recs new : List Rec) (g
       up (along e i p w) = along e (side-known entries wt ns e i) (up p) (up w)
 
   -- It leaves what is reached when the next round begins.
-  pub round-leaves : Rising 0 (finals-at (held ns entries)) → (n : ℕ) (batches : List (List ℕ))
-      → ((b : List ℕ) → In b batches → suc (length b + pushes-of (held ns entries) wt) ≤ n) → joined batches ≡ dests new
+  pub round-leaves : Rising 0 (finals-at (held ns entries)) → (n : List ℕ → ℕ) (batches : List (List ℕ))
+      → ((b : List ℕ) → In b batches → suc (length b + pushes-of (held ns entries) wt) ≤ n b) → joined batches ≡ dests new
       → (set : List ℕ) × (extend-each n (held ns entries) wt got batches ≡ some set) × (set ≈ reached_by ns (recs ++ new))
   round-leaves rising n batches h e =
       let l = extending-each (held ns entries) wt rising n got batches h (subst (Loose all got) (sym e) loose) in
