@@ -129,13 +129,15 @@ json-is-rust {choice} {code} {m} {m'} {out} {out'} {room} {room'} {x} e long = g
         let number : x ≡ exported_json (answered a) = e.number ∙ ap exported_json q in
         let written : take (x % 2 ^ 32) out' ≡ bytes a
         = ap₂ take (ap (λ (k : ℕ). k % 2 ^ 32) number ∙ n.entry-bytes) (e.out_is ∙ ap (λ (b : Answer). output_after b out) q)
-            ∙ take_at (bytes a) (drop (length (bytes a)) out) (length (bytes a)) refl in
+        ∙ take_at (bytes a) (drop (length (bytes a)) out) (length (bytes a)) refl in
         let told : take (x / 2 ^ 32) room' ≡ text a
         = ap₂ take (ap (λ (k : ℕ). k / 2 ^ 32) number ∙ n.text-bytes) (e.text_is ∙ ap (λ (b : Answer). text_after b room) q)
-            ∙ take_at (text a) (drop (length (text a)) room) (length (text a)) refl in
-        let same = answered-rust (lent_of m out) choice code a g.entry in
-        (record {
-          held = plain a;
-          reads = ap read written ∙ read-answered (in_mode 0) lawful (lent_of m out) 500000 choice code a g.entry;
-          blocks = same ∙ ap some (sym (views-same a.blocks));
-        }, record { blocks = map view a.blocks; is = same; text_is = told ∙ ap json (sym (shown-view a.blocks)) })
+        ∙ take_at (text a) (drop (length (text a)) room) (length (text a)) refl in
+        let same = answered-rust (lent_of m out) choice code a g.entry in (
+          record {
+            held = plain a;
+            reads = ap read written ∙ read-answered (in_mode 0) lawful (lent_of m out) 500000 choice code a g.entry;
+            blocks = same ∙ ap some (sym (views-same a.blocks));
+          },
+          record { blocks = map view a.blocks; is = same; text_is = told ∙ ap json (sym (shown-view a.blocks)) },
+        )
