@@ -6,7 +6,7 @@ use Prim.Native.Nat.{ℕ, ◌≤◌, ◌<◌}
 use native.Mathlib.Omega.{arith}
 use lib.Dec.{eqb, leb}
 use lib.ListN.{length, take, drop, length-drop}
-use Rattle.std.specs.Prelude.{Option, Some, None}
+use Rattle.std.specs.Prelude.{Option}
 use borrow.Author.Tests.{eq-eqb, ne_eqb, lt-leb, le-ltb}
 use Rattle.spec.specs.Lists.{number}
 use Rattle.spec.specs.Entries.{wide_code, way_kind, record_kind, numbered_kind, absent}
@@ -20,7 +20,6 @@ use Rattle.reader.specs.Sorts.{sort_of, path_kinds, path_sort}
 use Rattle.reader.specs.Shapes.{way?}
 use Rattle.reader.specs.declared.kind.Kinds.{Kinds}
 use Rattle.reader.specs.declared.kind.Sort.{Sort}
-use Rattle.reader.specs.declared.kind.Sort.TheVariants.{Head, Terminate, Jump, Jumpi, DynamicJump, DynamicJumpi, Way, Record, Numbered}
 
 -- ---- path_sort
 
@@ -90,30 +89,6 @@ module _ (b : List ℕ) where
   wide-there h q = q ∙ ap wide_code h.is
 
 -- ---- what is no 7
-
-not-way : (wide : Bool) (s : Option Sort) → (s ≡ Some Way → ⊥) → way? (sort_of wide s) ≡ false
-not-way wide (Some Head) h = refl
-not-way wide (Some Terminate) h = refl
-not-way wide (Some Jump) h = refl
-not-way wide (Some Jumpi) h = refl
-not-way wide (Some DynamicJump) h = refl
-not-way wide (Some DynamicJumpi) h = refl
-not-way wide (Some Way) h = absurd (h refl)
-not-way wide (Some Record) h = refl
-not-way wide (Some Numbered) h = refl
-not-way wide None h = refl
-
--- ---- is_way
-
-module _ (wide : Bool) (k : ℕ) {r : Option Sort} (e : sort_of wide r ≡ sort wide k) where
-  pub a-way : {s : Sort} → r ≡ Some s → s ≡ Way → true ≡ way? (sort wide k)
-  a-way q m = rw (← e, q, m)
-
-  pub other-way : {s : Sort} → r ≡ Some s → (s ≡ Way → ⊥) → false ≡ way? (sort wide k)
-  other-way {s} q o = rw (← e, q) (sym (not-way wide (Some s) (λ z. o (cc))))
-
-  pub no-way : r ≡ None → false ≡ way? (sort wide k)
-  no-way q = rw (← e, q)
 
 -- what is no 7 ends the run
 pub other-ends : (s : Means) → way? s ≡ false → (n : ℕ) → goes_on s n ≡ 0

@@ -1,16 +1,7 @@
 -- `sevens` meets its contract: those counted and those still to come are the whole run. The measure is what is left of the bytes. Assumes nothing.
-use Rattle.reader.proofs.Onward.{count_none, count_cut, count-other, count-more, count_less, count_fits}
-use Rattle.reader.proofs.Leads.{sum-6, sum_body}
+use Rattle.reader.proofs.Onward.{count_cut, count-other, count-more, count_less}
+use Rattle.reader.proofs.Leads.{sum_body}
 use Rattle.reader.proofs.run.sevens.Goals as goal
-
-pub loop-lead-init : goal.loop-lead-init
-loop-lead-init c = search count_none
-
-pub overflow_add-count : goal.overflow_add-count
-overflow_add-count c = search count_fits
-
-pub overflow_add-to : goal.overflow_add-to
-overflow_add-to c = search sum-6
 
 pub overflow_add-to-in-Some : goal.overflow_add-to-in-Some
 overflow_add-to-in-Some c = search sum_body

@@ -1,5 +1,5 @@
 -- `last` meets its contract, for each order in which the entries may end. Assumes nothing.
-use Rattle.reader.proofs.Resting.{last-owed, last-met, last-open}
+use Rattle.reader.proofs.Resting.{last-owed, last-met}
 use Rattle.reader.proofs.scan.last.Goals as goal
 
 pub returns-then-left-ne0 : goal.returns-then-left-ne0
@@ -7,6 +7,3 @@ returns-then-left-ne0 c = search last-owed
 
 pub returns-else-left-ne0 : goal.returns-else-left-ne0
 returns-else-left-ne0 c = search last-met
-
-pub returns-in_default : goal.returns-in_default
-returns-in_default c = search last-open

@@ -1,10 +1,7 @@
 -- `rest` meets its contract: what is left to judge ends where the whole does. The measure is what is left of the bytes. Assumes nothing.
 use Rattle.std.proofs.lemmas.Result.{err_from_is_err_and}
-use Rattle.reader.proofs.Resting.{scan-start, scan-on, scan-less, scan-bad, scan-last}
+use Rattle.reader.proofs.Resting.{scan-on, scan-less, scan-bad, scan-last}
 use Rattle.reader.proofs.scan.rest.Goals as goal
-
-pub loop-scan-init : goal.loop-scan-init
-loop-scan-init c = search scan-start
 
 pub returns-in_err-scan : goal.returns-in_err-scan
 returns-in_err-scan c =

@@ -3,7 +3,7 @@ use mathlib.Core.Path.{refl}
 use native.Mathlib.Omega.{arith}
 use Rattle.spec.specs.Report.{join}
 use Rattle.reader.specs.declared.entry.Entry.TheVariants.{Head, Terminate, Jump, Jumpi, DynamicJump, DynamicJumpi}
-use Rattle.report.proofs.Counted.{with-entry, with-block, way-counted, record-counted}
+use Rattle.report.proofs.Counted.{with-entry, with-block}
 use Rattle.report.proofs.count.counted.Goals as goal
 
 pub returns-in-Terminate : goal.returns-in-Terminate
@@ -25,12 +25,6 @@ returns-in-DynamicJump c = with-block (DynamicJump _ _ _) 4 c.in-DynamicJump.is 
 pub returns-in-DynamicJumpi : goal.returns-in-DynamicJumpi
 unfolding join
 returns-in-DynamicJumpi c = with-block (DynamicJumpi _ _ _ _) 5 c.in-DynamicJumpi.is refl (omega arith) c.shut-in-DynamicJumpi.ensures
-
-pub returns-in-Way : goal.returns-in-Way
-returns-in-Way c = search way-counted
-
-pub returns-in-Record : goal.returns-in-Record
-returns-in-Record c = search record-counted
 
 pub returns-in-Head : goal.returns-in-Head
 unfolding join

@@ -1,9 +1,6 @@
 -- `join_totals` meets its contract: the places passed hold sums that fit. Assumes nothing.
-use Rattle.report.proofs.Placed.{joining-start, joining-on, joining-large, joining-end}
+use Rattle.report.proofs.Placed.{joining-on, joining-large, joining-end}
 use Rattle.report.proofs.merge.join_totals.Goals as goal
-
-pub loop-i-init : goal.loop-i-init
-loop-i-init c = search joining-start
 
 pub loop-i-preserved : goal.loop-i-preserved
 loop-i-preserved c = search joining-on

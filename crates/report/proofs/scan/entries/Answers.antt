@@ -1,24 +1,14 @@
 -- `entries` meets its contract: what is counted so far and what is still to come are the whole, and the reader's scan judges it. The measure is what is
 -- left of the bytes. Assumes nothing.
 use Rattle.std.proofs.lemmas.Result.{err_from_is_err_and}
-use borrow.Author.Rules.{rules}
-use Rattle.report.proofs.Scanned.{none-is, pass-start, pass-within, pass-shuts, pass-roomy, pass-less, pass-sound, pass_on, pass-bad, pass-end}
+use Rattle.report.proofs.Scanned.{none-is, pass-start, pass-less, pass-sound, pass_on, pass-bad, pass-end}
 use Rattle.report.proofs.scan.entries.Goals as goal
 
 pub loop-scan-init : goal.loop-scan-init
 loop-scan-init c = search (pass-start, none-is)
 
-pub closed-requires : goal.closed-requires
-closed-requires c = search pass-shuts
-
 pub returns : goal.returns
 returns c = search pass-end
-
-pub one-requires : goal.one-requires
-one-requires c = search (rules, pass-within)
-
-pub counted-counts-requires : goal.counted-counts-requires
-counted-counts-requires c = search pass-roomy
 
 pub returns-in_err-scan : goal.returns-in_err-scan
 returns-in_err-scan c =

@@ -1,12 +1,6 @@
 -- `lowest` meets its contract. Assumes nothing.
-use Rattle.report.proofs.Shares.{share-none, share-some, gcd-over-0}
+use Rattle.report.proofs.Shares.{gcd-over-0}
 use Rattle.report.proofs.share.lowest.Goals as goal
-
-pub returns-then-whole-eq0 : goal.returns-then-whole-eq0
-returns-then-whole-eq0 c = search share-none
-
-pub returns : goal.returns
-returns c = search share-some
 
 pub nonzero_div-result : goal.nonzero_div-result
 nonzero_div-result c = search gcd-over-0

@@ -1,6 +1,6 @@
 -- `salvage` meets its contract: a buffer is short, or what was judged is copied and printed. Assumes nothing.
 use borrow.Author.Rules.{rules}
-use Rattle.salvage.proofs.Printed.{bytes_fit, copy-fits, short-out, short-report, written}
+use Rattle.salvage.proofs.Printed.{copy-fits, short-out, short-report, written}
 use Rattle.salvage.proofs.copied.salvage.Goals as goal
 use Rattle.salvage.proofs.copied.salvage.Goals.{then-out-judged-via-then-out-judged, then-out-judged-via-else-out-judged+then-report-lt-PRINTED}
 
@@ -13,9 +13,6 @@ returns-then-out-judged c =
 
 pub copy-requires : goal.copy-requires
 copy-requires c = search (rules, copy-fits)
-
-pub overflow_sub-archive : goal.overflow_sub-archive
-overflow_sub-archive c = search bytes_fit
 
 pub returns : goal.returns
 returns c = search written

@@ -1,14 +1,11 @@
 -- `entries` meets its contract: the scan goes over the first map's own entries, and judges as the reader does. The measure is what is left of that map.
 -- Assumes nothing.
 use Rattle.std.proofs.lemmas.Result.{err_from_is_err_and}
-use Rattle.salvage.proofs.Firsts.{owned-start, owned-over, owned-left, owned-within, owned-on, owned-less, owned-bad}
+use Rattle.salvage.proofs.Firsts.{owned-start, owned-over, owned-on, owned-less, owned-bad}
 use Rattle.salvage.proofs.first.entries.Goals as goal
 
 pub loop-scan-init : goal.loop-scan-init
 loop-scan-init c = search owned-start
-
-pub one-requires : goal.one-requires
-one-requires c = search (owned-within, owned-left)
 
 pub returns-in_err-scan : goal.returns-in_err-scan
 returns-in_err-scan c =

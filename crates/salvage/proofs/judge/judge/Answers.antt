@@ -1,15 +1,9 @@
 -- `judge` meets its contract: what is copied so far and what is salvaged of the rest is the whole. The measure is what is left of the bytes. Assumes nothing.
-use Rattle.salvage.proofs.Maps.{judges-start, judged-end, judged-bad, bad-fits, maps-fit, at-fits, judges-less, judges-on}
+use Rattle.salvage.proofs.Maps.{judged-end, judged-bad, bad-fits, at-fits, judges-less, judges-on}
 use Rattle.salvage.proofs.judge.judge.Goals as goal
-
-pub loop-at-init : goal.loop-at-init
-loop-at-init c = search judges-start
 
 pub returns : goal.returns
 returns c = search judged-end
-
-pub overflow_add-maps : goal.overflow_add-maps
-overflow_add-maps c = search maps-fit
 
 pub overflow_add-at : goal.overflow_add-at
 overflow_add-at c = search at-fits
