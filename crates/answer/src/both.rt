@@ -1,4 +1,5 @@
 // The answer, and the JSON text of its blocks beside it.
+// `map_code` stays beside it, and would be no plainer as a case of this: without a text there is no 11, and nothing is counted for one.
 // "A call that does what the entry does and also fills a text buffer"
 ghost use Rattle.std.specs.Prelude.{◌≡◌};
 ghost use Rattle.layout.specs.Buffers.{held};

@@ -29,6 +29,7 @@ pub struct Own {
     pub goes: Option<StackSym>,
 }
 
+// W and the end of the part that a run has stay two parameters: the part is W's own bytes, and no slice of it, since places in it are W's.
 // Runs the block at `start` to its end, with its stack in the part of w that ends at `end`.
 fn to_end(mode: Mode, code: &[u8], start: usize, w: &mut [u8], end: usize) -> End
     requires { Runs code.now w.old end }

@@ -8,6 +8,7 @@ use crate::body::{
 use crate::kind::{Sort, sort_of, wide_in};
 use crate::lead::lead_at;
 
+// A path's place and its length are two fields, as the definitions' entries have them: a struct would be opened again by each of those who read one.
 // Its numbers, by its kind; the two families of kinds give the same. A path is told by where its addresses of 2 bytes stand and how many they are.
 // A record has its number in kind 9, and none in kind 8.
 #[derive(Clone, Copy)]
