@@ -16,7 +16,7 @@ use reader::read;
 use refusal::Refusal;
 
 // The mode of a number, where nothing is wrong with a code of `size` bytes, that number, and a W of so many bytes; the tests stand in this order.
-// "Refusals: 1, 13 and 3 as before"
+// "Refusals: 1, 13 and 3 as before": `answer` tests a limit between them, so one function for both calls would take a limit that this one has not.
 fn early(size: usize, mode: usize, lent: usize) -> Result<Mode, Refusal>
     ensures { early_in size mode lent result }
 {
