@@ -1,7 +1,7 @@
 -- A row more on its chain: the laws of `Chained` and `Ordered`. Assumes nothing.
-use Rattle.std.proofs.Common.{◌≡◌, ℕ, zero, suc, ◌-◌, ◌<◌, ◌≤◌, Bool, true, false, ◌||◌, ◌⊎◌, sym, refl, ap, ◌∙◌, inl, inr, arith}
+use Rattle.std.proofs.Common.{◌≡◌, ℕ, zero, suc, ◌-◌, ◌<◌, ◌≤◌, Bool, true, false, ◌||◌, ◌⊎◌, sym, refl, ap, ◌∙◌, inl, inr, arith, Option, Some, None}
 use native.Mathlib.Decide.{dec_lt}
-use Rattle.tables.specs.Chains.{newest, following, any, Chained, Ordered, Keyed, Left}
+use Rattle.tables.specs.Chains.{newest, link_of, following, any, Chained, Ordered, Keyed, Left}
 use Rattle.tables.proofs.Chains.{keyed, newest-le, newest-again, newest-key, any-newest, newest-here, newest-other, newest-is, newest-last, newest-same, following-new, following-other, following-stays, following-same, following-end, ends-following}
 
 -- below m + 1 is below m, or m
@@ -64,20 +64,26 @@ module _ {key : ℕ → ℕ} {f : ℕ → Bool} {m h : ℕ} (k : Keyed key f m h
   pub walk-first : {x : ℕ} → x ≡ newest key h m → Left key f m h x
   walk-first e = left-first hung f h k.inside (omega arith) e
 
-  module _ {cur : ℕ} (l : Left key f m h cur) where
-    pub walk-none : cur ≡ 0 → false ≡ any f m
-    walk-none = left-none hung f h k.inside l
+  module _ {o : Option ℕ} (l : Left key f m h (link_of o)) where
+    pub walk-none : o ≡ None → false ≡ any f m
+    walk-none e = left-none hung f h k.inside l (ap link_of e)
 
-    module _ (d : cur ≡ 0 → ⊥) where
-      pub walk-hit : {t : Bool} → t ≡ f (cur - 1) → t ≡ true → true ≡ any f m
-      walk-hit = left-hit hung f h k.inside l d
+    module _ {row : ℕ} (e : o ≡ Some row) where
+      some-left : link_of o ≡ 0 → ⊥
+      some-left z = omega (arith, ap link_of e)
 
-      module _ {x : ℕ} (e : x ≡ newest key (key (cur - 1)) (cur - 1)) where
-        pub walk-less : x < cur
-        walk-less = left_less hung f h k.inside l d e
+      back : link_of o - 1 ≡ row
+      back = omega (arith, ap link_of e)
 
-        pub walk-more : {t : Bool} → t ≡ f (cur - 1) → t ≡ false → Left key f m h x
-        walk-more = left-more hung f h k.inside l d e
+      pub walk-hit : {t : Bool} → t ≡ f row → t ≡ true → true ≡ any f m
+      walk-hit g = left-hit hung f h k.inside l some-left (rw back g)
+
+      module _ {x : ℕ} (g : x ≡ newest key (key row) row) where
+        pub walk-less : x < link_of o
+        walk-less = left_less hung f h k.inside l some-left (rw back g)
+
+        pub walk-more : {t : Bool} → t ≡ f row → t ≡ false → Left key f m h x
+        walk-more i = left-more hung f h k.inside l some-left (rw back g) (rw back i)
 
 -- ---- newest first
 

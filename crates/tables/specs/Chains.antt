@@ -1,5 +1,5 @@
 -- Chains of rows that share a key, in a table whose rows are only added: a link holds one more than an index, and 0 ends the chain. Assumes nothing.
-use Rattle.std.specs.Prelude.{◌≡◌, ℕ, zero, suc, ◌<◌, ◌≤◌, Bool, true, false, ◌&&◌, ◌||◌, ◌==◌, nat_le}
+use Rattle.std.specs.Prelude.{◌≡◌, ℕ, zero, suc, ◌<◌, ◌≤◌, Bool, true, false, ◌&&◌, ◌||◌, ◌==◌, nat_le, ◌+◌, Option, Some, None}
 use Rattle.spec.specs.Lists.{if}
 use Rattle.spec.specs.Rooms.{or_else}
 
@@ -7,6 +7,11 @@ use Rattle.spec.specs.Rooms.{or_else}
 unfoldable pub newest : (ℕ → ℕ) → ℕ → ℕ → ℕ
 newest key h zero = 0
 newest key h (suc m) = if (key m == h) (suc m) (newest key h m)
+
+-- a row as its link has it: one more than the row, and 0 for none
+abbrev pub link_of : Option ℕ → ℕ
+link_of None = 0
+link_of (Some i) = i + 1
 
 -- one more than the first index from i on, and below m, that has the key h; 0 if none has
 unfoldable pub following : (ℕ → ℕ) → ℕ → ℕ → ℕ → ℕ

@@ -1,7 +1,7 @@
-// Rows on chains by a key: a link holds one more than a row, and 0 ends the chain, as docs/LAYOUT.md has it in the lent bytes (no heap, fixed memory).
+// Rows on chains by a key: in the lent bytes a link holds one more than a row, and 0 ends the chain, as docs/LAYOUT.md has it (no heap, fixed memory).
 // "rows in order of insertion, searched"
 ghost use Rattle.std.specs.Prelude.{◌≡◌, ℕ, ◌<◌, Bool};
-ghost use Rattle.tables.specs.Chains.{newest, any, Keyed};
+ghost use Rattle.tables.specs.Chains.{newest, link_of, any, Keyed};
 
 // What is looked for among rows.
 pub trait Chain {
@@ -18,16 +18,16 @@ pub trait Chain {
     // What has to hold of the rows.
     ghost holds: { Self → Type 0 };
 
-    // The newest row on the chain of what is looked for.
-    fn newest(&self) -> usize
+    // The newest row on the chain of what is looked for, if there is one.
+    fn newest(&self) -> Option<usize>
         requires { holds self.now }
-        ensures { result ≡ newest (key self.now) (own self.now) (rows self.now) };
+        ensures { link_of result ≡ newest (key self.now) (own self.now) (rows self.now) };
 
-    // The row before one on its chain.
-    fn link(&self, row: usize) -> usize
+    // The row before one on its chain, if there is one.
+    fn link(&self, row: usize) -> Option<usize>
         requires held { holds self.now }
         requires below { row < rows self.now }
-        ensures { result ≡ newest (key self.now) (key self.now row) row };
+        ensures { link_of result ≡ newest (key self.now) (key self.now row) row };
 
     // Whether a row is what is looked for.
     fn fits(&self, row: usize) -> bool
@@ -43,8 +43,7 @@ pub fn found<C: Chain>(chain: &C) -> bool
     ensures { result ≡ any (C.hit chain.now) (C.rows chain.now) }
 {
     let mut cur = chain.newest();
-    while cur != 0 {
-        let row = cur - 1;
+    while let Some(row) = cur {
         cur = chain.link(row);
         if chain.fits(row) {
             return true;

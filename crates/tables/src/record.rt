@@ -60,15 +60,16 @@ impl Chain for PathLookup<'_> {
 
     ghost holds = { λ x. Seek x.path.p.now x.path.np x.w.now x.r.now x.q.now x.size x.buckets x.records x.sum };
 
-    fn newest(&self) -> usize {
+    fn newest(&self) -> Option<usize> {
         get32(
             self.w,
             BUCKETS * (self.size + 1) + BUCKET * bucket_of(self.sum, self.buckets),
         )
+        .checked_sub(1)
     }
 
-    fn link(&self, row: usize) -> usize {
-        get32(self.r, RECORD * row + LINK)
+    fn link(&self, row: usize) -> Option<usize> {
+        get32(self.r, RECORD * row + LINK).checked_sub(1)
     }
 
     fn fits(&self, row: usize) -> bool {

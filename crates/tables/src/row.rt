@@ -94,12 +94,12 @@ impl Chain for StateLookup<'_> {
 
     ghost holds = { λ x. Finds x.t.now x.s.now x.buckets x.rows x.seen x.sum };
 
-    fn newest(&self) -> usize {
-        get32(self.t, SEEN * bucket_of(self.sum, self.buckets) + HEAD)
+    fn newest(&self) -> Option<usize> {
+        get32(self.t, SEEN * bucket_of(self.sum, self.buckets) + HEAD).checked_sub(1)
     }
 
-    fn link(&self, row: usize) -> usize {
-        get32(self.t, SEEN * row + LINK)
+    fn link(&self, row: usize) -> Option<usize> {
+        get32(self.t, SEEN * row + LINK).checked_sub(1)
     }
 
     fn fits(&self, row: usize) -> bool {
