@@ -1,6 +1,6 @@
 // Marks, when an address was reached, and flags, whether its own sides have been followed or wait to be.
 // "`HashSet` of addresses: marks in W."
-// W and the code's length stay two parameters in all of these: but for `Found` of `entries`, who reads W holds it to write it too, so a struct of both would be made for each call (lib.rt).
+// W and the code's length stay two parameters: but for `Found` of `entries`, who reads W holds it to write it too, so a struct of both would be made for each call (lib.rt).
 ghost use Rattle.std.specs.Prelude.{◌≡◌};
 ghost use Rattle.spec.specs.Lists.{mem};
 ghost use Rattle.reachable.specs.Marks.{marked_by, flagged};
