@@ -40,6 +40,7 @@ fn opened(np: usize, position: usize, seen: Seen, level: Level) -> Level
 }
 
 // Whether the parent at `at` has one block, and that is on the path already.
+// W and the code's length stay two parameters: `enter` holds W to write it too, so a struct of shared slices would be made for each call.
 fn skipped(w: &[u8], size: usize, at: usize) -> bool
     requires { SkipAsks size w.now at }
     ensures { result ≡ skips w.now size at }
@@ -127,6 +128,7 @@ fn arrive(
 }
 
 // What is seen at the end of the path of np addresses: its last address, the symbol and the state taken, which stands after `used` cells.
+// P and np stay two parameters: the path is a part of a lent room (no heap, fixed memory), and a struct of both would be made for this one read.
 fn seen(p: &[u8], np: usize, taken: Taken, used: usize) -> Seen
     requires { (1 ≤ np) × (2 * np ≤ length p.now) }
     ensures { Saw p.now np taken used result }

@@ -5,6 +5,7 @@ ghost use Rattle.exec.specs.Modes.{mode_of, Decodes};
 
 use refusal::Refusal;
 
+// The document's two modes, neither the lack of the other: an Option would be no plainer.
 #[derive(Clone, Copy, PartialEq, Eq, Debug)]
 pub enum Mode {
     Plain,

@@ -124,6 +124,7 @@ fn keep(work: &mut [u8], rows: usize, edge: Edge, place: usize)
 }
 
 // Puts a block's distinct destinations into the index, and gives how many there are.
+// Map, `work` and rows stay apart: the index is being made, so there is no `Finder` of it yet.
 pub fn link(map: &[u8], work: &mut [u8], rows: usize, key: usize, named: Named) -> usize
     requires walking { Walking map.now named.at }
     requires owned { Owned map.now key named }

@@ -19,6 +19,7 @@ fn put_row(work: &mut [u8], start: usize, own: usize, slot: usize)
 }
 
 // Writes a row for each block into zeros, and its edges behind the rows; gives the number of rows, or none where a block starts beyond the last.
+// Map, `work` and rows stay apart: the index is being made, so there is no `Finder` of it yet.
 fn fill_rows(map: &[u8], work: &mut [u8], rows: usize) -> Option<usize>
     requires ready { Ready map.now }
     requires work_value { work.old ≡ replicate (length work.old) 0 }

@@ -1,6 +1,7 @@
 // The records become rows of edges, in place: start, destination of the edge, the path's last block, the record's own destination, room for two links, and
 // the end of the path.
 // "Pruning follows a dynamic entry only if its path's last block is reached too"
+// The buffers stay apart: W and Q are lent to be read, so they do not change by their types, which a struct of all three would have to promise.
 ghost use Rattle.std.specs.Prelude.{◌+◌, ◌*◌, ◌≤◌, ◌<◌, length};
 ghost use Rattle.layout.specs.Parts.{ROW, row_place};
 ghost use Rattle.layout.specs.Records.{RECORD, record_place};

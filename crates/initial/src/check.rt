@@ -16,6 +16,7 @@ use layout::row::{BlockType, END, ROW, put_block, type_at};
 use lent::{get16, put16};
 
 // The checks of every block, and how many blocks there are. Up to a block's end no other starts, so the next turn is behind it.
+// The loop counts no index: it goes on behind a block's end, and by 1 only where no block starts.
 pub fn check(code: &[u8], w: &mut [u8]) -> usize
     requires rows { Rows code.now w.old }
     requires apart { Apart (length code.now) 0 (blocks_at w.old (length code.now)) }
@@ -38,6 +39,7 @@ pub fn check(code: &[u8], w: &mut [u8]) -> usize
 }
 
 // Lists the start of the block that starts at `start` behind `many` others.
+// W and the code's length stay two parameters: `check` lends W to `check_row` in between, so a struct of both would be made for each block.
 fn list_row(w: &mut [u8], size: usize, start: usize, many: usize)
     requires listing { Listing size w.old start many }
     requires starts { tag_at w.old start ≡ 0 → ⊥ }

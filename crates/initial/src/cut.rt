@@ -63,6 +63,7 @@ fn turn(code: &[u8], w: &mut [u8], walking: Walking, prev: usize, pc: usize, op:
 }
 
 // A last open block is kept if its start is not beyond the last instruction.
+// W and the code's length stay two parameters: `cut` lends W to `turn` before, so a struct of both would be made for this one call.
 fn last(w: &mut [u8], size: usize, walking: Walking, prev: usize)
     requires { Standing size w.old walking prev size }
     ensures { Written size (blocks_at w.old size ++ last walking prev) w.old w.new }

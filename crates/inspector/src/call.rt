@@ -1,4 +1,5 @@
 // The inspector: "takes code and a map in our form".
+// Mode, code and map stay apart in `inspect_from` and `inspect`: a `Replay` is built only once a map is accepted, for `found`. W and rows: C interface.
 ghost use Rattle.std.specs.Prelude.{◌≤◌, length};
 ghost use Rattle.exec.specs.Modes.{mode_of};
 ghost use Rattle.inspector.specs.Symbols.{Lent};

@@ -44,6 +44,7 @@ pub fn start_of(entry: Result<Entry, Fault>) -> Option<usize>
 }
 
 // A path of `count` addresses at `at`, of the block at `block`, where it is asked of and has a destination.
+// `asked` is a fact that the result depends on, here and in `shown_in`: it chooses no step to run.
 fn shown_by(
     asked: bool,
     owner: usize,

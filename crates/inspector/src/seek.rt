@@ -1,5 +1,6 @@
 // The edges of a stored map, as they stand in its bytes.
 // "blocks joined by edges of that map"
+// `own`, `leads` and `mine` are facts that a result depends on: none chooses a step to run.
 ghost use Rattle.std.specs.Prelude.{◌≡◌, [], ◌∷◌};
 ghost use Rattle.spec.specs.Lists.{mem};
 ghost use Rattle.spec.specs.Search.{dest};

@@ -29,6 +29,7 @@ fn add_kept(found: &Found<'_>, begin: usize, start: usize, output: &mut Output<'
 }
 
 // All that are kept, along the list of their starts.
+// `entries` has the same walk: tried as one, but a closure that changes what it captures leaves the proof nothing of what was put.
 pub fn add_blocks(found: &Found<'_>, output: &mut Output<'_>)
     requires { (PutsBlocks found.now.size found.now.rows found.now.w.now found.now.r.now found.now.q.now output.old.end)
         × (Listed found.now.size found.now.w.now found.now.blocks) × (output.old.end ≤ 2 ^ 32) }

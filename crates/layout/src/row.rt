@@ -93,6 +93,7 @@ fn type_of(kind: usize, to: usize, other: usize) -> Option<BlockType>
 }
 
 // Writes the block that starts at `start`.
+// `end` is where the block's last instruction stands, which the row says: it is no length of W.
 pub fn put_block(w: &mut [u8], start: usize, end: usize, block: BlockType)
     requires { row_place start + BLOCK ≤ length w.old }
     ensures { Put w.old start end block w.new }

@@ -1,5 +1,6 @@
 // Little-endian numbers, by one function over the width: the compiler makes one load or store of it, and one law proves all.
 // "Output entries: ... little-endian."
+// A number stands at a place of a lent room, so all of these take both (no heap, fixed memory).
 ghost use Rattle.std.specs.Prelude.{◌+◌, ◌≤◌, length};
 ghost use Rattle.spec.specs.Lists.{little};
 ghost use Rattle.lent.specs.Bytes.{Holds, Stored};

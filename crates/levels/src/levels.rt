@@ -29,6 +29,7 @@ fn spend(run: &mut Run)
 }
 
 // Is the parent at `at` one "whose path's last block is then reached", when the level opened with `opened` records?
+// W, R, Q and the code's length stay apart: `level` holds the buffers to write them too, so a struct of shared slices would be made for each call.
 fn reached_then(w: &[u8], r: &[u8], q: &[u8], size: usize, at: usize, opened: usize) -> bool
     requires { (Asks r.now q.now at) × (Address size w.now (last_cursor r.now q.now at)) × (opened + 1 < 2 ^ 64) }
     ensures { result ≡ marked_by w.now size (last_cursor r.now q.now at) (opened + 1) }

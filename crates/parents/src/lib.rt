@@ -16,6 +16,7 @@ use initial::start_at;
 
 // Prepares every block, in a mode, from the last to the first, so that each address's parents come out in address order, and the blocks that take turns
 // against it; gives how many take turns. The list of the `blocks` starts leads to them, so that no row is read to see whether a block starts there.
+// W and `end`, here and in `prepare_row`: the part for runs is W's own bytes, and no slice of it, since places in it are W's (no heap, fixed memory).
 pub fn prepare(mode: Mode, code: &[u8], w: &mut [u8], end: usize, blocks: usize) -> usize
     requires lent { Lent code.now w.old end }
     requires lent_starts { LentStarts code.now w.old end blocks }

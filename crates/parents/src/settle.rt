@@ -16,6 +16,7 @@ use lent::get16;
 use state::sym::StackSym;
 
 // Settles the block at `start`, in a mode, if a dynamic one starts there; gives how many take turns from there on.
+// W and `end`: the part for runs is W's own bytes, and no slice of it, since places in it are W's (no heap, fixed memory).
 pub fn settle(mode: Mode, code: &[u8], w: &mut [u8], end: usize, start: usize, many: usize) -> usize
     requires { Settles code.now w.old end start many }
     ensures { Settled (mode_of mode) code.now w.old end start many w.new result }

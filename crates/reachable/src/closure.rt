@@ -1,5 +1,6 @@
 // The closure of what is reached under static sides.
 // "A destination found counts as reached for parents at once; the rest of the reached set grows when the round ends."
+// W and the code's length stay two parameters in all three: W is lent to others in between, so a struct of both would be made anew at each call (lib.rt).
 ghost use Rattle.reachable.specs.Promises.{Room, SidesWithin, Took, Expands, Expanded, Reaches};
 
 use crate::fields::begin;

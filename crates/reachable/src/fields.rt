@@ -1,5 +1,6 @@
 // Marks, when an address was reached, and flags, whether its own sides have been followed or wait to be.
 // "`HashSet` of addresses: marks in W."
+// W and the code's length stay two parameters: but for `Found` of `entries`, who reads W holds it to write it too, so a struct of both would be made for each call (lib.rt).
 ghost use Rattle.std.specs.Prelude.{◌≡◌};
 ghost use Rattle.spec.specs.Lists.{mem};
 ghost use Rattle.reachable.specs.Marks.{marked_by, flagged};
@@ -30,6 +31,7 @@ pub fn is_marked(w: &[u8], size: usize, address: usize, by: usize) -> bool
 }
 
 // Have the sides of the address been followed, or do they wait to be?
+// `steps::path::on_path` is alike by its length alone: it reads another field, of another width, with a law of its own, so one function for both would be no plainer.
 pub fn is_flagged(w: &[u8], size: usize, address: usize) -> bool
     requires { Address size w.now address }
     ensures { result ≡ mem address (flagged w.now size) }

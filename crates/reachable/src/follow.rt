@@ -1,5 +1,6 @@
 // The worklist, and what is followed from one address.
 // "`HashSet` of addresses: marks in W."
+// W and the code's length stay two parameters in all of these: W is lent to others in between, so a struct of both would be made anew at each call (lib.rt).
 ghost use Rattle.std.specs.Prelude.{◌≡◌, [], ◌∷◌, ◌+◌, ◌*◌, ◌-◌, ◌≤◌, ◌<◌, option_to_list};
 ghost use Rattle.spec.specs.Lists.{little};
 ghost use Rattle.lent.specs.Bytes.{Stored};

@@ -1,5 +1,6 @@
 // The highest direct parent of each address that is marked, as a link: no direct parent past it is.
 // "for every static side (equal sides once), of a DynamicJumpi the false side only."
+// W and the code's length stay two parameters, in `highest` too: who reads W holds it to write it too, so a struct of both would be made for each call (lib.rt).
 ghost use Rattle.std.specs.Prelude.{◌≡◌, [], ◌∷◌, ◌≤◌, option_to_list};
 ghost use Rattle.layout.specs.Fields.{high_at};
 ghost use Rattle.reachable.specs.Edges.{sides_at};

@@ -1,6 +1,7 @@
 // Rows of edges in a lent buffer, 32 bytes each, linked by their place and by their witness. A link, as the first row of a key, is a row's number and 1
 // more, and 0 for none.
 // "Pruning follows a dynamic entry only if its path's last block is reached too"
+// W and the code's length stay two parameters, in `first_link` and `first_row` too: who reads W holds it to write it too, so a struct of both would be made for each call (lib.rt).
 ghost use Rattle.std.specs.Prelude.{◌≡◌, ◌+◌, ◌*◌, ◌-◌, ◌≤◌, ◌<◌, length};
 ghost use Rattle.layout.specs.Edges.{link_at};
 ghost use Rattle.layout.specs.Fields.{head_at};
@@ -17,6 +18,7 @@ use layout::row::ROW;
 use lent::{get16, get32, put32};
 
 // What rows are linked by.
+// Neither is the lack of the other, so an Option would be no plainer.
 #[derive(Clone, Copy)]
 pub enum By {
     Place,

@@ -1,5 +1,6 @@
 // Pruning's closure: static sides, and rows of edges that lead on only when their place and their witness are both reached.
 // "Pruning follows a dynamic entry only if its path's last block is reached too, and never follows the true side of DynamicJumpi."
+// W, the code's length, R and the rows' number stay apart: W is lent to others in between, so a struct would be made anew at each call (lib.rt).
 ghost use Rattle.std.specs.Prelude.{◌≡◌, []};
 ghost use Rattle.reachable.specs.Keys.{offset_of};
 ghost use Rattle.reachable.specs.Marks.{flagged};

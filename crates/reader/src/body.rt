@@ -1,5 +1,6 @@
 // A body of `long` bytes from `at` on, as the kind has it; or its length is another than the kind says.
 // "bodies longer or shorter than their kind says are bad"
+// `wide` tells the family of the map's numbers, a fact that a result depends on: it chooses no step to run.
 ghost use Rattle.std.specs.Prelude.{◌≡◌, ◌+◌, ◌≤◌, length, take, drop};
 ghost use Rattle.spec.specs.Entries.{absent};
 ghost use Rattle.spec.specs.Forms.{HEAD, BLOCK, WAY, RECORD, TERMINATE, JUMP, JUMPI, DYNAMIC-JUMP, DYNAMIC-JUMPI};
@@ -26,6 +27,7 @@ pub fn head(map: &[u8], at: usize, long: usize) -> Result<Entry, Fault>
 }
 
 // Kind 2: start, end, success.
+// `dynamic_jump` is alike by its length alone: another length is due, and another field is read, so one function for both would be no plainer.
 pub fn terminate(map: &[u8], at: usize, long: usize) -> Result<Entry, Fault>
     requires { at + long ≤ length map.now }
     ensures { result ≡ shape at (BLOCK TERMINATE) (take long (drop at map.now)) }
@@ -72,6 +74,7 @@ pub fn jumpi(map: &[u8], at: usize, long: usize) -> Result<Entry, Fault>
 }
 
 // Kind 5: start, end, count.
+// `terminate` is alike by its length alone, as is said there.
 pub fn dynamic_jump(map: &[u8], at: usize, long: usize) -> Result<Entry, Fault>
     requires { at + long ≤ length map.now }
     ensures { result ≡ shape at (BLOCK DYNAMIC-JUMP) (take long (drop at map.now)) }

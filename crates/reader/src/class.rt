@@ -108,6 +108,7 @@ fn after_way(order: Order) -> Option<Order>
 }
 
 // A record, where no 7 is left to come. "After one of 8 and 9 the other is a bad entry".
+// `numbered` is a fact that the result depends on: it chooses no step to run.
 fn after_record(order: Order, numbered: bool) -> Option<Order>
     ensures { result ≡ record_step numbered order }
 {

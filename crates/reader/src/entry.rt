@@ -61,6 +61,7 @@ pub enum Entry {
 }
 
 // What is wrong with an entry by itself: its kind is not known, its body is "longer or shorter than" its kind says, or it is cut.
+// Three faults, the error of a Result, and none the lack of another.
 #[derive(Clone, Copy)]
 pub enum Fault {
     Unknown,

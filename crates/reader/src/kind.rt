@@ -83,6 +83,7 @@ fn path_sort(wide: bool, kind: usize) -> Option<Sort>
 }
 
 // What an entry of a kind is in a family: a kind of the other is as one that is not known.
+// No derive or conversion computes it: what a number says depends on the family beside it.
 pub fn sort_of(wide: bool, kind: usize) -> Option<Sort>
     ensures { sort_of wide result ≡ sort wide kind }
 {

@@ -1,4 +1,5 @@
 // The run of 7s, counted once, where the scan stops; in the second family of kinds 10 stands for 7.
+// `wide` tells the family of the map's numbers, a fact that a result depends on: it chooses no step to run.
 ghost use Rattle.std.specs.Prelude.{◌≡◌, ◌≤◌, length};
 ghost use Rattle.spec.specs.Forms.{sort, wide_in};
 ghost use Rattle.spec.specs.Reader.{sevens};

@@ -10,6 +10,7 @@ use crate::merge::NUMBERS;
 use reader::{BadEntry, Head, Scan, begin, entry_at, last, one};
 
 // At the end: the reader's last judgement, and then the block at hand. Of a map that is refused what was counted is dropped.
+// The head's counts stay two numbers, as `reader::last` takes them: a `Head` has the energy and a place too, which are not judged.
 fn closed(
     scan: Scan,
     blocks: usize,

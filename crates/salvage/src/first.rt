@@ -1,5 +1,6 @@
 // The first map of an archive, judged in one pass: the reader's scan, which stops where the head's counts say.
 // "A map ends where its head's counts say."
+// The head's counts stay two numbers in `over` and `closed`, as in `reader::last`: a `Head` has the energy and a place too, which are not judged.
 ghost use Rattle.std.specs.Prelude.{◌≡◌, length};
 ghost use Rattle.spec.specs.Reader.{read};
 ghost use Rattle.spec.specs.Salvage.{first_map};

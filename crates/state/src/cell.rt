@@ -1,5 +1,6 @@
 // A symbol in nine bytes: a tag, and the number, little-endian.
 // "S: 9 bytes a symbol"
+// A cell stands at a place of a lent room, so `get_cell` and `put_cell` take both (no heap, fixed memory).
 ghost use Rattle.std.specs.Prelude.{◌≡◌, ◌+◌, ◌≤◌, ◌<◌, length};
 ghost use Rattle.state.specs.Symbols.{sym_of};
 ghost use Rattle.state.specs.Cells.{tag, value, sym_at, symbol, Put};

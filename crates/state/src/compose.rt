@@ -38,6 +38,7 @@ fn resolved(bytes: &[u8], parent: usize, lower: usize, symbol: StackSym) -> Stac
 }
 
 // Where the parent's state lies: in a buffer of its own, into which it was run, or in that of the child, where it is kept.
+// `Here` is a place too, and no lack of one, so an Option would be no plainer.
 #[derive(Clone, Copy)]
 pub enum Home<'a> {
     Apart(&'a [u8]),

@@ -1,5 +1,6 @@
 // Reading a stored state.
 // "Before(n) is the word at depth n on entry, top 0; below the stored stack the numbering goes on by one."
+// A state is so many cells from a place of a lent room on, so bytes, place and count stand beside one another (no heap, fixed memory).
 ghost use Rattle.std.specs.Prelude.{◌≡◌};
 ghost use Rattle.spec.specs.Stacks.{read};
 ghost use Rattle.state.specs.Symbols.{sym_of};

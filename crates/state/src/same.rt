@@ -20,6 +20,7 @@ fn same_cell(bytes: &[u8], one: usize, other: usize) -> bool
 }
 
 // Whether the states in so many cells from `one` on and from `other` on are the same.
+// No derive computes it: the states are cells of lent bytes, and no values of a type (no heap, fixed memory).
 pub fn same_state(bytes: &[u8], one: usize, other: usize, cells: usize) -> bool
     requires { TwoStates bytes.now one other cells }
     ensures { result ≡ eq_stack (stack_at bytes.now one cells) (stack_at bytes.now other cells) }

@@ -1,5 +1,6 @@
 // The parents of a block, one after the other: a number below `FOUND` is a link to a direct parent, any other a found one's record, and 0 is the end.
 // "Its parents are fixed when it opens: those then stored for its block whose path's last block is then reached, in the order first stored."
+// W and the code's length stay two parameters: a level holds W to write it too, so a struct of shared slices would be made for each call.
 ghost use Rattle.std.specs.Prelude.{◌≡◌, ◌^◌, ◌<◌};
 ghost use Rattle.layout.specs.Fields.{first_found_at};
 ghost use Rattle.steps.specs.Cursors.{clipped, up_to, first_cursor, next_cursor, last_cursor, AtBlock, Cursor, Asks};

@@ -11,6 +11,7 @@ use refusal::Shortage;
 use tables::{Counts, Entry, record_entry};
 
 // Marks a destination found and raises its sides, so that a level which opens from now on finds it among their parents.
+// W and the code's length stay two parameters: `land` lends W to `record_entry` before, so a struct of both would be made for this one call.
 fn mark_found(w: &mut [u8], size: usize, to: usize, when: usize)
     requires address { Address size w.old to }
     requires sides_within { SidesWithin w.old size }

@@ -1,5 +1,6 @@
 // The path in hand, in P: growing it by a parent's path, and how often each address is on it, in W.
 // "A one-block parent already on the path is skipped. ... The path grows (room P)."
+// W and the code's length stay two parameters in `on_path`, `count` and `uncount`: W is lent to others in between, so a struct of both would be made anew at each call.
 ghost use Rattle.std.specs.Prelude.{◌≡◌, not, eqb};
 ghost use Rattle.layout.specs.Fields.{count_at};
 ghost use Rattle.reachable.specs.Promises.{Address};
@@ -16,6 +17,7 @@ use refusal::Shortage;
 use tables::end_before;
 
 // Puts the path of the parent at `at` behind the np addresses in hand; gives how many there are then.
+// P and np stay two parameters: the path is a part of a lent room, which it grows into (no heap, fixed memory).
 pub fn grow(
     p: &mut [u8],
     r: &[u8],
@@ -44,6 +46,7 @@ pub fn grow(
 }
 
 // Whether an address is on the path in hand.
+// `reachable::is_flagged` is alike by its length alone: it reads another field, of another width, with a law of its own, so one function for both would be no plainer.
 pub fn on_path(w: &[u8], size: usize, address: usize) -> bool
     requires { Address size w.now address }
     ensures { result ≡ not (eqb (count_at w.now size address) 0) }

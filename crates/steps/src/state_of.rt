@@ -126,6 +126,7 @@ fn kept_before(r: &[u8], row: usize) -> usize
 }
 
 // Reads the symbol of the parent at `at` that the level asks for, and composes the level's state with the parent's, right after the cells in use.
+// The buffers stay apart, as in `take_direct` and `take_found`: P, Q and T are not lent, so they stay as they are by that alone. Plan, counts and level are structs already.
 pub fn take_state(
     code: &[u8],
     w: &mut [u8],

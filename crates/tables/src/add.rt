@@ -56,6 +56,7 @@ fn keep_state(s: &mut [u8], room: usize, kept: usize, from: usize, cells: usize)
 }
 
 // Appends a record of the path in hand, whose sum is given, where there is room for it.
+// The buffers stay apart, as in `record_entry`; so do the code's length and the buckets' number, since either is used by itself too (`link_parent`, `bucket_of`).
 pub fn add_record(
     w: &mut [u8],
     path: &PathInHand<'_>,

@@ -1,5 +1,6 @@
 // A new record's row in R, and the links that lead to it: from its bucket, and from the found parents of its destination.
 // "rows in order of insertion, searched"; and of the record's number: "It is kept in the R row from the moment of recording".
+// W and the code's length stay two parameters: W is lent to the lookup before, so a struct of both would be made for each record. The buckets' number goes alone (`bucket_of`).
 ghost use Rattle.std.specs.Prelude.{◌+◌, ◌*◌, ◌≤◌, length};
 ghost use Rattle.lent.specs.Bytes.{Stored};
 ghost use Rattle.layout.specs.Records.{RECORD, record_place, R-NEXT};

@@ -56,6 +56,7 @@ pub fn begin_rows(t: &mut [u8], buckets: usize)
 }
 
 // Empties the buckets that the rows of a turn are in.
+// T and its rows stay two parameters: the rows in use are a part of a lent room (no heap, fixed memory).
 pub fn forget(t: &mut [u8], buckets: usize, rows: usize)
     requires { Shelves buckets t.old rows }
     ensures { Emptied buckets t.old t.new }

@@ -32,6 +32,7 @@ fn shortage(rooms: Rooms, counts: Counts, np: usize, cells: usize) -> Result<(),
 
 // Records the path in hand with the entry's destination and its state, which is kept, or with no destination, unless it is so recorded. A refusal leaves all as it was.
 // The buffers stay apart: what is lent to read, or not lent at all as T, does not change by its type, which a struct of all six would have to promise.
+// The code's length and the buckets' number stay two parameters: either is used by itself too (`link_parent`, `bucket_of`), so a struct of both would be opened again.
 pub fn record_entry(
     w: &mut [u8],
     p: &[u8],

@@ -125,6 +125,7 @@ impl Chain for StateLookup<'_> {
 }
 
 // Whether one of the rows remembers `seen`, whose sum is given.
+// T and its rows stay two parameters: the rows in use are a part of a lent room (no heap, fixed memory).
 pub fn find_row(s: &[u8], t: &[u8], buckets: usize, rows: usize, seen: Seen, sum: usize) -> bool
     requires { Finds t.now s.now buckets rows seen sum }
     ensures { result ≡ any (is_met t.now s.now (seen_met s.now seen)) rows }
