@@ -1,5 +1,6 @@
--- resolver.rs, lines 48 to 71 and 148 to 183: whatever the caches `states`, `deep_states` and `replayed_paths` hold, what a block is given is its own stack,
--- and what a path is given is what its blocks compose to. Nothing panics. Assumes nothing.
+-- resolver.rs, lines 48 to 71 and 148 to 183: where every value in the caches `states`, `deep_states` and `replayed_paths` is the right one (`Cached`), what a
+-- block is given is its own stack, and what a path is given is what its blocks compose to. Nothing panics, and the caches stay right (`Beside`); in a run they
+-- begin so (`cached0` in Same). Assumes nothing.
 use Prim.Native.Nat.{ℕ, zero, suc, ◌+◌}
 use native.Mathlib.Omega.{arith}
 use native.Mathlib.Nat.{le_refl, add-zero, zero-add}

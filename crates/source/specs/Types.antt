@@ -13,7 +13,7 @@ pub use Rattle.spec.specs.Json.{Way as Dynamic, BlockType, Terminate, Jump, Jump
 abbrev pub rust_block : ℕ → ℕ → ℕ → BlockType → RustBlock
 rust_block i s e t = record { id = i; start = s; end = e; btype = t }
 
--- line 35: `block.btype = t`
+-- line 35: the field `btype`, set
 abbrev pub with_type : BlockType → RustBlock → RustBlock
 with_type t b = rust_block b.id b.start b.end t
 
