@@ -24,6 +24,7 @@ pub struct Written {
 }
 
 // Writes both, where both have room. "11, text room short, last": the entries are counted before it is answered; a refusal leaves both as they were.
+// `Found` is built here, behind the `?`, as in `put`.
 fn put_both(
     w: &[u8],
     r: &[u8],

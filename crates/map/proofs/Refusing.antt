@@ -1,5 +1,5 @@
 -- When the program refuses what is typed, and the line that says so. Assumes nothing.
-use mathlib.Core.Path.{◌≡◌, refl, ◌∙◌, ap, sym}
+use mathlib.Core.Path.{◌≡◌, refl, ◌∙◌, ap, sym, subst}
 use mathlib.Core.Bool.{Bool, true, false}
 use mathlib.Core.List.{List, [], ◌∷◌}
 use mathlib.Core.Option.{Option, none, some}
@@ -14,6 +14,10 @@ use Rattle.spec.specs.Lists.{little}
 use Rattle.spec.specs.Answer.{answer}
 use Rattle.spec.specs.Program.{digit, pair, decoded, prints, says_refused, decimal, lends, runs_on, program}
 use Rattle.laws.proofs.Branch.{both, if-true, if-false}
+use Rattle.refusal.specs.Numbers.{number_of}
+use Rattle.refusal.specs.declared.Refusal.{Refusal}
+use Rattle.refusal.specs.declared.Refusal.TheVariants.{Code, Limit, Work, Room, Output, Input, Text, Entry, Mode, Log, Counts, Total, Path, Archive}
+use Rattle.refusal.specs.declared.Shortage.TheVariants.{P, S, T, R, Q}
 use Rattle.lent.specs.Bytes.{Stored}
 use Rattle.lent.proofs.Stored.{stored-join}
 
@@ -71,14 +75,14 @@ first-decide text = by_length (ltb 1025 (length text)) refl
 -- ---- the line
 
 module _ (n : ℕ) {b b₁ b₂ : List ℕ} where
-  pub says-one : n < 10 → Stored 8 b 0 (little 8 0x2064657375666572) b₁ → Stored 2 b₁ 8 (little 2 (0x0A30 + n)) b₂ → Stored 10 b 0 (says_refused n) b₂
+  says-one : n < 10 → Stored 8 b 0 (little 8 0x2064657375666572) b₁ → Stored 2 b₁ 8 (little 2 (0x0A30 + n)) b₂ → Stored 10 b 0 (says_refused n) b₂
   says-one h s t =
       let low : (0x0A30 + n) % 256 ≡ 0x30 + n = omega arith in
       let high : (0x0A30 + n) / 256 ≡ 0x0A = omega arith in
       let one : decimal n ≡ (0x30 + n) ∷ [] = if-true _ _ _ (lt-ltb n 10 h) in
       rw one (stored-join s (rw (low, high) at t))
 
-  pub says_two : {b₃ : List ℕ} → n < 100 → 10 ≤ n → Stored 8 b 0 (little 8 0x2064657375666572) b₁
+  says_two : {b₃ : List ℕ} → n < 100 → 10 ≤ n → Stored 8 b 0 (little 8 0x2064657375666572) b₁
       → Stored 2 b₁ 8 (little 2 (0x3030 + n / 10 + 256 * (n % 10))) b₂ → Stored 1 b₂ 10 (little 1 0x0A) b₃ → Stored 11 b 0 (says_refused n) b₃
   says_two g h s t u =
       let low : (0x3030 + n / 10 + 256 * (n % 10)) % 256 ≡ 0x30 + n / 10 = omega arith in
@@ -86,3 +90,32 @@ module _ (n : ℕ) {b b₁ b₂ : List ℕ} where
       let byte : (0x30 + n % 10) % 256 ≡ 0x30 + n % 10 = omega arith in
       let two : decimal n ≡ (0x30 + n / 10) ∷ (0x30 + n % 10) ∷ [] = if-false _ _ _ (le-ltb n 10 h) in
       rw two (stored-join (stored-join s (rw (low, high, byte) at t)) u)
+
+-- a refusal's number has two digits at most
+number-small : (r : Refusal) → number_of r < 100
+number-small Code = omega arith
+number-small Limit = omega arith
+number-small Work = omega arith
+number-small (Room P) = omega arith
+number-small (Room S) = omega arith
+number-small (Room T) = omega arith
+number-small (Room R) = omega arith
+number-small (Room Q) = omega arith
+number-small Output = omega arith
+number-small Input = omega arith
+number-small Text = omega arith
+number-small (Entry _) = omega arith
+number-small Mode = omega arith
+number-small Log = omega arith
+number-small Counts = omega arith
+number-small Total = omega arith
+number-small (Path _) = omega arith
+number-small Archive = omega arith
+
+module _ (r : Refusal) {k : ℕ} (is : k ≡ number_of r) {b b₁ b₂ : List ℕ} where
+  pub refusal-one : k < 10 → Stored 8 b 0 (little 8 0x2064657375666572) b₁ → Stored 2 b₁ 8 (little 2 (0x0A30 + k)) b₂ → Stored 10 b 0 (says_refused (number_of r)) b₂
+  refusal-one h s t = subst (λ (n : ℕ). Stored 10 b 0 (says_refused n) b₂) is (says-one k h s t)
+
+  pub refusal-two : {b₃ : List ℕ} → 10 ≤ k → Stored 8 b 0 (little 8 0x2064657375666572) b₁
+      → Stored 2 b₁ 8 (little 2 (0x3030 + k / 10 + 256 * (k % 10))) b₂ → Stored 1 b₂ 10 (little 1 0x0A) b₃ → Stored 11 b 0 (says_refused (number_of r)) b₃
+  refusal-two {b₃} h s t u = subst (λ (n : ℕ). Stored 11 b 0 (says_refused n) b₃) is (says_two k (omega (arith, number-small r, is)) h s t u)

@@ -1,9 +1,11 @@
 // From the answer to what is printed.
 // "prints each entry as lowercase hex on a line, or `refused N`"
+// By places, not by `output::Output`: the room is known before, and a promise by `Output` holds only where that is carried beside it, so it would be no plainer.
 ghost use Rattle.std.specs.Prelude.{◌+◌, ◌*◌, ◌≤◌, ◌<◌, length, take, drop};
 ghost use Rattle.spec.specs.Lists.{gather};
 ghost use Rattle.spec.specs.Program.{hex, line, says_refused};
 ghost use Rattle.lent.specs.Bytes.{Stored};
+ghost use Rattle.refusal.specs.Numbers.{number_of};
 ghost use Rattle.answer.specs.Told.{told};
 ghost use Rattle.map.specs.Promises.{Spells, PutsHex, Lists, Lined, Shows, Prints};
 
@@ -67,10 +69,11 @@ pub fn put_lines(raw: &[u8], count: usize, out: &mut [u8]) -> usize
 }
 
 // The line of a refusal; gives where it ends.
-pub fn put_refused(number: usize, out: &mut [u8]) -> usize
-    requires { (number < 100) × (11 ≤ length out.old) }
-    ensures { Stored result out.old 0 (says_refused number) out.new }
+pub fn put_refused(refusal: Refusal, out: &mut [u8]) -> usize
+    requires { 11 ≤ length out.old }
+    ensures { Stored result out.old 0 (says_refused (number_of refusal)) out.new }
 {
+    let number = refusal.number();
     // `refused` and a space, the first character in the lowest byte
     put64(out, 0, 0x2064_6573_7566_6572);
     if number < 10 {
@@ -89,6 +92,6 @@ pub fn put_answer(answer: Result<usize, Refusal>, raw: &[u8], out: &mut [u8]) ->
 {
     match answer {
         Ok(written) => put_lines(raw, written, out),
-        Err(refusal) => put_refused(refusal.number(), out),
+        Err(refusal) => put_refused(refusal, out),
     }
 }

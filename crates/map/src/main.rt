@@ -22,7 +22,7 @@ fn render(out: &mut [u8], text: &[u8]) -> usize
 {
     let mut code = [0u8; 512];
     let Some(size) = decode(&mut code, text) else {
-        return put_refused(Refusal::Input.number(), out);
+        return put_refused(Refusal::Input, out);
     };
     put_code(&code[..size], out)
 }
