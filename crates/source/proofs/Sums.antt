@@ -1,6 +1,6 @@
 -- How large the numbers of a stack can be: its base, the position that any of its symbols names, and how many symbols it spells out. A block's own run raises each by
--- at most 17 an instruction, and composing adds them up; so a path's stack has at most 17 times the code's length for each of its blocks. In an answered run all
--- numbers that the Rust adds are far below 2^64. Assumes nothing.
+-- at most 17 an instruction, and composing adds them up; so a path's stack has at most 17 times the code's length for each of its blocks. In an answered run what
+-- bounds these is far below 2^64; that each line of the seven files adds only such numbers is read, line by line, in docs/SOURCE.md. Assumes nothing.
 use Prim.Native.Nat.{ℕ, zero, suc, ◌+◌, ◌*◌, ◌/◌, ◌^◌, ◌≤◌}
 use native.Mathlib.Omega.{arith}
 use Rattle.std.proofs.Math.Nat.{mul-suc, mul-add, mul-le-mul, min-le_right}
@@ -326,7 +326,7 @@ need-held none_asked n i = elim i [ ]
 need-held (one_more h f) n here = h
 need-held (one_more h f) n (there i) = need-held f n i
 
--- The numbers that the seven files add, each by its bound: a place and a size, or a place and an argument's length, are at most the code's length and 33; a path
+-- What bounds the numbers that the seven files add, as docs/SOURCE.md reads them: a place and a size, or a place and an argument's length, are at most the code's length and 33; a path
 -- that is tried notes its length as a need of P; a stack of such a path has its base, its Befores and its length within 2^50; energy.
 pub record Small (code : List ℕ) (s : St) : Type 0 where
   pub places : length code ≤ 49152
@@ -334,7 +334,7 @@ pub record Small (code : List ℕ) (s : St) : Type 0 where
   pub stacks : {path : List ℕ} {t : Stack} → Along row code path t → length path ≤ 2 ^ 30 → Within (2 ^ 50) t
   pub energy : s.energy ≤ 500256
 
--- So each of their sums, of two such numbers and 34 at most, is below 2^52.
+-- A sum of two such numbers and 34 at most is below 2^52.
 pub answered-small : (l : Lent) (choice : ℕ) (code : List ℕ) (a : Map) → answer (in_mode 0) l 500000 choice code ≡ answered a → Small code (searched (in_mode 0) 500000 code)
 unfolding searched
 answered-small l choice code a e =
