@@ -27,8 +27,8 @@ use Rattle.steps.specs.declared.plan.Plan.{Plan}
 use Rattle.steps.specs.declared.Level.{Level}
 use Rattle.steps.specs.Goings.{Gone}
 use Rattle.steps.specs.declared.state_of.Taken.{Taken}
+use Rattle.steps.specs.declared.state_of.Untaken.{Untaken}
 use Rattle.std.specs.Prelude.{Ok, Err}
-use Rattle.refusal.specs.declared.Shortage.{Shortage}
 use Rattle.refusal.specs.Numbers.{short_number}
 use Rattle.steps.proofs.Sound.{sound-read}
 use Rattle.enter.proofs.TurnKept.{fits-within, fits-taken, fits-met}
@@ -41,8 +41,8 @@ module _ {code : List ℕ} {k : Plan} {start : ℕ} {l : Level} {at np : ℕ} {w
       (buffers w p s t r q) o m' e
 
   -- S is short
-  pub followed-short : {w' s' : List ℕ} {e : Shortage} → Took code w s k o.counts l (stack_cursor (mode_in k) code r s k.rooms.s at) w' s' (Err e)
-      → Followed code k start l at np (buffers w p s t r q) o (buffers w' p s' t r q) (shut_with (refused_with o (short_number e)) l)
+  pub followed-short : {w' s' : List ℕ} {e : Untaken} → Took code w s k o.counts l (stack_cursor (mode_in k) code r s k.rooms.s at) w' s' (Err e)
+      → Followed code k start l at np (buffers w p s t r q) o (buffers w' p s' t r q) (shut_with (refused_with o (short_number e.short)) l)
   followed-short a turn since b fits = follow-short h a turn since b fits refl
 
   module _ {w' s' : List ℕ} {x : Taken} (a : Took code w s k o.counts l (stack_cursor (mode_in k) code r s k.rooms.s at) w' s' (Ok x)) {y : Seen} (saw : Saw p np x o.counts.used y) where

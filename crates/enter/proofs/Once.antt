@@ -3,7 +3,7 @@
 -- said of two memories that hold one state of document 01 serves the level too. Assumes nothing.
 use mathlib.Core.Path.{◌≡◌, refl, sym, ap, ◌∙◌}
 use mathlib.Core.Logic.{◌⊎◌, inl, inr}
-use mathlib.Core.Bool.{Bool, true, false, ◌||◌}
+use mathlib.Core.Bool.{Bool, true, false, ◌||◌, true≢false}
 use mathlib.Core.List.{List, [], ◌∷◌}
 use Prim.Native.Nat.{ℕ, suc, ◌+◌, ◌*◌, ◌≤◌}
 use native.Mathlib.Omega.{arith}
@@ -40,9 +40,14 @@ use Rattle.steps.specs.Paths.{OnPath}
 use Rattle.steps.specs.Runs.{tabled, recs_in, st_of, Did}
 use Rattle.steps.specs.declared.plan.Plan.{Plan}
 use Rattle.steps.specs.declared.Level.{Level}
+use Rattle.std.specs.Prelude.{Option, Some, None, Result, Ok, Err}
+use Rattle.refusal.specs.declared.Shortage.{Shortage}
+use Rattle.tables.proofs.Shorts.{short-some}
 use Rattle.steps.specs.Goings.{Gone}
+use Rattle.steps.specs.declared.Run.{Run}
+use Rattle.steps.proofs.Once.{short-same}
 use Rattle.enter.specs.Fits.{Fits, level_of, held, Stays}
-use Rattle.enter.specs.Enters.{Opening, onward, Opens, Outcome, Entered}
+use Rattle.enter.specs.Enters.{Opening, opening_of, onward, Opens, Outcome, Entered}
 use Rattle.enter.proofs.TurnKept.{mets-length}
 
 -- ---- what is done from one state has one number, and where that is 0 one state
@@ -314,3 +319,22 @@ module _ {code : List ℕ} {k : Plan} {start : ℕ} (at : ℕ) {l : Level} {m m'
               rw (sym one-level) at (ap (λ (x : search.Level). x.state) (level-told p)) in
               one_lies here (rw (sym one-level, sym same) at there);
         }
+
+-- ---- what `enter` answers: of its result `opening_of` tells whether a level opens, the level, and the number of a shortage
+
+opening-same : (o u : Run) (l : Level) (x y : Result (Option Level) Shortage) → (opening_of o l x).opens ≡ (opening_of u l y).opens
+    → (opening_of o l x).run.code ≡ (opening_of u l y).run.code → (opening_of o l x).level ≡ (opening_of u l y).level → x ≡ y
+opening-same o u l (Ok None) (Ok None) p q r = refl
+opening-same o u l (Ok None) (Ok (Some y)) p q r = absurd (true≢false (sym p))
+opening-same o u l (Ok (Some x)) (Ok None) p q r = absurd (true≢false p)
+opening-same o u l (Ok (Some x)) (Ok (Some y)) p q r = ap (λ (l : Level). Ok (Some l)) r
+opening-same o u l (Ok None) (Err y) p q r = absurd (short-some y (sym q))
+opening-same o u l (Ok (Some x)) (Err y) p q r = absurd (short-some y (sym q))
+opening-same o u l (Err x) (Ok None) p q r = absurd (short-some x q)
+opening-same o u l (Err x) (Ok (Some y)) p q r = absurd (short-some x q)
+opening-same o u l (Err x) (Err y) p q r = ap Err (short-same x y q)
+
+module _ {code : List ℕ} {k : Plan} {start : ℕ} {l : Level} (at : ℕ) {m m' m'' : Mem} {o : Gone} (run u : Run) (x y : Result (Option Level) Shortage) where
+  pub one-opening : Entered code k start l at m o m' (opening_of run l x) → Entered code k start l at m o m'' (opening_of u l y)
+      → {t : Turn} {since : ℕ} → Fits code k t since start m o.counts → x ≡ y
+  one-opening f g fits = opening-same run u l x y (one-opens at f g fits) (one_code at f g fits) (one-level at f g fits)

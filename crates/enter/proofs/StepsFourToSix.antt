@@ -34,7 +34,7 @@ use Rattle.tables.proofs.Uses.{cells-in-use}
 use Rattle.steps.specs.Cursors.{path_cursor, stack_cursor}
 use Rattle.steps.specs.Paths.{Inside, OnPath}
 use Rattle.steps.specs.Sound.{SoundStack, SoundRec}
-use Rattle.steps.specs.States.{Composing, Took}
+use Rattle.steps.specs.States.{Composing, named_in, Took}
 use Rattle.steps.specs.Meets as meets
 use Rattle.steps.specs.Lands.{Noted}
 use Rattle.steps.specs.Runs.{recs_in, st_of, Did}
@@ -45,9 +45,9 @@ use Rattle.steps.specs.declared.plan.Plan.{Plan}
 use Rattle.steps.specs.declared.Level.{Level}
 use Rattle.steps.specs.Goings.{Gone}
 use Rattle.steps.specs.declared.state_of.Taken.{Taken}
+use Rattle.steps.specs.declared.state_of.Untaken.{Untaken}
 use Rattle.steps.specs.Meets.{Meeting}
 use Rattle.std.specs.Prelude.{Result, Ok, Err}
-use Rattle.refusal.specs.declared.Shortage.{Shortage}
 use Rattle.refusal.specs.Numbers.{short_number}
 use Rattle.tables.specs.Replies.{code_of}
 use Rattle.tables.proofs.Shorts.{short-some}
@@ -105,7 +105,7 @@ module _ {code : List ℕ} {k : Plan} {start : ℕ} {l : Level} {at np : ℕ} {w
       record {
         some = y.some;
         is = f.planned.is;
-        runs = record { short = omega (arith, f.planned.is, f.planned.lent_w.short); inside = f.planned.ends; room = omega (arith, f.planned.scratch) };
+        runs = record { runs = record { short = omega (arith, f.planned.is, f.planned.lent_w.short); inside = f.planned.ends; room = omega (arith, f.planned.scratch) }; moded = f.planned.moded };
         helds = f.planned.helds;
         child = z.state;
         low = z.low;
@@ -122,7 +122,7 @@ module _ {code : List ℕ} {k : Plan} {start : ℕ} {l : Level} {at np : ℕ} {w
         near = omega (arith, z.near, z.room, f.planned.most_p);
       }
 
-  module _ {w' s' : List ℕ} {z : Result Taken Shortage} (a : Took code w s k o.counts l (stack_cursor (mode_in k) code r s k.rooms.s at) w' s' z) where
+  module _ {w' s' : List ℕ} {z : Result Taken Untaken} (a : Took code w s k o.counts l (stack_cursor (mode_in k) code r s k.rooms.s at) w' s' z) where
     abbrev new : Stack
     new = compose child par
 
@@ -149,10 +149,10 @@ module _ {code : List ℕ} {k : Plan} {start : ℕ} {l : Level} {at np : ℕ} {w
           omega (arith, cells-in-use turn mid f.tables f.remembers f.packs (ap (λ (y : St). y.recs) e) (ap (λ (y : St). y.met) e) refl)
 
       form-short : (y : Lent) → Lends y k.rooms → (mid : St) → clear mid ≡ st_of k (buffers w p s t r q) o → shortage y mid.needs ≡ 0
-          → shortage y (formed mid).needs ≡ code_of z
+          → shortage y (formed mid).needs ≡ code_of (named_in z)
       form-short y d mid e i =
           short-need d S (in_use turn mid + cells new) mid i
-          ∙ ap (λ (u : ℕ). short_of k.rooms (record { room = S; units = u } ∷ [])) (in-use-is mid e)
+          ∙ ap (λ (u : ℕ). short_of k.rooms (record { room = S; units = u } ∷ [])) (in-use-is mid e ∙ ap (λ (n : ℕ). o.counts.kept + o.counts.used + n) (sym a.cells_are))
           ∙ sym a.code_is
 
       follow-later : (deeper : search.Level → St → St) → Laters deeper → (mid : St) → Later (formed mid) (F deeper mid)
@@ -163,18 +163,18 @@ module _ {code : List ℕ} {k : Plan} {start : ℕ} {l : Level} {at np : ℕ} {w
 
       -- ---- S is short
 
-      pub follow-short : {e : Shortage} → z ≡ Err e
-          → Outcome code k turn since start F l (buffers w p s t r q) o (buffers w' p s' t r q) (shut_with (refused_with o (short_number e)) l)
-      follow-short {e} is = outcome-refused (short-some e) refl (λ deeper g y d mid i j.
-          let u = form-short y d mid i j ∙ ap code_of is in
-          short-later y (formed mid) (F deeper mid) (follow-later deeper g mid) (λ v. short-some e (sym u ∙ v)) ∙ u)
+      pub follow-short : {e : Untaken} → z ≡ Err e
+          → Outcome code k turn since start F l (buffers w p s t r q) o (buffers w' p s' t r q) (shut_with (refused_with o (short_number e.short)) l)
+      follow-short {e} is = outcome-refused (short-some e.short) refl (λ deeper g y d mid i j.
+          let u = form-short y d mid i j ∙ ap (λ (x : Result Taken Untaken). code_of (named_in x)) is in
+          short-later y (formed mid) (F deeper mid) (follow-later deeper g mid) (λ v. short-some e.short (sym u ∙ v)) ∙ u)
 
       module _ {x : Taken} (formed-is : z ≡ Ok x) where
         ok : Took code w s k o.counts l (stack_cursor (mode_in k) code r s k.rooms.s at) w' s' (Ok x)
         ok = rw formed-is at a
 
-        x0 : code_of z ≡ 0
-        x0 = ap code_of formed-is
+        x0 : code_of (named_in z) ≡ 0
+        x0 = ap (λ (x : Result Taken Untaken). code_of (named_in x)) formed-is
 
         -- what is seen, as the buffers have it
         module _ {last : ℕ} (el : last ≡ last_of (addrs p 0 np)) where

@@ -43,7 +43,7 @@ use Rattle.steps.specs.declared.plan.Plan.{Plan}
 use Rattle.steps.specs.declared.Level.{Level}
 use Rattle.steps.specs.Goings.{Gone}
 use Rattle.steps.specs.declared.state_of.Taken.{Taken}
-use Rattle.refusal.specs.declared.Shortage.{Shortage}
+use Rattle.steps.specs.declared.state_of.Untaken.{Untaken}
 use Rattle.std.specs.Prelude.{Result}
 use Rattle.steps.specs.Helds.{Helds}
 use Rattle.steps.proofs.Helds.{helds-past}
@@ -85,6 +85,7 @@ pub planned-long : {code : List ℕ} {k : Plan} {m : Mem} (w p s t r q : List �
 planned-long w p s t r q f h e g = record {
   is = f.is;
   limit = f.limit;
+  moded = f.moded;
   lent_w = record { short = f.lent_w.short; room = omega (arith, f.lent_w.room) };
   ends = omega (arith, f.ends);
   scratch = f.scratch;
@@ -136,7 +137,7 @@ module _ {code : List ℕ} {k : Plan} {t : Turn} {since start : ℕ} {w p s T r 
 
   -- ---- a state that was composed right after the cells in use
 
-  module _ {l : Level} {par : Stack} {w' s' : List ℕ} {x : Result Taken Shortage} (o : Took code w s k c l par w' s' x) where
+  module _ {l : Level} {par : Stack} {w' s' : List ℕ} {x : Result Taken Untaken} (o : Took code w s k c l par w' s' x) where
     taken-links : SameLinks k.size k.buckets w w'
     taken-links = links-prefix k.size k.buckets (bucket_place k.size k.buckets) (omega arith) o.front o.long_w
 

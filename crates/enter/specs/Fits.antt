@@ -37,6 +37,7 @@ prepared_in k code = prepared (in_mode (mode_in k)) code
 pub record Planned (code : List ℕ) (k : Plan) (m : Mem) : Type 0 where
   pub is : k.size ≡ length code
   pub limit : k.limit ≤ 500000
+  pub moded : k.mode ≤ 1
   pub lent_w : Room k.size m.w
   pub ends : k.end ≤ length m.w
   pub scratch : bucket_place k.size k.buckets + room_of code ≤ k.end

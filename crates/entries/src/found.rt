@@ -1,10 +1,10 @@
 // What the search left in the lent buffers, as it is read to be written: the blocks in W, their rows in R, and the paths of these in Q.
 // "At the end DynamicJump drops entries without destination; DynamicJumpi keeps them."
-ghost use Rattle.std.specs.Prelude.{◌≡◌, ◌+◌, ◌≤◌, eqb, length};
+ghost use Rattle.std.specs.Prelude.{◌≡◌, ◌+◌, ◌≤◌, length};
 ghost use Rattle.layout.specs.Edges.{link_at};
 ghost use Rattle.layout.specs.Fields.{head_at};
 ghost use Rattle.layout.specs.Records.{RECORD, record_place};
-ghost use Rattle.layout.specs.Rows.{tag_at, tag_of};
+ghost use Rattle.layout.specs.Rows.{tag_at};
 ghost use Rattle.reachable.specs.Promises.{Address};
 ghost use Rattle.entries.specs.Rows.{kept, listed};
 ghost use Rattle.entries.specs.Links.{link_of};
@@ -14,7 +14,7 @@ use layout::NOWHERE;
 use layout::edge::{ENDS, LINKS, OWN};
 use layout::field::HEADS;
 use layout::record::RECORD;
-use layout::row::{BlockType, ROW};
+use layout::row::{DYNAMIC_JUMP, ROW};
 use lent::{get16, get32};
 use reachable::is_flagged;
 
@@ -43,13 +43,6 @@ fn row_of(link: usize) -> Option<usize>
     ensures { link_of result ≡ link }
 {
     if link == 0 { None } else { Some(link - 1) }
-}
-
-// Does a block of the type list only some of its rows?
-fn drops_some(block: BlockType) -> bool
-    ensures { result ≡ eqb (tag_of block) 5 }
-{
-    matches!(block, BlockType::DynamicJump)
 }
 
 impl Found<'_> {
@@ -86,12 +79,12 @@ impl Found<'_> {
         if to == NOWHERE { None } else { Some(to) }
     }
 
-    // Does a block of the type list a row? A DynamicJump lists those with a destination.
-    pub fn is_listed(&self, row: usize, block: BlockType) -> bool
+    // Does a block of the kind list a row? A DynamicJump lists those with a destination.
+    pub fn is_listed(&self, row: usize, kind: usize) -> bool
         requires { record_place row + RECORD ≤ length self.now.r.now }
-        ensures { result ≡ listed self.now.r.now (tag_of block) row }
+        ensures { result ≡ listed self.now.r.now kind row }
     {
-        if !drops_some(block) {
+        if kind != DYNAMIC_JUMP {
             return true;
         }
         self.goal_of(row).is_some()

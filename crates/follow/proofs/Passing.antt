@@ -11,7 +11,7 @@ use Rattle.lent.specs.Bytes.{num_at, Holds}
 use Rattle.reader.specs.Walks.{Walking}
 use Rattle.reader.proofs.Walked.{begins}
 use Rattle.follow.specs.Blocks.{finals_at, named_by, Begins, next_block, CanGo, GivesBlock}
-use Rattle.follow.specs.Finding.{slots_of, Ready, FoundAt, Spot, Indexed, Finds}
+use Rattle.follow.specs.Finding.{slots_of, Ready, FoundAt, Spot, Indexed, Index, Finds}
 use Rattle.follow.specs.declared.block.Block.{Block}
 use Rattle.follow.specs.declared.block.Blocks.{Blocks}
 use Rattle.follow.specs.declared.find.Finder.{Finder}
@@ -222,6 +222,6 @@ module _ {b work : List ℕ} {rows q : ℕ} (x : Indexed b work rows) (l : q < r
               };
             }
 
-module _ {x : Finder} (f : Finds x) {rows : ℕ} (e : x.rows ≡ Some rows) where
-  pub find-index : Indexed x.map.now x.work.now rows
-  find-index = f.index.built e
+module _ {b work : List ℕ} {rows : Option ℕ} {n : ℕ} (x : Index b work rows) (e : rows ≡ Some n) where
+  pub find-index : Indexed b work n
+  find-index = x.built e

@@ -22,7 +22,7 @@ use Rattle.lent.proofs.Stored.{kept-take, kept-drop, kept-part, read_all}
 use Rattle.layout.specs.Fields.{NOTE, note_at}
 use Rattle.layout.specs.Parts.{row_place, fields_place, ROW, rows_end, list_place, PastRows}
 use Rattle.layout.specs.Records.{RECORD, record_place, start_at}
-use Rattle.layout.specs.Rows.{END, typed, type_at, Put, POSITION, tag_at, head_of}
+use Rattle.layout.specs.Rows.{END, typed, type_at, PutBlock, POSITION, tag_at, head_of}
 use Rattle.layout.specs.declared.row.BlockType.{BlockType}
 use Rattle.layout.specs.declared.row.BlockType.TheVariants.{Terminate, Jump, Jumpi, DynamicJump, DynamicJumpi}
 use Rattle.initial.specs.Rows.{kind_of, kind_at, row_blocks, blocks_from, blocks_at}
@@ -92,7 +92,7 @@ module _ (n note : ℕ) (w : List ℕ) (a : ℕ) where
     unfolding merged_row
     bytes-several h = sym (if-false _ _ _ (rw (eq-eqb (tag_at w a) 5 d, ne_eqb note 0 (λ z. omega arith), lt-leb note (n + 1) h)))
 
-    bytes_one : {w' : List ℕ} → (note ≡ 0 → ⊥) → note ≤ n + 1 → Put w a (num_at 2 w (row_place a + END)) (Jump (note - 1)) w' → take ROW (drop (row_place a) w') ≡ merged_row n note w a
+    bytes_one : {w' : List ℕ} → (note ≡ 0 → ⊥) → note ≤ n + 1 → PutBlock w a (num_at 2 w (row_place a + END)) (Jump (note - 1)) w' → take ROW (drop (row_place a) w') ≡ merged_row n note w a
     unfolding merged_row
     bytes_one {w'} z h p =
         let rest : take 12 (drop 8 (drop (row_place a) w')) ≡ take 12 (drop (row_place a + POSITION) w) = rw (drop-drop 8 (row_place a) w') (kept-part p.stored 12 (row_place a + POSITION) (λ l. omega arith)) in
@@ -156,11 +156,11 @@ module _ {n a : ℕ} {w : List ℕ} where
         go (no nz) (yes h) = row_stays (rw (dynamic w a tag) (by-several n (note_at w n a) (rw t.is at h))) (bytes-several n (note_at w n a) w a tag (rw t.is at h))
         go (no nz) (no l) = absurd (other (sym z ∙ s ∙ sym (shared-one n note nz (omega arith))))
 
-    pub row_one : {to end : ℕ} {w' : List ℕ} → Room n w → x ≡ Some to → Holds 2 w (row_place a + END) end → Put w a end (Jump to) w' → MergedRow n w a w'
+    pub row_one : {to end : ℕ} {w' : List ℕ} → Room n w → x ≡ Some to → Holds 2 w (row_place a + END) end → PutBlock w a end (Jump to) w' → MergedRow n w a w'
     row_one {to} {end} {w'} l z d p =
         let tag : tag_at w a ≡ 5 = tagged w a e on in
         let k = shared-some n note (sym s ∙ z) in
-        let p₁ : Put w a end (Jump (note - 1)) w' = rw k.2 at p in
+        let p₁ : PutBlock w a end (Jump (note - 1)) w' = rw k.2 at p in
         record {
           same = put-here p₁ (good-jump (note - 1) (omega (arith, l.short, k.1))) d.small
               ∙ rw d.is

@@ -7,7 +7,7 @@ use native.Mathlib.Omega.{arith}
 use lib.Dec.{eqb}
 use borrow.Author.Tests.{ne_eqb}
 use Rattle.std.specs.Prelude.{Option, Some, None}
-use Rattle.layout.specs.Rows.{tag_of, typed, tag_at, TypeIs}
+use Rattle.layout.specs.Rows.{tag_of, typed, tag_at, BlockIs}
 use Rattle.layout.specs.declared.row.BlockType.{BlockType}
 use Rattle.layout.proofs.Types.{by-byte, row-none, row-some}
 
@@ -16,7 +16,7 @@ tag-five k to f z =
     by-byte k to f (λ t. eqb (tag_of t) 5 ≡ eqb k 5) (λ e. rw e refl) (λ e. rw e refl) (λ e. rw e refl) (λ e. rw e refl) (λ e. rw e refl)
     (λ _ h. sym (ne_eqb k 5 (λ e. omega arith))) z
 
-module _ {w : List ℕ} {a : ℕ} {r : Option BlockType} (h : TypeIs w a r) where
+module _ {w : List ℕ} {a : ℕ} {r : Option BlockType} (h : BlockIs w a r) where
   pub kind-none : r ≡ None → false ≡ eqb (tag_at w a) 5
   kind-none e = rw (row-none h e) refl
 

@@ -4,7 +4,7 @@ ghost use Rattle.std.specs.Prelude.{◌≡◌, ◌+◌, ◌≤◌, eqb, length};
 ghost use Rattle.layout.specs.Parts.{ROW, row_place};
 ghost use Rattle.layout.specs.Rows.{tag_at, tag_of};
 
-use layout::row::{BlockType, type_at};
+use layout::row::{BlockType, block_at};
 
 // Is the type a DynamicJump?
 fn is_jump(block: BlockType) -> bool
@@ -18,7 +18,7 @@ pub fn is_dynamic_jump(w: &[u8], start: usize) -> bool
     requires { row_place start + ROW ≤ length w.now }
     ensures { result ≡ eqb (tag_at w.now start) 5 }
 {
-    match type_at(w, start) {
+    match block_at(w, start) {
         Some(block) => is_jump(block),
         None => false,
     }

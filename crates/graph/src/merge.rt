@@ -9,7 +9,7 @@ use crate::kind::is_dynamic_jump;
 use crate::note::note_all;
 use layout::field::NOTE;
 use layout::record::RECORD;
-use layout::row::{BlockType, END, ROW, put_block};
+use layout::row::{BlockType, END, ROW, write_block};
 use lent::{get16, get32};
 
 // Merges the blocks by the records. W and the code's length stay two parameters here too: crates/reachable/src/lib.rt says why.
@@ -60,5 +60,5 @@ fn merge_row(w: &mut [u8], size: usize, start: usize)
         return;
     };
     let end = get16(w, ROW * start + END);
-    put_block(w, start, end, BlockType::Jump { to });
+    write_block(w, start, end, BlockType::Jump { to });
 }

@@ -18,7 +18,7 @@ use Rattle.lent.proofs.Parts.{take_less, drop_more, part-prefix, part-suffix}
 use Rattle.lent.proofs.Stored.{kept-take, kept-drop}
 use Rattle.laws.proofs.Branch.{both, if-true, if-false, and-false}
 use Rattle.layout.specs.Parts.{ROW, row_place, rows_end, starts_place, start_place, SameRows}
-use Rattle.layout.specs.Rows.{END, tag_at, Put, TypeIs, starts_at}
+use Rattle.layout.specs.Rows.{END, tag_at, PutBlock, BlockIs, starts_at}
 use Rattle.layout.specs.declared.row.BlockType.{BlockType}
 use Rattle.layout.specs.declared.row.BlockType.TheVariants.{Terminate, Jump, Jumpi, DynamicJump, DynamicJumpi}
 use Rattle.layout.proofs.Types.{is-jump, is-jumpi, row-none, row-some, row-is_some}
@@ -35,7 +35,7 @@ module _ (code w : List ℕ) (t : ℕ) where
   pub starts-past : length code < t → leb t (length code) ≡ mem t (starts (blocks_at w (length code)))
   starts-past h = rw (lt-leb t (length code) h) (sym (start-past w t (length code) h))
 
-  pub starts-type : {o : Option BlockType} → t ≤ length code → TypeIs w t o → is_some o ≡ mem t (starts (blocks_at w (length code)))
+  pub starts-type : {o : Option BlockType} → t ≤ length code → BlockIs w t o → is_some o ≡ mem t (starts (blocks_at w (length code)))
   starts-type h y = row-is_some y ∙ sym (start-at w t (length code) h)
 
   pub lands-past : length code ≤ t → false ≡ lands code (starts (blocks_at w (length code))) t
@@ -85,7 +85,7 @@ module _ (code ss : List ℕ) where
 
 -- ---- a row's block is checked
 
-module _ {code w : List ℕ} {a : ℕ} {o : Option BlockType} (r : Rows code w) (h : a ≤ length code) (y : TypeIs w a o) where
+module _ {code w : List ℕ} {a : ℕ} {o : Option BlockType} (r : Rows code w) (h : a ≤ length code) (y : BlockIs w a o) where
   ss : List ℕ
   ss = starts (blocks_at w (length code))
 
@@ -96,7 +96,7 @@ module _ {code w : List ℕ} {a : ℕ} {o : Option BlockType} (r : Rows code w) 
   kind-there : {t : BlockType} → o ≡ Some t → kind_at w a ≡ kind_of t
   kind-there q = ap kind_of (row-some y q).1
 
-  row_written : {w' : List ℕ} {t : BlockType} {end : ℕ} {k : BlockType} → o ≡ Some t → Holds 2 w (row_place a + END) end → kind_of k ≡ checked code ss (kind_of t) → Good k → Put w a end k w'
+  row_written : {w' : List ℕ} {t : BlockType} {end : ℕ} {k : BlockType} → o ≡ Some t → Holds 2 w (row_place a + END) end → kind_of k ≡ checked code ss (kind_of t) → Good k → PutBlock w a end k w'
       → CheckedRow code w a w' end
   unfolding ss
   row_written {w'} {t} {end} {k} z e q g p =
@@ -110,7 +110,7 @@ module _ {code w : List ℕ} {a : ℕ} {o : Option BlockType} (r : Rows code w) 
       }
 
   pub row-jump : {w' : List ℕ} {t : BlockType} {to end : ℕ} {k : BlockType} → o ≡ Some t → t ≡ Jump to → Holds 2 w (row_place a + END) end
-      → k ≡ type_of (checked code (starts (blocks_at w (length code))) (jump to)) → Put w a end k w' → CheckedRow code w a w' end
+      → k ≡ type_of (checked code (starts (blocks_at w (length code))) (jump to)) → PutBlock w a end k w' → CheckedRow code w a w' end
   unfolding ss
   row-jump {w'} {t} {to} z j e q p =
       let z : o ≡ Some (Jump to) = rw j at z in
@@ -119,7 +119,7 @@ module _ {code w : List ℕ} {a : ℕ} {o : Option BlockType} (r : Rows code w) 
       row_written z e (ap kind_of q ∙ kind-type _) (rw q (good-checked-jump code ss to (rw side.1 at y.to))) p
 
   pub row-jumpi : {w' : List ℕ} {t : BlockType} {to f end : ℕ} {k : BlockType} → o ≡ Some t → t ≡ Jumpi to f → Holds 2 w (row_place a + END) end
-      → k ≡ type_of (checked code (starts (blocks_at w (length code))) (jumpi to f)) → Put w a end k w' → CheckedRow code w a w' end
+      → k ≡ type_of (checked code (starts (blocks_at w (length code))) (jumpi to f)) → PutBlock w a end k w' → CheckedRow code w a w' end
   unfolding ss
   row-jumpi {w'} {t} {to} {f} z j e q p =
       let z : o ≡ Some (Jumpi to f) = rw j at z in

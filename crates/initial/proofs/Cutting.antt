@@ -21,7 +21,7 @@ use Rattle.evm.proofs.Walks.{next, walk-whole, walk_end, instructions-walk}
 use Rattle.evm.proofs.Steps.{Took, took, ended}
 use Rattle.laws.proofs.Branch.{both, if-true, if-false}
 use Rattle.layout.specs.Parts.{rows_end}
-use Rattle.layout.specs.Rows.{Put}
+use Rattle.layout.specs.Rows.{PutBlock}
 use Rattle.initial.specs.Rows.{type_of, blocks_at, Laid}
 use Rattle.initial.specs.Turn.{clipped, pushed_at, ahead}
 use Rattle.initial.specs.Promises.{Lent, Beyond, Written, Stands, Standing, Ready, after, Turned, last, cutting}
@@ -103,7 +103,7 @@ module _ {n : ℕ} {w : List ℕ} {mode : Walking} {prev : ℕ} (r : Standing n 
     pub last-past : prev < start → Written n (blocks_at w n ++ last mode prev) w w
     last-past h = last_none (rw o (last-beyond start prev h))
 
-    pub last-kept : {w' : List ℕ} → start ≤ prev → Put w start prev (type_of (terminate false)) w' → Written n (blocks_at w n ++ last mode prev) w w'
+    pub last-kept : {w' : List ℕ} → start ≤ prev → PutBlock w start prev (type_of (terminate false)) w' → Written n (blocks_at w n ++ last mode prev) w w'
     last-kept h p =
         let inside : start ≤ n = omega (arith, r.back, r.inside) in
         let small : prev < 65536 = omega (arith, r.back, r.inside, r.short) in

@@ -11,7 +11,7 @@ use borrow.Author.Tests.{eqb-false}
 use Rattle.spec.specs.Opcodes.{row}
 use Rattle.spec.specs.Blocks.{Block, cut}
 use Rattle.laws.proofs.Branch.{both}
-use Rattle.layout.specs.Rows.{Put}
+use Rattle.layout.specs.Rows.{PutBlock}
 use Rattle.layout.specs.declared.row.BlockType.{BlockType}
 use Rattle.initial.specs.Rows.{blocks_at, Laid}
 use Rattle.initial.specs.Turn.{pushed_at, cut_of, turn_of, closed, then, ahead}
@@ -111,7 +111,7 @@ module _ {code w : List ℕ} {mode : Walking} {prev pc op : ℕ} (r : Ready code
     pub turn-goes : {m : Walking} → t ≡ Goes m → Turned code w mode prev pc op w m
     turn-goes g = goes_on (turn-ahead ∙ rw g) (rw o (subst (Fine start (after pc op)) g turn-fine))
 
-    pub turn-closes : {w' : List ℕ} {end : ℕ} {k : BlockType} {m : Walking} → t ≡ Closes end k m → Put w start end k w' → Turned code w mode prev pc op w' m
+    pub turn-closes : {w' : List ℕ} {end : ℕ} {k : BlockType} {m : Walking} → t ≡ Closes end k m → PutBlock w start end k w' → Turned code w mode prev pc op w' m
     turn-closes {w'} {end} {k} {m} g p =
         let f : Closing start (after pc op) end k m = subst (Fine start (after pc op)) g turn-fine in
         let z : Empty w start (length code) = rw o at r.rows.empty in

@@ -13,7 +13,7 @@ use Rattle.lent.proofs.Parts.{part-of-take, part-prefix}
 use Rattle.lent.proofs.Numbers.{number-little, num-zeros}
 use Rattle.lent.proofs.Stored.{kept-drop, kept-part, read_all, read-part, read-num}
 use Rattle.layout.specs.Parts.{ROW, row_place, rows_end, SameRows}
-use Rattle.layout.specs.Rows.{END, TO, OTHER, BLOCK, REST, tag_of, to_of, other_of, tag_at, type_at, head_of, Put}
+use Rattle.layout.specs.Rows.{END, TO, OTHER, BLOCK, REST, tag_of, to_of, other_of, tag_at, type_at, head_of, PutBlock}
 use Rattle.layout.specs.declared.row.BlockType.{BlockType}
 use Rattle.initial.specs.Rows.{kind_of, row_blocks, blocks_from, blocks_at, row_of, Laid}
 use Rattle.initial.specs.Promises.{Empty, Beyond}
@@ -54,7 +54,7 @@ laid-prefix {w} {v} {n} l e =
 
 -- ---- the row that is written
 
-module _ {w w' : List ℕ} {a end : ℕ} {t : BlockType} (p : Put w a end t w') where
+module _ {w w' : List ℕ} {a end : ℕ} {t : BlockType} (p : PutBlock w a end t w') where
   put-tag : tag_at w' a ≡ tag_of t
   put-tag = rw add-zero at (read-num p.stored 1 0 (omega arith)) ∙ head-tag end t
 

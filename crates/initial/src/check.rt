@@ -12,7 +12,7 @@ ghost use Rattle.initial.specs.Promises.{Rows, Apart, CheckedRow, Listing, Liste
 
 use evm::op::JUMPDEST;
 use layout::part::{START, STARTS, STARTS_MORE};
-use layout::row::{BlockType, END, ROW, put_block, type_at};
+use layout::row::{BlockType, END, ROW, block_at, write_block};
 use lent::{get16, put16};
 
 // The checks of every block, and how many blocks there are. Up to a block's end no other starts, so the next turn is behind it.
@@ -55,18 +55,18 @@ fn check_row(code: &[u8], w: &mut [u8], start: usize) -> Option<usize>
     ensures checked { CheckedRow code.now w.old start w.new (unwrap_or result start) }
     ensures starts { is_some result ≡ not (eqb (tag_at w.old start) 0) }
 {
-    let Some(block) = type_at(w, start) else {
+    let Some(block) = block_at(w, start) else {
         return None;
     };
     let end = get16(w, ROW * start + END);
     match block {
         BlockType::Jump { to } => {
             let checked = checked_jump(code, w, to);
-            put_block(w, start, end, checked);
+            write_block(w, start, end, checked);
         }
         BlockType::Jumpi { to, other } => {
             let checked = checked_jumpi(code, w, to, other);
-            put_block(w, start, end, checked);
+            write_block(w, start, end, checked);
         }
         _ => {}
     }
@@ -117,7 +117,7 @@ fn starts(code: &[u8], w: &[u8], to: usize) -> bool
     requires { rows_end (length code.now) ≤ length w.now }
     ensures { result ≡ mem to (starts (blocks_at w.now (length code.now))) }
 {
-    to <= code.len() && type_at(w, to).is_some()
+    to <= code.len() && block_at(w, to).is_some()
 }
 
 // Does a block start at `to`, with a JUMPDEST?

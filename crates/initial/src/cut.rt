@@ -9,7 +9,7 @@ use crate::turn::{Effect, Walking, closes, cut_of};
 use evm::op::JUMPDEST;
 use evm::walk::Instruction;
 use evm::walker::step_from;
-use layout::row::{BlockType, ROW, put_block};
+use layout::row::{BlockType, ROW, write_block};
 use lent::wipe_part;
 
 // The blocks of the code before the checks.
@@ -47,7 +47,7 @@ fn turn(code: &[u8], w: &mut [u8], walking: Walking, prev: usize, pc: usize, op:
         Walking::Opened(start) => match closes(code, start, prev, pc, cut_of(op)) {
             Effect::Goes(next) => next,
             Effect::Closes { end, kind, then } => {
-                put_block(w, start, end, kind);
+                write_block(w, start, end, kind);
                 then
             }
         },
@@ -70,7 +70,7 @@ fn last(w: &mut [u8], size: usize, walking: Walking, prev: usize)
 {
     if let Walking::Opened(start) = walking {
         if start <= prev {
-            put_block(w, start, prev, BlockType::Terminate { success: false });
+            write_block(w, start, prev, BlockType::Terminate { success: false });
         }
     }
 }

@@ -12,7 +12,7 @@ use Rattle.spec.specs.Json.{commas, way_json}
 use Rattle.laws.proofs.Branch.{if-false}
 use Rattle.lent.specs.Bytes.{num_at, Holds}
 use Rattle.layout.specs.Parts.{ROW, row_place}
-use Rattle.layout.specs.Rows.{END, TypeIs, tag_at, tag_of, type_at}
+use Rattle.layout.specs.Rows.{END, BlockIs, tag_at, tag_of, type_at}
 use Rattle.layout.specs.declared.row.BlockType.TheVariants.{Terminate, Jump, Jumpi, DynamicJump, DynamicJumpi}
 use Rattle.layout.specs.declared.row.BlockType.{BlockType}
 use Rattle.initial.specs.Rows.{kind_at, kind_of}
@@ -91,7 +91,7 @@ module _ {n m a at : ℕ} {w r q : List ℕ} (b : PutsBlock n m w r q a at) wher
   pub block-small : a < 65536
   block-small = omega (arith, b.inside, b.blocks.linked.lent.short)
 
-module _ {w : List ℕ} {a : ℕ} {x : Option BlockType} {t : BlockType} (h : TypeIs w a x) (e : x ≡ Some t) where
+module _ {w : List ℕ} {a : ℕ} {x : Option BlockType} {t : BlockType} (h : BlockIs w a x) (e : x ≡ Some t) where
   pub sides : Sides t
   sides = rw (row-some h e).1 at read
     where

@@ -13,7 +13,7 @@ ghost use Rattle.json_text.specs.Promises.{Sides};
 
 use crate::listing::add_ways;
 use entries::found::Found;
-use layout::row::{BlockType, END, ROW, type_at};
+use layout::row::{BlockType, END, ROW, block_at};
 use lent::get16;
 use output::Output;
 
@@ -70,7 +70,7 @@ pub fn add_block(found: &Found<'_>, start: usize, output: &mut Output<'_>)
         × (tag_at found.now.w.now start ≡ 0 → ⊥) }
     ensures { PutsFew (2 ^ 36 + 256) output.old (block_text found.now.w.now found.now.r.now found.now.q.now found.now.rows start) output.new }
 {
-    let block = type_at(found.w, start).unwrap();
+    let block = block_at(found.w, start).unwrap();
     add_front(found.w, start, output);
     add_type(found, start, block, output);
 }

@@ -21,7 +21,7 @@ fn add_row(found: &Found<'_>, begin: usize, row: usize, block: BlockType, output
     ensures { PutsFew (23 + 6 * steps_of found.now.r.now row) output.old
         (next begin output.old.end (way_text found.now.r.now found.now.q.now) (keep (listed found.now.r.now (tag_of block)) (row ∷ []))) output.new }
 {
-    if found.is_listed(row, block) {
+    if found.is_listed(row, block.numbers().kind) {
         add_comma(begin, output);
         add_way(found, row, output);
     }

@@ -10,7 +10,8 @@ use Rattle.std.specs.Option.{is_some}
 use Rattle.std.specs.Prelude.{Option, Some, None}
 use Rattle.spec.specs.Lists.{if}
 use Rattle.laws.proofs.Branch.{both, if-true, if-false}
-use Rattle.layout.specs.Rows.{tag_of, to_of, other_of, typed, read_as, tag_at, type_at, TypeIs}
+use Rattle.layout.specs.Rows.{tag_of, to_of, other_of, typed, read_as, tag_at, type_at, TypeIs, BlockIs}
+use Rattle.layout.specs.declared.row.RowType.{RowType}
 use Rattle.layout.specs.declared.row.BlockType.{BlockType}
 use Rattle.layout.specs.declared.row.BlockType.TheVariants.{Terminate, Jump, Jumpi, DynamicJump, DynamicJumpi}
 
@@ -111,7 +112,11 @@ tag-dynamic k to f z =
 
 -- ---- the row of an address, by what was read of it
 
-module _ {w : List ℕ} {a : ℕ} {r : Option BlockType} (h : TypeIs w a r) where
+-- by its numbers
+pub read-block : {w : List ℕ} {a : ℕ} {n : RowType} {o : Option BlockType} → TypeIs w a n → o ≡ read_as n.kind n.to n.other → BlockIs w a o
+read-block h e = record { is = e ∙ ap (λ (m : RowType). read_as m.kind m.to m.other) h.is; to = rw h.is at h.to; other = rw h.is at h.other }
+
+module _ {w : List ℕ} {a : ℕ} {r : Option BlockType} (h : BlockIs w a r) where
   pub row-none : r ≡ None → tag_at w a ≡ 0
   row-none e = is-none _ _ _ (sym h.is ∙ e)
 

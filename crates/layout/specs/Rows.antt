@@ -6,6 +6,7 @@ use Rattle.std.specs.Prelude.{◌≡◌, true, false, List, [], ◌∷◌, ◌++
 use Rattle.spec.specs.Lists.{if, little}
 use Rattle.lent.specs.Bytes.{num_at, Stored}
 use Rattle.layout.specs.Parts.{row_place, start_place}
+use Rattle.layout.specs.declared.row.RowType.{RowType}
 use Rattle.layout.specs.declared.row.BlockType.{BlockType}
 use Rattle.layout.specs.declared.row.BlockType.TheVariants.{Terminate, Jump, Jumpi, DynamicJump, DynamicJumpi}
 
@@ -48,6 +49,34 @@ BLOCK = 8
 abbrev pub REST : ℕ
 REST = 12
 
+-- three numbers say it; any of them may stand there, whether or not a kind has it. What is `typed`, `type_at`, `head_of` of the enum below is `numbered`,
+-- `numbers_at`, `row_head` of the numbers, and what is `BlockIs`, `PutBlock` is `TypeIs`, `Put`.
+abbrev pub numbered : ℕ → ℕ → ℕ → RowType
+numbered k to other = record { kind = k; to = to; other = other }
+
+abbrev pub tag_at : List ℕ → ℕ → ℕ
+tag_at w a = num_at 1 w (row_place a)
+
+-- those in the row of a
+abbrev pub numbers_at : List ℕ → ℕ → RowType
+numbers_at w a = numbered (tag_at w a) (num_at 2 w (row_place a + TO)) (num_at 2 w (row_place a + OTHER))
+
+-- and what is written of them
+abbrev pub row_head : ℕ → RowType → List ℕ
+row_head end t = little 2 t.kind ++ (little 2 end ++ (little 2 t.to ++ little 2 t.other))
+
+-- the block from a to end was written, by these numbers
+pub record Put (w : List ℕ) (a end : ℕ) (t : RowType) (w' : List ℕ) : Type 0 where
+  pub stored : Stored BLOCK w (row_place a) (row_head end t) w'
+
+-- t is the three numbers that stand in the row of a
+pub record TypeIs (w : List ℕ) (a : ℕ) (t : RowType) : Type 0 where
+  pub is : t ≡ numbers_at w a
+  pub to : t.to < 65536
+  pub other : t.other < 65536
+
+-- ---- the same as an enum, which has the sides of its kind alone
+
 -- what is written of a type: the kind's byte, and the two sides; one that the kind does not have is 0
 abbrev pub tag_of : BlockType → ℕ
 tag_of (Terminate false) = 1
@@ -71,6 +100,10 @@ other_of (Jumpi to other) = other
 other_of DynamicJump = 0
 other_of (DynamicJumpi other) = other
 
+-- its three numbers
+abbrev pub numbers_of : BlockType → RowType
+numbers_of t = numbered (tag_of t) (to_of t) (other_of t)
+
 -- and the type that is read back where a block starts
 unfoldable pub typed : ℕ → ℕ → ℕ → BlockType
 typed k to other =
@@ -83,9 +116,6 @@ typed k to other =
 unfoldable pub read_as : ℕ → ℕ → ℕ → Option BlockType
 read_as k to other = if (eqb k 0) None (Some (typed k to other))
 
-abbrev pub tag_at : List ℕ → ℕ → ℕ
-tag_at w a = num_at 1 w (row_place a)
-
 abbrev pub type_at : List ℕ → ℕ → BlockType
 type_at w a = typed (tag_at w a) (num_at 2 w (row_place a + TO)) (num_at 2 w (row_place a + OTHER))
 
@@ -97,11 +127,11 @@ abbrev pub head_of : ℕ → BlockType → List ℕ
 head_of end t = little 2 (tag_of t) ++ (little 2 end ++ (little 2 (to_of t) ++ little 2 (other_of t)))
 
 -- the block from a to end was written
-pub record Put (w : List ℕ) (a end : ℕ) (t : BlockType) (w' : List ℕ) : Type 0 where
+pub record PutBlock (w : List ℕ) (a end : ℕ) (t : BlockType) (w' : List ℕ) : Type 0 where
   pub stored : Stored BLOCK w (row_place a) (head_of end t) w'
 
--- t is what stands in the row of a
-pub record TypeIs (w : List ℕ) (a : ℕ) (t : Option BlockType) : Type 0 where
+-- t is the type that stands in the row of a
+pub record BlockIs (w : List ℕ) (a : ℕ) (t : Option BlockType) : Type 0 where
   pub is : t ≡ read_at w a
   pub to : num_at 2 w (row_place a + TO) < 65536
   pub other : num_at 2 w (row_place a + OTHER) < 65536

@@ -2,14 +2,23 @@
 use mathlib.Core.Path.{◌≡◌, sym}
 use mathlib.Core.List.{List}
 use Prim.Native.Nat.{ℕ, suc, ◌+◌, ◌-◌, ◌*◌, ◌^◌, ◌≤◌, ◌<◌}
-use native.Mathlib.Nat.{pow-le-pow_right, pow-suc}
+use native.Mathlib.Nat.{mul-le-mul_right, pow-le-pow_right, pow-suc}
 use native.Mathlib.Numerals.{add-one}
 use native.Mathlib.Omega.{arith}
 use lib.ListN.{get_or}
+use lib.Pow.{pow-add}
 use mir.Syntax.{w8}
 use mir.Val.{Fits}
 use Rattle.lent.specs.Bytes.{num_at, Holds}
-use Rattle.lent.proofs.Numbers.{num-none, num-step}
+use Rattle.lent.proofs.Numbers.{num-none, num-step, num-add}
+
+-- a number in two halves
+pub holds-twice : (k : ℕ) {at x y : ℕ} {b : List ℕ} → Holds k b at x → Holds k b (at + k) y → Holds (k + k) b at (x + y * 256 ^ k)
+holds-twice k {at} {x} {y} {b} p q =
+    record {
+      is = rw (num-add k k b at, ← p.is, ← q.is);
+      small = omega (arith, pow-add 256 k k, mul-le-mul_right (256 ^ k) q.small);
+    }
 
 -- v is the number in the last i of the n bytes of b from `at` on
 pub record Reading (n : ℕ) (b : List ℕ) (at i v : ℕ) : Type 0 where

@@ -2,7 +2,8 @@
 use mathlib.Core.Path.{◌≡◌, refl, ap, ◌∙◌}
 use mathlib.Core.List.{List, [], ◌∷◌, ◌++◌}
 use Prim.Native.Nat.{ℕ, zero, suc, ◌+◌, ◌*◌, ◌/◌, ◌^◌, ◌≤◌, ◌<◌}
-use native.Mathlib.Nat.{zero-add, suc-add, div-one, pow-suc, pow-succ', div-div-eq-div-mul}
+use native.Mathlib.Nat.{zero-add, suc-add, add-zero, add_assoc, div-one, pow-suc, pow-succ', div-div-eq-div-mul}
+use native.Mathlib.Numerals.{one-add}
 use native.Mathlib.Omega.{arith}
 use lib.ListN.{length, get_or, take, drop, replicate}
 use lib.Seq.{take-nil, drop-nil}
@@ -39,6 +40,12 @@ num-none b at = refl
 
 pub num-byte : (b : List ℕ) (at : ℕ) → num_at 1 b at ≡ get_or b at 0
 num-byte b at = omega (arith, num-step 0 b at, num-none b (at + 1))
+
+-- a number in two parts
+pub num-add : (j k : ℕ) (b : List ℕ) (at : ℕ) → num_at (j + k) b at ≡ num_at j b at + num_at k b (at + j) * 256 ^ j
+num-add zero k b at = rw (zero-add, num-none, add-zero) (omega arith)
+num-add (suc j) k b at =
+    rw (suc-add, num-step (j + k), num-step j, num-add j k b (at + 1), pow-suc, add_assoc at 1 j, one-add) (omega arith)
 
 -- below the power of its width, where every byte is one
 pub num-small : (k : ℕ) (b : List ℕ) (at : ℕ) → ((i : ℕ) → get_or b i 0 < 256) → num_at k b at < 256 ^ k

@@ -1,13 +1,13 @@
 -- The laws of `patch`: what stays, what is read back, and patches after patches. Assumes nothing.
 use mathlib.Core.Path.{◌≡◌, refl, sym, ap, ◌∙◌}
-use mathlib.Core.List.{List, [], ◌∷◌, ◌++◌, append_assoc}
+use mathlib.Core.List.{List, [], ◌∷◌, ◌++◌, append_assoc, append-nil}
 use Prim.Native.Nat.{ℕ, ◌+◌, ◌-◌, ◌≤◌, ◌<◌}
-use native.Mathlib.Nat.{add-zero}
+use native.Mathlib.Nat.{add-zero, zero-add}
 use native.Mathlib.Numerals.{add-one}
 use native.Mathlib.Decide.{dec_lt}
 use native.Mathlib.Omega.{arith}
 use lib.ListN.{length, take, drop, set, length-append, length-take, length-drop, take-append-drop}
-use lib.Seq.{take-append-le, take_at, drop_at, length-take-le, drop-drop, drop-append-le, take-take, take-add, set_split}
+use lib.Seq.{take-append-le, take_at, drop_at, length-take-le, drop-drop, drop-append-le, take-take, take-add, set_split, drop-length}
 use Rattle.lent.specs.Bytes.{patch}
 use Rattle.lent.proofs.Parts.{by-halves, drop_more, part-prefix, part-suffix, part-of-take}
 
@@ -70,6 +70,10 @@ module _ (b : List ℕ) (at : ℕ) (bs : List ℕ) (fits : at + length bs ≤ le
 pub patch-none : (b : List ℕ) (at : ℕ) → patch b at [] ≡ b
 unfolding patch
 patch-none b at = rw add-zero (take-append-drop at b)
+
+pub patch-whole : (b bs : List ℕ) → length bs ≡ length b → patch b 0 bs ≡ bs
+unfolding patch
+patch-whole b bs e = rw (zero-add, e, drop-length, append-nil)
 
 -- one byte
 pub patch-byte : (b : List ℕ) (at x : ℕ) → at < length b → patch b at (x ∷ []) ≡ set b at x

@@ -25,6 +25,7 @@ module _ {code w p s t r q : List â„•} {k : Plan} {turn : Turn} {since start : â
         planned = record {
           is = g.is;
           limit = g.limit;
+          moded = g.moded;
           lent_w = record { short = g.lent_w.short; room = omega (arith, g.lent_w.room, o.long) };
           ends = omega (arith, g.ends, o.long);
           scratch = g.scratch;

@@ -9,7 +9,11 @@ use Rattle.tables.proofs.Alike.{AllBytes, AllLong}
 use Rattle.steps.specs.Runs.{tabled, st_of}
 use Rattle.steps.specs.declared.plan.Plan.{Plan}
 use Rattle.steps.specs.declared.Level.{Level}
-use Rattle.steps.specs.Goings.{Gone}
+use Rattle.std.specs.Prelude.{Result}
+use Rattle.refusal.specs.declared.Shortage.{Shortage}
+use Rattle.steps.specs.Goings.{Gone, gone}
+use Rattle.steps.specs.declared.Run.{Run}
+use Rattle.steps.proofs.Once.{ended-same}
 use Rattle.enter.specs.Fits.{Fits, level_of}
 use Rattle.enter.proofs.Once.{fits-lends, did-once, made-once, counts-once, OneKept, kept-once}
 use Rattle.levels.specs.Levels.{Came, Leveled}
@@ -42,3 +46,10 @@ module _ {code : List ℕ} {k : Plan} {start : ℕ} {l : Level} {m m' m'' : Mem}
     pub one-leveled : AllBytes (tabled m') → AllBytes (tabled m'') → AllLong (tabled m') (tabled m'') → (d ≡ e) × OneKept k l.np o.counts.used since m' m'' d.counts
     one-leveled b c long =
         (one-run, kept-once d e (left.fits z) (right.fits other) one_state (left.stays z) (right.stays other) (left.counts z) (right.counts other) b c long)
+
+-- ---- what `level` answers: of its result `gone` tells the number of a shortage
+
+module _ {code : List ℕ} {k : Plan} {start : ℕ} {l : Level} {m m' m'' : Mem} {o : Gone} (run u : Run) (x y : Result Unit Shortage) where
+  pub one-answer : Leveled code k start l m o m' (gone run x) → Leveled code k start l m o m'' (gone u y)
+      → {t : Turn} {since : ℕ} → Fits code k t since start m o.counts → x ≡ y
+  one-answer f g fits = ended-same x y (one_code f g fits)

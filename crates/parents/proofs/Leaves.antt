@@ -10,16 +10,17 @@ use lib.Dec.{leb, ltb}
 use borrow.Author.Tests.{eq-eqb, ne_eqb, lt-ltb, le-ltb, leb-true, leb-false}
 use Rattle.std.specs.Prelude as Option
 use Rattle.spec.specs.Opcodes.{in_mode}
-use Rattle.spec.specs.Lists.{little}
+use Rattle.spec.specs.Lists.{if, little}
 use Rattle.spec.specs.Walk.{instructions}
 use Rattle.spec.specs.Stacks.{Ran as Run-of, run}
 use Rattle.lent.specs.Bytes.{num_at, Holds, Stored}
 use Rattle.laws.proofs.Branch.{if-true, if-false}
 use Rattle.layout.specs.Parts.{row_place}
-use Rattle.layout.specs.Rows.{END, TO, POSITION, FIRST, NEXT, NEXT-OTHER, TAKER, OTHER, next_at, tag_of, tag_at, type_at, read_at, TypeIs, Put}
+use Rattle.layout.specs.Rows.{END, TO, POSITION, FIRST, NEXT, NEXT-OTHER, TAKER, OTHER, next_at, tag_of, typed, read_as, tag_at, type_at, numbered, numbers_at, TypeIs, BlockIs, PutBlock}
+use Rattle.layout.specs.declared.row.RowType.{RowType}
 use Rattle.layout.specs.declared.row.BlockType.{BlockType}
-use Rattle.layout.specs.declared.row.BlockType.TheVariants.{Terminate, Jump, Jumpi, DynamicJump, DynamicJumpi}
-use Rattle.layout.proofs.Types.{is-jump, is-jumpi, is-dynamic_jumpi, row-none, row-some, tag-dynamic}
+use Rattle.layout.specs.declared.row.BlockType.TheVariants.{Jump, Jumpi, DynamicJumpi}
+use Rattle.layout.proofs.Types.{by-byte, is-jump, is-jumpi, is-dynamic_jumpi, read-block, row-none, row-some, tag-dynamic}
 use Rattle.state.specs.Symbols.{sym_of}
 use Rattle.exec.specs.Owns.{goes_of, Owned}
 use Rattle.state.specs.declared.sym.StackSym.{StackSym}
@@ -41,68 +42,87 @@ link-wrote a side t h p q = record { is = q.is ∙ rw (p.is, h.is); kept = q.kep
 
 -- ---- every side
 
-module _ {w : List ℕ} {a : ℕ} {o : Option.Option BlockType} (y : TypeIs w a o) {t : BlockType} (there : o ≡ Option.Some t) (s : Sides w a) where
-  read : {u : BlockType} → t ≡ u → (tag_at w a ≡ 0 → ⊥) × (type_at w a ≡ u)
-  read e = let h = row-some y there in (h.0, h.1 ∙ e)
+module _ {w : List ℕ} {a : ℕ} {n : RowType} (y : TypeIs w a n) where
+  module _ {o : Option.Option BlockType} (said : o ≡ read_as n.kind n.to n.other) where
+    module _ {t : BlockType} (there : o ≡ Option.Some t) where
+      read : {u : BlockType} → t ≡ u → (tag_at w a ≡ 0 → ⊥) × (type_at w a ≡ u)
+      read e = let h = row-some (read-block y said) there in (h.0, h.1 ∙ e)
 
-  pub room-to : {to : ℕ} → t ≡ Jump to → LinkRoom w a 0 to
-  room-to e = let h = read e in record { own = s.own; to = rw (is-jump _ _ _ h.0 h.1).1 at s.to; one = omega arith }
+      is-to : {to : ℕ} → t ≡ Jump to → (tag_at w a ≡ 3) × (num_at 2 w (row_place a + TO) ≡ to)
+      is-to e = let h = read e in is-jump _ _ _ h.0 h.1
 
-  module _ {to f : ℕ} (e : t ≡ Jumpi to f) where
-    sides-are : (tag_at w a ≡ 4) × (num_at 2 w (row_place a + TO) ≡ to) × (num_at 2 w (row_place a + OTHER) ≡ f)
-    sides-are = let h = read e in is-jumpi _ _ _ h.0 h.1
+      sides-are : {to f : ℕ} → t ≡ Jumpi to f → (tag_at w a ≡ 4) × (num_at 2 w (row_place a + TO) ≡ to) × (num_at 2 w (row_place a + OTHER) ≡ f)
+      sides-are e = let h = read e in is-jumpi _ _ _ h.0 h.1
 
-    pub room-other : LinkRoom w a 1 f
-    room-other = record { own = s.own; to = rw sides-are.2 at s.other; one = omega arith }
+      is-false : {f : ℕ} → t ≡ DynamicJumpi f → (6 ≤ tag_at w a) × (num_at 2 w (row_place a + OTHER) ≡ f)
+      is-false e = let h = read e in is-dynamic_jumpi _ _ _ h.0 h.1
 
-    pub room-once : LinkRoom w a 0 to
-    room-once = record { own = s.own; to = rw sides-are.1 at s.to; one = omega arith }
+      module _ (s : Sides w a) where
+        pub room-to : {to : ℕ} → t ≡ Jump to → LinkRoom w a 0 to
+        room-to e = record { own = s.own; to = rw (is-to e).1 at s.to; one = omega arith }
 
-    pub room-then : {w₁ v : List ℕ} → Wrote w w₁ v → LinkRoom w₁ a 0 to
-    room-then p = record { own = omega (arith, s.own, p.kept); to = rw p.kept (rw sides-are.1 at s.to); one = omega arith }
+        module _ {to f : ℕ} (e : t ≡ Jumpi to f) where
+          pub room-other : LinkRoom w a 1 f
+          room-other = record { own = s.own; to = rw (sides-are e).2 at s.other; one = omega arith }
 
-  pub room-false : {f : ℕ} → t ≡ DynamicJumpi f → LinkRoom w a 1 f
-  room-false e = let h = read e in record { own = s.own; to = rw (is-dynamic_jumpi _ _ _ h.0 h.1).1 at s.other; one = omega arith }
+          pub room-once : LinkRoom w a 0 to
+          room-once = record { own = s.own; to = rw (sides-are e).1 at s.to; one = omega arith }
 
-module _ {w w' : List ℕ} {a : ℕ} {o : Option.Option BlockType} (y : TypeIs w a o) where
-  as-read : Wrote w w' (link_sides w a o) → Wrote w w' (link_sides w a (read_at w a))
-  as-read p = rw (← y.is) p
+          pub room-then : {w₁ v : List ℕ} → Wrote w w₁ v → LinkRoom w₁ a 0 to
+          room-then p = record { own = omega (arith, s.own, p.kept); to = rw p.kept (rw (sides-are e).1 at s.to); one = omega arith }
 
-  module _ {t : BlockType} (there : o ≡ Option.Some t) where
-    pub sides-jump : {to : ℕ} → t ≡ Jump to → Wrote w w' (link w a 0 to) → Wrote w w' (link_sides w a (read_at w a))
-    unfolding link_sides
-    sides-jump e p = as-read (rw (there, e) p)
+        pub room-false : {f : ℕ} → t ≡ DynamicJumpi f → LinkRoom w a 1 f
+        room-false e = record { own = s.own; to = rw (is-false e).1 at s.other; one = omega arith }
 
-    pub sides-once : {to f : ℕ} → t ≡ Jumpi to f → to ≡ f → Wrote w w' (link w a 0 to) → Wrote w w' (link_sides w a (read_at w a))
-    unfolding link_sides
-    sides-once e q p = as-read (rw (there, e) (record { is = p.is ∙ sym (if-true _ _ _ (eq-eqb _ _ q)); kept = p.kept }))
+      module _ {w' : List ℕ} where
+        pub sides-jump : {to : ℕ} → t ≡ Jump to → Wrote w w' (link w a 0 to) → Wrote w w' (link_sides w a (numbers_at w a))
+        unfolding link_sides if
+        sides-jump e p = let h = is-to e in rw (h.0, h.1) p
 
-    pub sides-both : {to f : ℕ} {w₁ : List ℕ} → t ≡ Jumpi to f → (to ≡ f → ⊥) → Wrote w w₁ (link w a 1 f) → Wrote w₁ w' (link w₁ a 0 to)
-        → Wrote w w' (link_sides w a (read_at w a))
-    unfolding link_sides
-    sides-both {to} e q p r =
-        as-read (rw (there, e) (record { is = r.is ∙ ap (λ (v : List ℕ). link v a 0 to) p.is ∙ sym (if-false _ _ _ (ne_eqb _ _ q)); kept = r.kept ∙ p.kept }))
+        pub sides-once : {to f : ℕ} → t ≡ Jumpi to f → to ≡ f → Wrote w w' (link w a 0 to) → Wrote w w' (link_sides w a (numbers_at w a))
+        unfolding link_sides if
+        sides-once e q p = let h = sides-are e in rw (h.0, h.1, h.2) (record { is = p.is ∙ sym (if-true _ _ _ (eq-eqb _ _ q)); kept = p.kept })
 
-    pub sides-false : {f : ℕ} → t ≡ DynamicJumpi f → Wrote w w' (link w a 1 f) → Wrote w w' (link_sides w a (read_at w a))
-    unfolding link_sides
-    sides-false e p = as-read (rw (there, e) p)
+        pub sides-both : {to f : ℕ} {w₁ : List ℕ} → t ≡ Jumpi to f → (to ≡ f → ⊥) → Wrote w w₁ (link w a 1 f) → Wrote w₁ w' (link w₁ a 0 to)
+            → Wrote w w' (link_sides w a (numbers_at w a))
+        unfolding link_sides if
+        sides-both {to} e q p r =
+            let h = sides-are e in
+            rw (h.0, h.1, h.2) (record { is = r.is ∙ ap (λ (v : List ℕ). link v a 0 to) p.is ∙ sym (if-false _ _ _ (ne_eqb _ _ q)); kept = r.kept ∙ p.kept })
 
-pub sides-empty : {w : List ℕ} {a : ℕ} {o : Option.Option BlockType} → TypeIs w a o → o ≡ Option.None → Wrote w w (link_sides w a (read_at w a))
-unfolding link_sides
-sides-empty y e = as-read y (rw e (record { is = refl; kept = refl }))
+        -- a DynamicJumpi's byte is 6, and any above reads the same
+        pub sides-false : {f : ℕ} {b : Bool} → b ≡ leb n.kind 6 → b ≡ true → t ≡ DynamicJumpi f → Wrote w w' (link w a 1 f) → Wrote w w' (link_sides w a (numbers_at w a))
+        unfolding link_sides if
+        sides-false k b e p =
+            let h = is-false e in
+            let low : n.kind ≤ 6 = leb-true n.kind 6 (sym k ∙ b) in
+            let six : tag_at w a ≡ 6 = omega (arith, h.0, low, ap (λ (m : RowType). m.kind) y.is) in
+            rw (six, h.1) p
 
-no-sides : (w : List ℕ) (a : ℕ) (t : BlockType) → ((to : ℕ) → t ≡ Jump to → ⊥) → ((to f : ℕ) → t ≡ Jumpi to f → ⊥) → ((f : ℕ) → t ≡ DynamicJumpi f → ⊥)
-    → link_sides w a (Option.Some t) ≡ w
-unfolding link_sides
-no-sides w a (Terminate success) h g k = refl
-no-sides w a (Jump to) h g k = absurd (h to refl)
-no-sides w a (Jumpi to f) h g k = absurd (g to f refl)
-no-sides w a DynamicJump h g k = refl
-no-sides w a (DynamicJumpi f) h g k = absurd (k f refl)
+    pub sides-empty : o ≡ Option.None → Wrote w w (link_sides w a (numbers_at w a))
+    unfolding link_sides if
+    sides-empty e = let z : tag_at w a ≡ 0 = row-none (read-block y said) e in record { is = rw z; kept = refl }
 
-pub sides-none : {w : List ℕ} {a : ℕ} {o : Option.Option BlockType} {t : BlockType} → TypeIs w a o → o ≡ Option.Some t → ((to : ℕ) → t ≡ Jump to → ⊥) → ((to f : ℕ) → t ≡ Jumpi to f → ⊥)
-    → ((f : ℕ) → t ≡ DynamicJumpi f → ⊥) → Wrote w w (link_sides w a (read_at w a))
-sides-none {w} {a} {o} {t} y e h g k = as-read y (rw e (record { is = sym (no-sides w a t h g k); kept = refl }))
+  pub sides-unknown : {b : Bool} → b ≡ leb n.kind 6 → b ≡ false → Wrote w w (link_sides w a (numbers_at w a))
+  unfolding link_sides if
+  sides-unknown k b =
+      let above : 6 < tag_at w a = omega (arith, leb-false n.kind 6 (sym k ∙ b), ap (λ (m : RowType). m.kind) y.is) in
+      record { is = rw (ne_eqb (tag_at w a) 3 (λ e. omega arith), ne_eqb (tag_at w a) 4 (λ e. omega arith), ne_eqb (tag_at w a) 6 (λ e. omega arith)); kept = refl }
+
+abbrev Sideless : BlockType → Type 0
+Sideless t = ((to : ℕ) → t ≡ Jump to → ⊥) × ((to f : ℕ) → t ≡ Jumpi to f → ⊥) × ((f : ℕ) → t ≡ DynamicJumpi f → ⊥)
+
+no-sides : (w : List ℕ) (a k to f : ℕ) → (k ≡ 0 → ⊥) → Sideless (typed k to f) → link_sides w a (numbered k to f) ≡ w
+unfolding link_sides if
+no-sides w a k to f =
+    by-byte k to f (λ t. Sideless t → link_sides w a (numbered k to f) ≡ w) (λ e _. rw e) (λ e _. rw e)
+    (λ _ h. absurd (h.0 to refl)) (λ _ h. absurd (h.1 to f refl)) (λ e _. rw e) (λ _ _ h. absurd (h.2 f refl))
+
+pub sides-none : {w : List ℕ} {a : ℕ} {n : RowType} {o : Option.Option BlockType} {t : BlockType} → TypeIs w a n → o ≡ read_as n.kind n.to n.other → o ≡ Option.Some t
+    → ((to : ℕ) → t ≡ Jump to → ⊥) → ((to f : ℕ) → t ≡ Jumpi to f → ⊥) → ((f : ℕ) → t ≡ DynamicJumpi f → ⊥) → Wrote w w (link_sides w a (numbers_at w a))
+sides-none {w} {a} y said e h g k =
+    let r = row-some (read-block y said) e in
+    record { is = sym (no-sides w a _ _ _ r.0 (λ x q. h x (sym r.1 ∙ q), λ x z q. g x z (sym r.1 ∙ q), λ x q. k x (sym r.1 ∙ q))); kept = refl }
 
 -- ---- the next parent
 
@@ -122,7 +142,7 @@ turn-wrote a x many p q = record { is = q.is ∙ rw p.is; kept = q.kept ∙ p.ke
 
 -- ---- a static type
 
-pub static-wrote : (a : ℕ) (t : BlockType) (to : ℕ) {last : ℕ} {k : BlockType} {w w' : List ℕ} → Holds 2 w (row_place a + END) last → k ≡ static_type t to → Put w a last k w'
+pub static-wrote : (a : ℕ) (t : BlockType) (to : ℕ) {last : ℕ} {k : BlockType} {w w' : List ℕ} → Holds 2 w (row_place a + END) last → k ≡ static_type t to → PutBlock w a last k w'
     → Wrote w w' (make_static w a t to)
 static-wrote a t to h q p = record { is = p.stored.is ∙ rw (q, h.is); kept = p.stored.kept }
 
@@ -142,7 +162,7 @@ module _ {w : List ℕ} {a : ℕ} {t : BlockType} (many : ℕ) where
   place-stays x (inl e) = rw e.1 (record { is = refl; count = refl; kept = refl })
   place-stays x (inr e) = rw e.1 (record { is = refl; count = refl; kept = refl })
 
-module _ {code w : List ℕ} {end a many : ℕ} (s : Settles code w end a many) {o : Option.Option BlockType} (y : TypeIs w a o) where
+module _ {code w : List ℕ} {end a many : ℕ} (s : Settles code w end a many) {o : Option.Option BlockType} (y : BlockIs w a o) where
   stays : {mode : ℕ} → tag_at w a < 5 → Settled mode code w end a many w many
   unfolding goes_at place
   stays {mode} h =

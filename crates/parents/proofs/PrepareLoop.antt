@@ -9,7 +9,6 @@ use native.Mathlib.Decide.{ℕ_discrete}
 use native.Mathlib.Nat.{add-zero, zero-add, sub_self}
 use lib.Dec.{eqb}
 use lib.ListN.{length, replicate}
-use Rattle.std.specs.Prelude as Option
 use Rattle.spec.specs.Opcodes.{row, in_mode}
 use Rattle.spec.specs.Lists.{if, little}
 use Rattle.spec.specs.Walk.{instructions}
@@ -24,9 +23,8 @@ use Rattle.laws.proofs.Members.{In}
 use Rattle.theorems.proofs.Counts.{lawful}
 use Rattle.theorems.proofs.Cutting.{made, block-afresh}
 use Rattle.layout.specs.Parts.{row_place, start_place}
-use Rattle.layout.specs.Rows.{END, TO, OTHER, FIRST, TAKER, to_of, other_of, tag_at, type_at, read_at, starts_at}
-use Rattle.layout.specs.declared.row.BlockType.{BlockType}
-use Rattle.layout.proofs.Types.{read-none}
+use Rattle.layout.specs.Rows.{END, TO, OTHER, FIRST, TAKER, to_of, other_of, numbered, numbers_of, tag_at, type_at, numbers_at, starts_at}
+use Rattle.layout.specs.declared.row.RowType.{RowType}
 use Rattle.initial.specs.Rows.{type_of, kind_at, block_at, row_blocks, blocks_from}
 use Rattle.theorems.proofs.Sides.{Within, block_within, node-within}
 use Rattle.initial.proofs.Types.{Good, good}
@@ -35,7 +33,7 @@ use Rattle.initial.proofs.Listing.{list-more}
 use Rattle.parents.specs.Rows.{own_bytes, link_bytes, taker_in, edge_to, first_to, own_of, links_of, nodes_here, nodes_from}
 use Rattle.parents.specs.Writes.{link_sides, place, many_past, goes_at}
 use Rattle.parents.specs.Promises.{Lent, LentStarts, Number, Beside, Sides, Wrote, Settles, Settled, PreparesRow, PreparedRow}
-use Rattle.parents.proofs.Slots.{own, first, links, entry, own-tag, own-to, own-side, own-type, own-read, none-tag, none-to, none-side, Rows, rows-ran, rows_as, rows-sides, rows-placed}
+use Rattle.parents.proofs.Slots.{own, first, links, entry, own-tag, own-to, own-side, own-type, own-numbers, none-tag, none-to, none-side, Rows, rows-ran, rows_as, rows-sides, rows-placed}
 use Rattle.parents.proofs.Starts.{Last, last-start, no_start, starts_none}
 use Rattle.parents.proofs.Settling.{none-own, none-links, slot-zero, no-first, no-entry, block-own, block-links, looks, settles}
 
@@ -172,13 +170,13 @@ module _ {mode : ℕ} {code w₀ : List ℕ} {end : ℕ} (l : Lent code w₀ end
     ran = rows-ran l.room l.inside here p.beside p.firsts p.entries s.ran
 
     -- after the first stage, with these blocks at a: the row's type, whose sides lie in the code
-    record Half (hs : List Node) (o : Option.Option BlockType) : Type 0 where
+    record Half (hs : List Node) (t : RowType) : Type 0 where
       rows : Rows code w₀ end a w w₁ (own_of hs) (link_bytes 0 0) (λ x. first_to x (nodes_from mode code w₀ (suc a))) (λ x. taker_in x (takers (hs ++ nodes_from mode code w₀ (suc a))))
-      type : read_at w₁ a ≡ o
+      type : numbers_at w₁ a ≡ t
       to : num_at 2 w₁ (row_place a + TO) ≤ length code
       other : num_at 2 w₁ (row_place a + OTHER) ≤ length code
 
-    half-sides : {hs : List Node} {o : Option.Option BlockType} → Half hs o → Sides w₁ a
+    half-sides : {hs : List Node} {t : RowType} → Half hs t → Sides w₁ a
     half-sides h =
         record {
           own = omega (arith, here, l.inside, l.room, h.rows.beside.kept);
@@ -188,7 +186,7 @@ module _ {mode : ℕ} {code w₀ : List ℕ} {end : ℕ} (l : Lent code w₀ end
 
     -- where no block starts
     module _ (none-there : tag_at w₀ a ≡ 0) where
-      half-none : Half [] Option.None
+      half-none : Half [] (numbered 0 0 0)
       unfolding place goes_at if
       half-none =
           let e : row_blocks w₀ a ≡ [] = here-empty w₀ a none-there in
@@ -198,7 +196,7 @@ module _ {mode : ℕ} {code w₀ : List ℕ} {end : ℕ} (l : Lent code w₀ end
           let d : Rows code w₀ end a w w₁ (replicate FIRST 0) (link_bytes 0 0) (λ x. first_to x (nodes_from mode code w₀ (suc a))) (λ x. taker_in x (takers (nodes_from mode code w₀ (suc a)))) = rw (q, ← o, ← k) ran in
           record {
             rows = d;
-            type = sym (read-none _ _ (none-tag w₁ a d.own_here));
+            type = rw (none-tag w₁ a d.own_here, none-to w₁ a d.own_here, none-side w₁ a d.own_here);
             to = omega (arith, none-to w₁ a d.own_here);
             other = omega (arith, none-side w₁ a d.own_here);
           }
@@ -230,7 +228,7 @@ module _ {mode : ℕ} {code w₀ : List ℕ} {end : ℕ} (l : Lent code w₀ end
       unfolding goes_at
       goes-looks = rw (own-tag w a (type_of (kind_at w₀ a)) (last_at w₀ a) 0 row-own)
 
-      half-block : Half (node_at mode code w₀ a ∷ []) (Option.Some (type_of (node_at mode code w₀ a).block.kind))
+      half-block : Half (node_at mode code w₀ a ∷ []) (numbers_of (type_of (node_at mode code w₀ a).block.kind))
       half-block =
           let x = settles a (last_at w₀ a) (run (in_mode mode) code (instructions code) a).stack (nodes_from mode code w₀ (suc a)) (kind_at w₀ a) (goes_from mode code a) in
           let q : w₁ ≡ place s.after a (type_of (kind_at w₀ a)) (looks (kind_at w₀ a) (goes_from mode code a)) (length (takers (nodes_from mode code w₀ (suc a)))) = s.is ∙ rw (row_type, goes-looks, p.counts) in
@@ -242,7 +240,7 @@ module _ {mode : ℕ} {code w₀ : List ℕ} {end : ℕ} (l : Lent code w₀ end
           let g = good-within (length code) l.short (node_at mode code w₀ a).block.kind v in
           record {
             rows = f;
-            type = own-read w₁ a (type_of (node_at mode code w₀ a).block.kind) (last_at w₀ a) _ f.own_here g.to g.other;
+            type = own-numbers w₁ a (type_of (node_at mode code w₀ a).block.kind) (last_at w₀ a) _ f.own_here g.to g.other;
             to = rw (own-to w₁ a (type_of (node_at mode code w₀ a).block.kind) (last_at w₀ a) _ f.own_here g.to) (type-to (length code) (node_at mode code w₀ a).block.kind v);
             other =
                 rw (own-side w₁ a (type_of (node_at mode code w₀ a).block.kind) (last_at w₀ a) _ f.own_here g.other) (type-other (length code) (node_at mode code w₀ a).block.kind v);
@@ -261,7 +259,7 @@ module _ {mode : ℕ} {code w₀ : List ℕ} {end : ℕ} (l : Lent code w₀ end
         go (no n) = half-sides (half-block n)
 
     -- after both: the row is prepared
-    module _ {w₂ : List ℕ} (d : Wrote w₁ w₂ (link_sides w₁ a (read_at w₁ a))) where
+    module _ {w₂ : List ℕ} (d : Wrote w₁ w₂ (link_sides w₁ a (numbers_at w₁ a))) where
       record Turned (hs : List Node) : Type 0 where
         rows : Rows code w₀ end a w w₂ (own_of hs) (links_of hs (nodes_from mode code w₀ (suc a))) (λ x. first_to x (hs ++ nodes_from mode code w₀ (suc a)))
             (λ x. taker_in x (takers (hs ++ nodes_from mode code w₀ (suc a))))
@@ -327,7 +325,7 @@ module _ {mode : ℕ} {code w₀ : List ℕ} {end : ℕ} (l : Lent code w₀ end
       let e : tag_at w a ≡ 0 = tag_same l p ∙ z in
       let s : Settled mode code w end a many w many =
       record { after = w; ran = record { front = refl; back = refl; kept = refl }; is = rw e; count = rw e; kept = refl } in
-      passed l p s (record { is = ap (link_sides w a) (read-none _ _ e); kept = refl })
+      passed l p s (record { is = rw e; kept = refl })
 
   pass-down : (b a : ℕ) → Pass mode code w₀ end w a many → b ≤ a → ((x : ℕ) → b ≤ x → x < a → tag_at w₀ x ≡ 0) → Pass mode code w₀ end w b many
   pass-down b zero p h none-there = let e : zero ≡ b = omega arith in subst (λ (j : ℕ). Pass mode code w₀ end w j many) e p

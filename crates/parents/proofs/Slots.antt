@@ -1,5 +1,6 @@
 -- The four parts of a row, and what each write does to them: own (12 bytes), first (2), links (4) and entry (2). Assumes nothing.
 use mathlib.Core.Path.{◌≡◌, refl, sym, ap, ◌∙◌}
+use mathlib.Core.Bool.{true, false}
 use mathlib.Core.Option.{Option, none, some}
 use mathlib.Core.List.{List}
 use Prim.Native.Nat.{ℕ, ◌+◌, ◌-◌, ◌*◌, ◌≤◌, ◌<◌}
@@ -9,7 +10,6 @@ use native.Mathlib.Decide.{ℕ_discrete}
 use lib.Dec.{eqb}
 use lib.ListN.{length, take, drop, replicate}
 use borrow.Author.Tests.{eq-eqb, ne_eqb}
-use Rattle.std.specs.Prelude as Option
 use Rattle.spec.specs.Lists.{if, little}
 use Rattle.spec.specs.Blocks.{Kind, terminate, jump, jumpi, dynamic_jump, dynamic_jumpi}
 use Rattle.spec.specs.Stacks.{Sym, before, constant, jumpdest, other}
@@ -20,9 +20,9 @@ use Rattle.lent.proofs.Numbers.{num-within, num-zeros, number-little}
 use Rattle.lent.proofs.Stored.{stored, kept-drop, kept-part, read_all}
 use Rattle.laws.proofs.Branch.{if-true, if-false}
 use Rattle.layout.specs.Parts.{row_place, rows_end}
-use Rattle.layout.specs.Rows.{END, TO, OTHER, POSITION, FIRST, NEXT, TAKER, LINKS, BLOCK, tag_of, to_of, other_of, tag_at, type_at, read_at, head_of, first_at}
+use Rattle.layout.specs.Rows.{END, TO, OTHER, POSITION, FIRST, NEXT, TAKER, LINKS, BLOCK, tag_of, to_of, other_of, tag_at, type_at, numbers_of, numbers_at, head_of, first_at}
 use Rattle.layout.specs.declared.row.BlockType.{BlockType}
-use Rattle.layout.proofs.Types.{typed-back, read-back, tag-range}
+use Rattle.layout.proofs.Types.{typed-back, tag-range}
 use Rattle.initial.specs.Rows.{type_of}
 use Rattle.theorems.proofs.Sides.{Within}
 use Rattle.parents.specs.Rows.{own_bytes, link_bytes, edge_to, first_to, to_past, other_past}
@@ -86,8 +86,8 @@ module _ (w : List ℕ) (a : ℕ) where
     pub own-type : to_of t < 65536 → other_of t < 65536 → type_at w a ≡ t
     own-type i j = rw (own-tag, own-to i, own-side j) (typed-back t)
 
-    pub own-read : to_of t < 65536 → other_of t < 65536 → read_at w a ≡ Option.Some t
-    own-read i j = rw (own-tag, own-to i, own-side j) (read-back t)
+    pub own-numbers : to_of t < 65536 → other_of t < 65536 → numbers_at w a ≡ numbers_of t
+    own-numbers i j = rw (own-tag, own-to i, own-side j)
 
     pub own-position : p < 4294967296 → num_at 4 w (row_place a + POSITION) ≡ p
     unfolding num_at
@@ -246,10 +246,11 @@ module _ {code w₀ : List ℕ} {end : ℕ} (room : rows_end (length code) + roo
 
   -- the sides of a kind: the links past the block, and in front of it
   pub rows-sides : (rs : List Node) → ((x : ℕ) → first_to x rs < 65536) → (k : Kind) → Within (length code) k → {w₁ o w₂ : List ℕ} {G : ℕ → ℕ}
-      → Rows code w₀ end a w w₁ o (link_bytes 0 0) (λ x. first_to x rs) G → w₂ ≡ link_sides w₁ a (Option.Some (type_of k))
+      → Rows code w₀ end a w w₁ o (link_bytes 0 0) (λ x. first_to x rs) G → w₂ ≡ link_sides w₁ a (numbers_of (type_of k))
       → Rows code w₀ end a w w₂ o (link_bytes (to_past k rs) (other_past k rs)) (λ x. edge_to x a k (first_to x rs)) G
   unfolding link_sides if
-  rows-sides rs small (terminate success) h r e = rw e r
+  rows-sides rs small (terminate false) h r e = rw e r
+  rows-sides rs small (terminate true) h r e = rw e r
   rows-sides rs small (jump t) h r e = to-sided rs small 0 t r (le_of_lt h) refl e
   rows-sides rs small (jumpi t f) h {w₁} {o} {w₂} {G} r e = go (ℕ_discrete t f)
     where

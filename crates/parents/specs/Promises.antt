@@ -10,7 +10,7 @@ use Rattle.spec.specs.Answer.{prepared}
 use Rattle.spec.specs.Rooms.{longest}
 use Rattle.lent.specs.Bytes.{num_at}
 use Rattle.layout.specs.Parts.{ROW, row_place, rows_end, starts_place, start_place}
-use Rattle.layout.specs.Rows.{TO, OTHER, tag_at, type_at, read_at, first_at, start_of}
+use Rattle.layout.specs.Rows.{TO, OTHER, tag_at, type_at, numbers_at, first_at, start_of}
 use Rattle.layout.specs.declared.row.BlockType.{BlockType}
 use Rattle.initial.specs.Rows.{blocks_at, Laid, Listed}
 use Rattle.exec.specs.Owns.{room_of}
@@ -100,7 +100,7 @@ pub record PreparesRow (mode : ℕ) (code w : List ℕ) (end a many : ℕ) : Typ
 pub record PreparedRow (mode : ℕ) (code w : List ℕ) (end a many : ℕ) (w' : List ℕ) (r : ℕ) : Type 0 where
   pub between : List ℕ
   pub settled : Settled mode code w end a many between r
-  pub linked : Wrote between w' (link_sides between a (read_at between a))
+  pub linked : Wrote between w' (link_sides between a (numbers_at between a))
   pub kept : length w' ≡ length w
 
 -- ---- the whole

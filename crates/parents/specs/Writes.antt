@@ -1,5 +1,4 @@
 -- What the functions write into W. Assumes nothing.
-use Rattle.std.specs.Prelude as Option
 use Rattle.std.specs.Prelude.{List, ℕ, ◌+◌, ◌*◌, eqb, ltb}
 use Rattle.std.proofs.Math.Option.{Option, none, some}
 use Rattle.spec.specs.Opcodes.{in_mode}
@@ -9,6 +8,7 @@ use Rattle.spec.specs.Stacks.{Sym, before, constant, jumpdest, other, run}
 use Rattle.lent.specs.Bytes.{num_at, patch}
 use Rattle.layout.specs.Parts.{row_place}
 use Rattle.layout.specs.Rows.{END, POSITION, FIRST, NEXT, TAKER, tag_at, head_of, first_at}
+use Rattle.layout.specs.declared.row.RowType.{RowType}
 use Rattle.layout.specs.declared.row.BlockType.{BlockType}
 use Rattle.layout.specs.declared.row.BlockType.TheVariants.{Terminate, Jump, Jumpi, DynamicJump, DynamicJumpi}
 
@@ -18,14 +18,12 @@ use Rattle.layout.specs.declared.row.BlockType.TheVariants.{Terminate, Jump, Jum
 unfoldable pub link : List ℕ → ℕ → ℕ → ℕ → List ℕ
 link w a side t = patch (patch w (row_place a + NEXT + 2 * side) (little 2 (first_at w t))) (row_place t + FIRST) (little 2 (a + 1))
 
--- the sides of a block type, if there is a block: "equal sides once", "of a DynamicJumpi the false side only"
-unfoldable pub link_sides : List ℕ → ℕ → Option.Option BlockType → List ℕ
-link_sides w a Option.None = w
-link_sides w a (Option.Some (Terminate success)) = w
-link_sides w a (Option.Some (Jump to)) = link w a 0 to
-link_sides w a (Option.Some (Jumpi to f)) = if (eqb to f) (link w a 0 to) (link (link w a 1 f) a 0 to)
-link_sides w a (Option.Some DynamicJump) = w
-link_sides w a (Option.Some (DynamicJumpi f)) = link w a 1 f
+-- the sides of a block type, by a row's numbers: "equal sides once", "of a DynamicJumpi the false side only"; a byte that is no kind's has none
+unfoldable pub link_sides : List ℕ → ℕ → RowType → List ℕ
+link_sides w a t =
+    if (eqb t.kind 3) (link w a 0 t.to)
+    (if (eqb t.kind 4) (if (eqb t.to t.other) (link w a 0 t.to) (link (link w a 1 t.other) a 0 t.to))
+    (if (eqb t.kind 6) (link w a 1 t.other) w))
 
 -- ---- the first stage
 

@@ -2,7 +2,7 @@
 // "each block with its own stack, for every static side (equal sides once), of a DynamicJumpi the false side only"
 ghost use Rattle.std.specs.Prelude.{◌≡◌, ◌+◌, ◌*◌, ◌≤◌, length};
 ghost use Rattle.layout.specs.Parts.{ROW, row_place};
-ghost use Rattle.layout.specs.Rows.{read_at, first_at, start_of, next_at};
+ghost use Rattle.layout.specs.Rows.{numbers_at, first_at, start_of, next_at};
 ghost use Rattle.parents.specs.Writes.{link, link_sides};
 ghost use Rattle.parents.specs.Promises.{LinkRoom, Sides, Wrote, Number, Link};
 
@@ -19,12 +19,17 @@ fn link(w: &mut [u8], start: usize, side: usize, to: usize)
     put16(w, ROW * to + FIRST, start + 1);
 }
 
-// Puts every static side of the block at `start` in front of its parents: equal sides once, of a DynamicJumpi the false side only.
+// Puts every static side of the block at `start` in front of its parents: equal sides once, of a DynamicJumpi the false side only. A row with another byte
+// than a kind's has none.
 pub fn link_sides(w: &mut [u8], start: usize)
     requires { Sides w.old start }
-    ensures { Wrote w.old w.new (link_sides w.old start (read_at w.old start)) }
+    ensures { Wrote w.old w.new (link_sides w.old start (numbers_at w.old start)) }
 {
-    let Some(block) = type_at(w, start) else {
+    let numbers = type_at(w, start);
+    if !numbers.is_known() {
+        return;
+    }
+    let Some(block) = numbers.block() else {
         return;
     };
     match block {

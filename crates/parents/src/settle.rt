@@ -11,7 +11,7 @@ ghost use Rattle.parents.specs.Promises.{Settles, TurnRoom, Settled, Placed, Wro
 use crate::taker::take_turn;
 use exec::mode::Mode;
 use exec::run::run;
-use layout::row::{BlockType, END, ROW, put_block, type_at};
+use layout::row::{BlockType, END, ROW, block_at, write_block};
 use lent::get16;
 use state::sym::StackSym;
 
@@ -21,7 +21,7 @@ pub fn settle(mode: Mode, code: &[u8], w: &mut [u8], end: usize, start: usize, m
     requires { Settles code.now w.old end start many }
     ensures { Settled (mode_of mode) code.now w.old end start many w.new result }
 {
-    let Some(block) = type_at(w, start) else {
+    let Some(block) = block_at(w, start) else {
         return many;
     };
     if !block.is_dynamic() {
@@ -57,7 +57,7 @@ fn make_static(w: &mut [u8], start: usize, block: BlockType, to: usize)
     ensures { Wrote w.old w.new (make_static w.old start block to) }
 {
     let last = get16(w, ROW * start + END);
-    put_block(w, start, last, static_type(block, to));
+    write_block(w, start, last, static_type(block, to));
 }
 
 // The static type of a dynamic block: no other is settled, and each keeps its false side.

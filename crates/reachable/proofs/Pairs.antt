@@ -10,7 +10,7 @@ use Rattle.spec.specs.Lists.{if, mem}
 use Rattle.spec.specs.Search.{sides}
 use Rattle.laws.proofs.Branch.{both, if-true, if-false}
 use Rattle.laws.proofs.Members.{mem-append}
-use Rattle.layout.specs.Rows.{tag_at, TypeIs}
+use Rattle.layout.specs.Rows.{tag_at, BlockIs}
 use Rattle.layout.specs.declared.row.BlockType.{BlockType}
 use Rattle.layout.specs.declared.row.BlockType.TheVariants.{Terminate, Jump, Jumpi, DynamicJump, DynamicJumpi}
 use Rattle.layout.proofs.Types.{row-none, row-some}
@@ -22,7 +22,7 @@ use Rattle.reachable.proofs.Rows.{sides-of}
 
 -- ---- the sides, kind by kind
 
-module _ {w : List ℕ} {x : ℕ} {o : Option BlockType} (r : TypeIs w x o) where
+module _ {w : List ℕ} {x : ℕ} {o : Option BlockType} (r : BlockIs w x o) where
   pub pair-empty : o ≡ None → SidesOf w x None None
   pair-empty e = record { same = λ y. ap (mem y) (sides-of w x ∙ if-true _ _ _ (eq-eqb (tag_at w x) 0 (row-none r e))) }
 

@@ -5,14 +5,14 @@ ghost use Rattle.layout.specs.Parts.{row_place};
 ghost use Rattle.layout.specs.Rows.{BLOCK};
 ghost use Rattle.reachable.specs.Edges.{SidesOf};
 
-use layout::row::{BlockType, type_at};
+use layout::row::{BlockType, block_at};
 
 // The true side and the false side of the block at `address`, as far as it has them; none where no block starts.
 pub fn sides(w: &[u8], address: usize) -> (Option<usize>, Option<usize>)
     requires { row_place address + BLOCK ≤ length w.now }
     ensures { SidesOf w.now address result.0 result.1 }
 {
-    let Some(block) = type_at(w, address) else {
+    let Some(block) = block_at(w, address) else {
         return (None, None);
     };
     match block {

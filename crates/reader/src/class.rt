@@ -1,7 +1,7 @@
 // What an entry is to the order of the entries.
 ghost use Rattle.std.specs.Prelude.{◌≡◌, ◌<◌, Some, Ok};
 ghost use Rattle.reader.specs.Shapes.{entry_at};
-ghost use Rattle.reader.specs.Classes.{class_of, start_of, block_step, way_step, record_step, step_of, block_inside, record_inside};
+ghost use Rattle.reader.specs.Classes.{class_of, start_of, form_of, block_step, way_step, record_step, step_of, block_inside, record_inside};
 
 use crate::entry::{Entry, entry_at};
 
@@ -16,7 +16,7 @@ pub enum Class {
 }
 
 // Behind the head: blocks may come, from a start on; or also 7s of the dynamic block at `block`, of whose count so many are left; or records
-// alone, with or without their numbers as those before.
+// alone, of the form of those before.
 #[derive(Clone, Copy)]
 pub enum Order {
     Blocks {
@@ -28,7 +28,7 @@ pub enum Order {
         left: usize,
     },
     Records {
-        numbered: bool,
+        form: usize,
     },
 }
 
@@ -107,24 +107,32 @@ fn after_way(order: Order) -> Option<Order>
     }
 }
 
-// A record, where no 7 is left to come. "After one of 8 and 9 the other is a bad entry".
+// The form of a record, with its number or without: where its path length stands in the body, which the definitions tell its kind by.
 // `numbered` is a fact that the result depends on: it chooses no step to run.
-fn after_record(order: Order, numbered: bool) -> Option<Order>
-    ensures { result ≡ record_step numbered order }
+fn form_of(numbered: bool) -> usize
+    ensures { result ≡ form_of numbered }
+{
+    if numbered { 8 } else { 4 }
+}
+
+// A record, where no 7 is left to come. "After one of 8 and 9 the other is a bad entry".
+#[tactic(auto, using(crate::proofs::Classing::record_same, crate::proofs::Classing::record_other))]
+fn after_record(order: Order, form: usize) -> Option<Order>
+    ensures { result ≡ record_step form order }
 {
     match order {
-        Order::Blocks { .. } => Some(Order::Records { numbered }),
+        Order::Blocks { .. } => Some(Order::Records { form }),
         Order::Sevens { left, .. } => {
             if left != 0 {
                 return None;
             }
-            Some(Order::Records { numbered })
+            Some(Order::Records { form })
         }
-        Order::Records { numbered: before } => {
-            if numbered != before {
+        Order::Records { form: before } => {
+            if form != before {
                 return None;
             }
-            Some(Order::Records { numbered: before })
+            Some(Order::Records { form: before })
         }
     }
 }
@@ -147,7 +155,7 @@ pub fn behind(class: Class, order: Order, at: usize) -> Option<Order>
             },
         ),
         Class::Way => after_way(order),
-        Class::Record { numbered } => after_record(order, numbered),
+        Class::Record { numbered } => after_record(order, form_of(numbered)),
     }
 }
 

@@ -10,9 +10,9 @@ use lib.ListN.{length, get_or, set}
 use borrow.Author.Tests.{le-leb, lt-leb, lt-ltb, le-ltb}
 use Rattle.spec.specs.Eights.{eights, as_eights, all_fit, over}
 use Rattle.spec.specs.Report as spec
-use Rattle.spec.specs.Report.{Totals, listed, sums, dynamic_blocks, share, lowest, report_bytes, fits, renewed, reported, no_fit}
+use Rattle.spec.specs.Report.{Totals, listed, sums, dynamic_blocks, share, lowest, report_bytes, fits, renewed, ReportOutcome, reported, bad_map, no_fit}
 use Rattle.spec.specs.Reader.{Reading as Said, holds, bad, read}
-use Rattle.laws.proofs.Branch.{if-true, if-false, and-false}
+use Rattle.laws.proofs.Branch.{both, if-true, if-false, and-false}
 use Rattle.laws.proofs.Members.{and-true}
 use Rattle.theorems.proofs.ReaderPlaces.{never}
 use Rattle.lent.specs.Bytes.{patch, Stored}
@@ -121,6 +121,18 @@ module _ (report other : List ℕ) where
       if-true (leb 120 (length other)) (renewed report (spec.join (spec.totals_in report) (spec.totals_in other))) no_fit (le-leb 120 (length other) h)
       ∙ ap (λ (l : List ℕ). renewed report (spec.join (spec.totals_in report) (listed l))) (sym e) in
       record { said = t.said ∙ sym (ap said_of j); bytes = t.bytes ∙ sym (ap (spec.report_after report) j) }
+
+-- new totals are never a bad map
+renewed-good : (b : List ℕ) (t : Totals) (at : ℕ) → renewed b t ≡ bad_map at → ⊥
+unfolding renewed
+renewed-good b t at =
+    both (λ (o : ReportOutcome). o ≡ bad_map at → ⊥) (leb 120 (length b) && fits t) (λ _ (e : reported (over (report_bytes t) b) ≡ bad_map at). never (cc))
+    (λ _ (e : no_fit ≡ bad_map at). never (cc))
+
+-- and what is joined is none
+pub join-good : (report other : List ℕ) (at : ℕ) → spec.report_join report other ≡ bad_map at → ⊥
+join-good report other at =
+    both (λ (o : ReportOutcome). o ≡ bad_map at → ⊥) (leb 120 (length other)) (λ _. renewed-good report _ at) (λ _ (e : no_fit ≡ bad_map at). never (cc))
 
 -- ---- adding a map
 

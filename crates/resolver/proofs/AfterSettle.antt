@@ -176,6 +176,7 @@ module _ {code : List ℕ} {k : Plan} {since : ℕ} {w p s t r q : List ℕ} {cu
       planned = record {
         is = i.planned.is;
         limit = i.planned.limit;
+        moded = i.planned.moded;
         lent_w = room-but e.kept i.planned.lent_w;
         ends = omega (arith, i.planned.ends, e.kept.long);
         scratch = i.planned.scratch;

@@ -23,9 +23,14 @@ use Rattle.tables.proofs.Alike.{AllBytes, AllLong, OneTables, one-tables}
 use Rattle.reachable.specs.Marks.{flagged, marked_by}
 use Rattle.reachable.proofs.Raising.{highest-once}
 use Rattle.steps.specs.Runs.{tabled, recs_in}
-use Rattle.steps.specs.Goings.{Gone}
+use Rattle.std.specs.Prelude.{Result, Ok, Err}
+use Rattle.refusal.specs.declared.Shortage.{Shortage}
+use Rattle.tables.proofs.Shorts.{short-some}
+use Rattle.steps.specs.Goings.{Gone, under_way}
+use Rattle.steps.specs.declared.Run.{Run}
+use Rattle.steps.proofs.Once.{short-same}
 use Rattle.enter.proofs.Once.{marked-too}
-use Rattle.resolver.specs.Turns.{last_since, plan, Searched}
+use Rattle.resolver.specs.Turns.{last_since, plan, outcome_of, Searched}
 
 -- what two results share where the number is 0
 pub record OneSearch (mode : Mode) (code : List ℕ) (limit many : ℕ) (m m' m'' : Mem) (d e : Gone) : Type 0 where
@@ -72,7 +77,7 @@ module _ {mode : Mode} {code : List ℕ} {limit many : ℕ} {m m' m'' : Mem} {d 
     same-recs : recs_in (plan mode code limit many m) m' d.counts ≡ recs_in (plan mode code limit many m) m'' d.counts
     same-recs = found-recs ∙ ap (recs_in (plan mode code limit many m) m'') (sym one-counts)
 
-    one-run : d ≡ e
+    pub one-run : d ≡ e
     one-run =
         let energy = f.energy z ∙ sym (g.energy other) in
         λ i. record { code = one_code i; energy = energy i; counts = one-counts i }
@@ -121,3 +126,17 @@ module _ {mode : Mode} {code : List ℕ} {limit many : ℕ} {m m' m'' : Mem} {d 
           flags = one-flags;
           reached = one-reached;
         }
+
+-- ---- the result of `search`, of which `outcome_of` tells the number, the energy and the counts
+
+outcome-same : (x y : Result Run Shortage) → (outcome_of x).code ≡ (outcome_of y).code → ((outcome_of x).code ≡ 0 → outcome_of x ≡ outcome_of y) → x ≡ y
+outcome-same (Ok x) (Ok y) e same =
+    let one : under_way x ≡ under_way y = same refl in
+    λ i. Ok (record { energy = (one i).energy; counts = (one i).counts })
+outcome-same (Ok x) (Err y) e same = absurd (short-some y (sym e))
+outcome-same (Err x) (Ok y) e same = absurd (short-some x e)
+outcome-same (Err x) (Err y) e same = ap Err (short-same x y e)
+
+module _ {mode : Mode} {code : List ℕ} {limit many : ℕ} {m m' m'' : Mem} (x y : Result Run Shortage) where
+  pub one-outcome : Searched mode code limit many m m' (outcome_of x) → Searched mode code limit many m m'' (outcome_of y) → x ≡ y
+  one-outcome f g = outcome-same x y (one_code f g) (one-run f g)

@@ -25,6 +25,7 @@ use Rattle.layout.specs.Parts.{rows_end, fields_place, buckets_place, bucket_pla
 use Rattle.layout.specs.Buffers.{Mem, buffers}
 use Rattle.exec.specs.Modes.{mode_of}
 use Rattle.exec.specs.declared.mode.Mode.{Mode}
+use Rattle.exec.specs.declared.mode.Mode.TheVariants.{Plain, KnownZero}
 use Rattle.tables.specs.Records.{recs_of}
 use Rattle.tables.specs.Rows.{met_of}
 use Rattle.tables.specs.Tables.{NoLinks}
@@ -54,6 +55,10 @@ use Rattle.tables.proofs.Shorts.{short-some}
 use Rattle.steps.specs.declared.Run.{Run}
 use Rattle.steps.specs.Goings.{Gone, gone}
 pub use Rattle.enter.proofs.TurnKept.{known-within}
+
+few-modes : (mode : Mode) → mode_of mode ≤ 1
+few-modes Plain = omega arith
+few-modes KnownZero = omega arith
 
 -- ---- a mark of 1, or none
 
@@ -153,6 +158,7 @@ module _ {mode : Mode} {code w w₁ w₂ : List ℕ} {limit many : ℕ} (a : Sea
       planned = record {
         is = refl;
         limit = a.limited;
+        moded = few-modes mode;
         lent_w = record { short = a.short; room = omega (arith, a.lent, begin-long) };
         ends = omega (arith, a.lent, begin-long);
         scratch = omega arith;

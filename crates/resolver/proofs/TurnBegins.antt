@@ -54,7 +54,7 @@ module _ {code : List ℕ} {k : Plan} {reached : List ℕ} {since : ℕ} {m : Me
     own-asks =
         let g = idle.planned in
         record {
-          runs = record { short = omega (arith, g.is, g.lent_w.short); inside = g.ends; room = omega (arith, g.scratch) };
+          runs = record { runs = record { short = omega (arith, g.is, g.lent_w.short); inside = g.ends; room = omega (arith, g.scratch) }; moded = g.moded };
           helds = g.helds;
           is = g.is;
           inside = taking.inside;
@@ -123,6 +123,7 @@ module _ {code : List ℕ} {k : Plan} {reached : List ℕ} {since : ℕ} {m : Me
               planned = record {
                 is = g.is;
                 limit = g.limit;
+                moded = g.moded;
                 lent_w = alike-room begun-alike g.lent_w;
                 ends = omega (arith, g.ends, begun-alike.links.long);
                 scratch = g.scratch;

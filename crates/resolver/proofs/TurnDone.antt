@@ -258,6 +258,7 @@ module _ {code : List ℕ} {k : Plan} {start : ℕ} {m m' : Mem} {o d : Gone} (h
               planned = record {
                 is = g.is;
                 limit = g.limit;
+                moded = g.moded;
                 lent_w = alike-room off g.lent_w;
                 ends = omega (arith, g.ends, off.links.long);
                 scratch = g.scratch;

@@ -193,7 +193,7 @@ plan_of mode n limit many rooms =
       shelves = min rooms.t 0x10000;
       limit = limit;
       rooms = rooms;
-      mode = mode;
+      mode = mode_of mode;
     }
 
 abbrev pub plan : Mode → List ℕ → ℕ → ℕ → Mem → Plan

@@ -95,7 +95,7 @@ fn plan_of(mode: Mode, size: usize, limit: usize, many: usize, rooms: Rooms) -> 
         shelves,
         limit,
         rooms,
-        mode,
+        mode: mode.into(),
     }
 }
 

@@ -45,12 +45,12 @@ way-to (Sevens low block left) r e =
     (λ _ (g : Some (Sevens low block (left - 1)) ≡ Some r). let same : Sevens low block (left - 1) ≡ r = cc in ap running same) e
 way-to (Records form) r e = never (cc)
 
-record-to : (form : Bool) (p r : Order) → record_step form p ≡ Some r → false ≡ running r
+record-to : (form : ℕ) (p r : Order) → record_step form p ≡ Some r → false ≡ running r
 record-to form (Blocks low) r e = let same : Records form ≡ r = cc in ap running same
 record-to form (Sevens low block left) r e =
     both (λ (x : Option Order). x ≡ Some r → false ≡ running r) (eqb left 0) (λ _ (g : Some (Records form) ≡ Some r). let same : Records form ≡ r = cc in ap running same) (λ _ (g : None ≡ Some r). never (cc)) e
 record-to form (Records before) r e =
-    both (λ (x : Option Order). x ≡ Some r → false ≡ running r) (eqb (form_of form) (form_of before)) (λ _ (g : Some (Records before) ≡ Some r). let same : Records before ≡ r = cc in ap running same)
+    both (λ (x : Option Order). x ≡ Some r → false ≡ running r) (eqb form before) (λ _ (g : Some (Records before) ≡ Some r). let same : Records before ≡ r = cc in ap running same)
     (λ _ (g : None ≡ Some r). never (cc)) e
 
 -- ---- an entry of a sort, by its class
@@ -88,7 +88,7 @@ module _ (there : ℕ) (body : List ℕ) where
   told-right (BLOCK DYNAMIC-JUMP) h = told-dynamic (BLOCK DYNAMIC-JUMP) (field 0 2 body) (field 4 4 body) refl refl (λ _. refl)
   told-right (BLOCK DYNAMIC-JUMPI) h = told-dynamic (BLOCK DYNAMIC-JUMPI) (field 0 2 body) (field 6 4 body) refl refl (λ _. refl)
   told-right (WAY missing) h = record { blocks_are = refl; records_are = refl; run_is = λ p q at e. way-to p q e }
-  told-right (RECORD to missing) h = record { blocks_are = refl; records_are = refl; run_is = λ p q at e. record-to (is_some (number_of to body)) p q e }
+  told-right (RECORD to missing) h = record { blocks_are = refl; records_are = refl; run_is = λ p q at e. record-to (form_of (is_some (number_of to body))) p q e }
   told-right UNKNOWN h = absurd (h refl)
 
   told-wrong : (x : Sort) → Tells x (known x (Err Wrong))

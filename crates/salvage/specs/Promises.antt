@@ -24,7 +24,7 @@ pub record Headed (b : List ℕ) (to n m : ℕ) : Type 0 where
 abbrev pub running : Order → Bool
 running (Blocks low) = not (eqb low 0)
 running (Sevens low block left) = true
-running (Records numbered) = false
+running (Records form) = false
 
 -- a 7 of a run is next
 abbrev pub runs : Order → List ℕ → ℕ → Bool

@@ -2,6 +2,7 @@
 use mathlib.Core.Path.{◌≡◌, refl, sym, ap, subst, ◌∙◌}
 use mathlib.Core.Logic.{◌⊎◌, inl, inr}
 use mathlib.Core.List.{List}
+use Rattle.std.specs.Prelude.{Option, Some, None}
 use Prim.Native.Nat.{ℕ, ◌+◌, ◌-◌, ◌*◌, ◌≤◌, ◌<◌}
 use native.Mathlib.Omega.{arith}
 use lib.ListN.{length, take, drop}
@@ -19,7 +20,7 @@ use Rattle.exec.specs.Owns.{runs_room, Owned}
 use Rattle.exec.specs.declared.run.Own.{Own}
 use Rattle.steps.specs.Plans.{mode_in}
 use Rattle.steps.specs.declared.plan.Plan.{Plan}
-use Rattle.steps.specs.Helds.{link_of, filled_of, cell_of, count_of, HeldAt, Helds, HoldAsks, HeldRoom, HeldPut, HoldDone, OwnAsks, RanNow, Gave}
+use Rattle.steps.specs.Helds.{HeldIs, link_of, filled_of, cell_of, count_of, HeldAt, Helds, HoldAsks, HeldRoom, HeldPut, HoldDone, OwnAsks, RanNow, Gave}
 use Rattle.steps.specs.declared.own.StateAt.{StateAt}
 
 -- ---- where what lies between the buckets in use and the part for runs stays
@@ -165,8 +166,8 @@ module _ {k : Plan} {code w : List ℕ} {start : ℕ} (a : OwnAsks k code w star
     own-holds =
         record {
           inside = a.inside;
-          short = omega (arith, a.is, a.runs.short);
-          ends = omega (arith, a.runs.inside, ran-beyond.long);
+          short = omega (arith, a.is, a.runs.runs.short);
+          ends = omega (arith, a.runs.runs.inside, ran-beyond.long);
           room = ran-beyond.helds.room;
           low = omega (arith, a.is, o.low);
           high = o.high;
@@ -208,6 +209,33 @@ module _ {k : Plan} {code w : List ℕ} {start : ℕ} (a : OwnAsks k code w star
           rw (y.1, y.2)
           (record { lies = h.lies; few = h.few; beyond = record { helds = a.helds; front = refl; back = refl; long = refl } })
       either (inr y) = rw y.1.is (ran-given y.1)
+
+  -- what is held is given, and where none is, what was run
+  module _ {x : Option StateAt} (h : HeldIs k w start x) where
+    pub own_held : {y : StateAt} → x ≡ Some y → Gave k code start w w y
+    own_held {y} some = either h.is
+      where
+        either : ((link_of k w start ≡ 0) × (x ≡ None))
+            ⊎ ((link_of k w start ≡ 0 → ⊥) × (x ≡ Some (record { at = cell_of k (link_of k w start); n = count_of k w (link_of k w start - 1) }))) → Gave k code start w w y
+        either (inl e) = absurd (is_not (sym some ∙ e.1))
+          where
+            is_not : Some y ≡ None → ⊥
+            is_not q = cc
+        either (inr e) = record { is = inl (e.0, refl, same (sym some ∙ e.1)) }
+          where
+            same : {z : StateAt} → Some y ≡ Some z → y ≡ z
+            same q = cc
+
+    pub own-ran : {w' : List ℕ} {y : StateAt} → x ≡ None → RanNow k code start w w' y → Gave k code start w w' y
+    own-ran {w'} {y} none r = either h.is
+      where
+        either : ((link_of k w start ≡ 0) × (x ≡ None))
+            ⊎ ((link_of k w start ≡ 0 → ⊥) × (x ≡ Some (record { at = cell_of k (link_of k w start); n = count_of k w (link_of k w start - 1) }))) → Gave k code start w w' y
+        either (inl e) = record { is = inr (e.0, r) }
+        either (inr e) = absurd (is_not (sym e.1 ∙ none))
+          where
+            is_not : {z : StateAt} → Some z ≡ None → ⊥
+            is_not q = cc
 
 -- ---- the ways out of `hold`
 

@@ -3,7 +3,7 @@
 use mathlib.Core.Path.{◌≡◌, refl, sym, ap, ◌∙◌}
 use mathlib.Core.Logic.{◌⊎◌, inl, inr}
 use mathlib.Core.Bool.{Bool, true, false, ◌&&◌, true≢false}
-use mathlib.Core.List.{List}
+use mathlib.Core.List.{List, [], ◌∷◌}
 use Rattle.std.specs.Prelude.{Option, Some, None, Result, Ok, Err}
 use Rattle.refusal.specs.declared.Shortage.{Shortage}
 use Rattle.refusal.specs.Numbers.{short_number}
@@ -13,7 +13,7 @@ use lib.Dec.{eqb, ltb}
 use lib.ListN.{length, take, drop}
 use Rattle.spec.specs.Lists.{if, mem, little}
 use Rattle.spec.specs.Stacks.{Stack}
-use Rattle.spec.specs.Search.{Found, kept, dest}
+use Rattle.spec.specs.Search.{S, Found, kept, dest}
 use Rattle.laws.proofs.Branch.{if-false}
 use Rattle.lent.specs.Bytes.{Stored, patch}
 use Rattle.lent.proofs.Numbers.{num-prefix}
@@ -27,9 +27,9 @@ use Rattle.state.proofs.Once.{one_symbol, one_lies}
 use Rattle.tables.specs.Addrs.{addrs}
 use Rattle.tables.specs.Tables as tables
 use Rattle.tables.specs.Tables.{recs, counted}
-use Rattle.tables.specs.Recording.{recorded?}
+use Rattle.tables.specs.Recording.{short_of, recorded?}
 use Rattle.tables.specs.declared.Counts.{Counts}
-use Rattle.tables.specs.Replies.{Reply, reply_of}
+use Rattle.tables.specs.Replies.{Reply, code_of, reply_of}
 use Rattle.tables.proofs.Shorts.{short-some}
 use Rattle.refusal.specs.declared.Shortage.TheVariants as short
 use Rattle.tables.specs.declared.row.Seen.{Seen}
@@ -39,7 +39,7 @@ use Rattle.tables.proofs.Once.{one_answer, one-memorized}
 use Rattle.steps.specs.Lands.{remarked, heightened, Noted}
 use Rattle.steps.specs.Meets.{Meeting, meeting_of, Met}
 use Rattle.steps.specs.Paths.{Grown, Counted}
-use Rattle.steps.specs.States.{Took}
+use Rattle.steps.specs.States.{told_of, named_in, Took}
 use Rattle.exec.specs.Owns.{runs_room, Owned, Runs}
 use Rattle.exec.specs.declared.run.Own.{Own}
 use Rattle.exec.proofs.Once.{OneRun, one-owned}
@@ -50,6 +50,7 @@ use Rattle.steps.specs.declared.own.StateAt.{StateAt}
 use Rattle.steps.proofs.Helds.{own-holds}
 use Rattle.steps.specs.declared.Level.{Level}
 use Rattle.steps.specs.declared.state_of.Taken.{Taken}
+use Rattle.steps.specs.declared.state_of.Untaken.{Untaken}
 
 -- ---- the answers are as their numbers
 
@@ -64,7 +65,7 @@ numbered short.T = refl
 numbered short.R = refl
 numbered short.Q = refl
 
-short-same : (x y : Shortage) → short_number x ≡ short_number y → x ≡ y
+pub short-same : (x y : Shortage) → short_number x ≡ short_number y → x ≡ y
 short-same x y e = sym (numbered x) ∙ ap shortage_of e ∙ numbered y
 
 meeting-same : (c : Counts) (x y : Result (Option Counts) Shortage) → meeting_of c x ≡ meeting_of c y → x ≡ y
@@ -192,21 +193,34 @@ one-counted {n} {np} {w} {p} {u} {v} b d f g =
 -- ---- a parent's state
 
 module _ {code w s w' w'' s' s'' : List ℕ} {k : Plan} {c : Counts} {l : Level} {parent : Stack} where
-  took-alike : (x y : Result Taken Shortage) → Took code w s k c l parent w' s' x → Took code w s k c l parent w'' s'' y → (x ≡ y) × (s' ≡ s'')
-  took-alike (Err x) (Err y) f g = (ap Err (f.refused.0 ∙ sym g.refused.0), f.refused.1 ∙ sym g.refused.1)
-  took-alike (Err x) (Ok y) f g = absurd (omega (arith, ap short_number f.refused.0, f.code_is, g.code_is))
-  took-alike (Ok x) (Err y) f g = absurd (omega (arith, ap short_number g.refused.0, f.code_is, g.code_is))
+  took-taken : (x y : Result Taken Untaken) → Took code w s k c l parent w' s' x → Took code w s k c l parent w'' s'' y → told_of x ≡ told_of y
+  took-taken x y f g =
+      let count : (told_of x).cells ≡ (told_of y).cells = f.cells_are ∙ sym g.cells_are in
+      let symbol : (told_of x).symbol ≡ (told_of y).symbol = one_symbol f.symbol_is g.symbol_is in
+      λ i. record { cells = count i; symbol = symbol i }
+
+  took-code : (x y : Result Taken Untaken) → Took code w s k c l parent w' s' x → Took code w s k c l parent w'' s'' y → code_of (named_in x) ≡ code_of (named_in y)
+  took-code x y f g =
+      f.code_is ∙ ap (λ (z : Taken). short_of k.rooms (record { room = S; units = c.kept + c.used + z.cells } ∷ [])) (took-taken x y f g) ∙ sym g.code_is
+
+  took-alike : (x y : Result Taken Untaken) → Took code w s k c l parent w' s' x → Took code w s k c l parent w'' s'' y → (x ≡ y) × (s' ≡ s'')
+  took-alike (Err x) (Err y) f g =
+      let short : x.short ≡ y.short = f.refused.0 ∙ sym g.refused.0 in
+      let taken : x.taken ≡ y.taken = took-taken (Err x) (Err y) f g in
+      ((λ i. Err (record { short = short i; taken = taken i })), f.refused.1 ∙ sym g.refused.1)
+  took-alike (Err x) (Ok y) f g = absurd (omega (arith, ap short_number f.refused.0, took-code (Err x) (Ok y) f g))
+  took-alike (Ok x) (Err y) f g = absurd (omega (arith, ap short_number g.refused.0, took-code (Ok x) (Err y) f g))
   took-alike (Ok x) (Ok y) f g =
-      let count : x.cells ≡ y.cells = f.cells_are ∙ sym g.cells_are in
-      let symbol : x.symbol ≡ y.symbol = one_symbol f.symbol_is g.symbol_is in
+      let taken : x ≡ y = took-taken (Ok x) (Ok y) f g in
+      let count : x.cells ≡ y.cells = ap (λ (z : Taken). z.cells) taken in
       let bottom : Same s' s'' 0 (9 * c.used) = record { is = f.bottom ∙ sym g.bottom } in
       let state : Same s' s'' (9 * c.used) (9 * x.cells) = one_lies f.lies (rw (sym count) at g.lies) in (
-        (λ i. Ok (record { cells = count i; symbol = symbol i })),
+        ap Ok taken,
         same_whole (9 * (c.used + x.cells)) (same-as (same_then bottom state (omega arith)) refl (omega arith)) (f.after ∙ sym (rw (sym count) at g.after)),
       )
 
   -- but for the states that W holds behind its buckets in use, and the part for runs
-  pub one-took : {x y : Result Taken Shortage} → Took code w s k c l parent w' s' x → Took code w s k c l parent w'' s'' y → bucket_place k.size k.buckets ≤ k.end
+  pub one-took : {x y : Result Taken Untaken} → Took code w s k c l parent w' s' x → Took code w s k c l parent w'' s'' y → bucket_place k.size k.buckets ≤ k.end
       → (x ≡ y) × (s' ≡ s'') × Outside (bucket_place k.size k.buckets) (k.end - bucket_place k.size k.buckets) w' w''
   one-took {x} {y} f g room =
       let one = took-alike x y f g in
@@ -274,7 +288,7 @@ one-held-state {k} {w} {start} {x} {y} f g = go f.is g.is
 pub one-ran : {k : Plan} {code w w' v' : List ℕ} {start : ℕ} {x y : StateAt} → OwnAsks k code w start → RanNow k code start w w' x → RanNow k code start w v' y
     → (x ≡ y) × Outside (k.end - runs_room k.size) (runs_room k.size) w' v'
 one-ran a r s =
-    let one = one-owned a.runs r.owned s.owned in
+    let one = one-owned a.runs.runs r.owned s.owned in
     let same : r.own ≡ s.own = one.result in
     let held = rw (← same) at s.held in
     (r.is ∙ ap (λ (z : Own). record { at = z.at; n = z.n }) same ∙ sym s.is, one-hold (own-holds a r.owned) (rw a.is one.others) one.cells r.held held)
@@ -292,3 +306,11 @@ one-gave {k} {code} {w} {w'} {v'} {start} {x} {y} a f g = go f.is g.is
     go (inl p) (inr q) = absurd (p.0 q.0)
     go (inr p) (inl q) = absurd (q.0 p.0)
     go (inr p) (inr q) = one-ran a p.1 q.1
+
+-- ---- a search goes on, or ends by a shortage
+
+pub ended-same : (x y : Result Unit Shortage) → code_of x ≡ code_of y → x ≡ y
+ended-same (Ok x) (Ok y) e = refl
+ended-same (Ok x) (Err y) e = absurd (short-some y (sym e))
+ended-same (Err x) (Ok y) e = absurd (short-some x e)
+ended-same (Err x) (Err y) e = ap Err (short-same x y e)

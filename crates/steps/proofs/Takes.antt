@@ -33,6 +33,8 @@ use Rattle.steps.specs.Plans.{mode_in}
 use Rattle.steps.specs.declared.plan.Plan.{Plan}
 use Rattle.steps.specs.Helds.{OwnAsks, Gave}
 use Rattle.steps.specs.declared.own.StateAt.{StateAt}
+use Rattle.steps.specs.declared.state_of.Taken.{Taken}
+use Rattle.steps.specs.declared.state_of.Untaken.{Untaken}
 use Rattle.steps.proofs.Helds.{BehindBuckets, Given, given}
 use Rattle.steps.specs.declared.Level.{Level}
 
@@ -60,6 +62,10 @@ module _ (mode : ℕ) (code r s : List ℕ) (room at : ℕ) where
   cursor-kept h = if-false (ltb at 0x10000) _ _ (le-ltb at 0x10000 h)
 
 -- ---- S is short, or not
+
+-- what is told where S is short of a state of m cells
+abbrev pub without : ℕ → StackSym → Untaken
+without m y = record { short = short.S; taken = record { cells = m; symbol = y } }
 
 module _ (k : Rooms) (units : ℕ) where
   one-short : k.s < units → 5 ≡ short_of k (record { room = S; units = units } ∷ [])
@@ -101,13 +107,13 @@ module _ {code w s r : List ℕ} {k : Plan} {c : Counts} {l : Level} {at : ℕ} 
           }
 
       module _ {w' : List ℕ} (o : BehindBuckets k code w w') where
-        took-short : k.rooms.s < c.kept + c.used + m → Took code w s k c l P w' s (Err short.S)
+        took-short : {y : StackSym} → sym_of y ≡ read (stack_at b from n) l.position → k.rooms.s < c.kept + c.used + m → Took code w s k c l P w' s (Err (without m y))
         unfolding C
-        took-short h =
+        took-short z h =
             record {
-              code_is = rw (e, ← count) (one-short k.rooms (c.kept + c.used + m) h);
-              cells_are = tt;
-              symbol_is = tt;
+              code_is = one-short k.rooms (c.kept + c.used + m) h;
+              cells_are = rw e count;
+              symbol_is = rw e z;
               fits = tt;
               lies = tt;
               refused = (refl, refl);
@@ -127,7 +133,7 @@ module _ {code w s r : List ℕ} {k : Plan} {c : Counts} {l : Level} {at : ℕ} 
         took-all x {s'} {v} h d =
             let room : c.kept + c.used + v ≤ k.rooms.s = omega (arith, count, d.count) in
             record {
-              code_is = rw (e, ← d.count) (one-fits k.rooms (c.kept + c.used + v) room);
+              code_is = one-fits k.rooms (c.kept + c.used + v) room;
               cells_are = rw e d.count;
               symbol_is = rw e x;
               fits = room;
@@ -165,11 +171,11 @@ module _ {code w s r : List ℕ} {k : Plan} {c : Counts} {l : Level} {at : ℕ} 
         pub direct-composes : c.kept + c.used + m ≤ k.rooms.s → Composes s (9 * l.from) l.cells (9 * c.used) w' x.at x.n
         direct-composes = composes own_is o.lies.state f d
 
-        pub direct-short : k.rooms.s < c.kept + c.used + m → Took code w s k c l (stack_cursor (mode_in k) code r s k.rooms.s at) w' s (Err short.S)
-        unfolding P
-        direct-short = took-short own_is o.lies.state f d o.beyond
-
         module _ {y : StackSym} (z : sym_of y ≡ read (stack_at w' x.at x.n) l.position) where
+          pub direct-short : k.rooms.s < c.kept + c.used + m → Took code w s k c l (stack_cursor (mode_in k) code r s k.rooms.s at) w' s (Err (without m y))
+          unfolding C P
+          direct-short = took-short own_is o.lies.state f d o.beyond z
+
           pub direct-took : {s' : List ℕ} {v : ℕ} → c.kept + c.used + m ≤ k.rooms.s
               → Composed s (9 * c.used) (compose (stack_at s (9 * l.from) l.cells) (stack_at w' x.at x.n)) s' v
               → Took code w s k c l (stack_cursor (mode_in k) code r s k.rooms.s at) w' s' (Ok (record { cells = v; symbol = y }))
@@ -213,11 +219,11 @@ module _ {code w s r : List ℕ} {k : Plan} {c : Counts} {l : Level} {at : ℕ} 
               clear = λ j. absurd (omega (arith, count found-is found-state f g, kept-is, q.kept h));
             }
 
-        pub found-short : k.rooms.s < c.kept + c.used + m → Took code w s k c l (stack_cursor (mode_in k) code r s k.rooms.s at) w s (Err short.S)
-        unfolding P
-        found-short = took-short found-is found-state f g same
-
         module _ {y : StackSym} (z : sym_of y ≡ read (stack_at s (9 * (k.rooms.s - kept)) (kept - before)) l.position) where
+          pub found-short : k.rooms.s < c.kept + c.used + m → Took code w s k c l (stack_cursor (mode_in k) code r s k.rooms.s at) w s (Err (without m y))
+          unfolding C P
+          found-short = took-short found-is found-state f g same z
+
           pub found-took : {s' : List ℕ} {v : ℕ} → c.kept + c.used + m ≤ k.rooms.s
               → Composed s (9 * c.used) (compose (stack_at s (9 * l.from) l.cells) (stack_at s (9 * (k.rooms.s - kept)) (kept - before))) s' v
               → Took code w s k c l (stack_cursor (mode_in k) code r s k.rooms.s at) w s' (Ok (record { cells = v; symbol = y }))

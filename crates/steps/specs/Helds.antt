@@ -9,9 +9,9 @@ use Rattle.spec.specs.Rooms.{longest}
 use Rattle.lent.specs.Bytes.{num_at, Stored}
 use Rattle.layout.specs.Parts.{link_place, filled_place, cell_place}
 use Rattle.state.specs.Cells.{Lies}
-use Rattle.exec.specs.Owns.{runs_room, Owned, Runs}
+use Rattle.exec.specs.Owns.{runs_room, Owned}
 use Rattle.exec.specs.declared.run.Own.{Own}
-use Rattle.steps.specs.Plans.{mode_in}
+use Rattle.steps.specs.Plans.{mode_in, RunsIn}
 use Rattle.steps.specs.declared.plan.Plan.{Plan}
 use Rattle.steps.specs.declared.own.StateAt.{StateAt}
 
@@ -81,7 +81,7 @@ pub record HeldIs (k : Plan) (w : List ℕ) (start : ℕ) (x : Option StateAt) :
       ⊎ ((link_of k w start ≡ 0 → ⊥) × (x ≡ Some (record { at = cell_of k (link_of k w start); n = count_of k w (link_of k w start - 1) })))
 
 pub record OwnAsks (k : Plan) (code w : List ℕ) (start : ℕ) : Type 0 where
-  pub runs : Runs code w k.end
+  pub runs : RunsIn code w k
   pub helds : Helds k code w
   pub is : k.size ≡ length code
   pub inside : start ≤ k.size

@@ -2,11 +2,12 @@
 // "each block with its own stack": whenever the block is run, the stack is the same.
 ghost use Rattle.std.specs.Prelude.{◌≡◌, ◌^◌, ◌<◌};
 ghost use Rattle.layout.specs.Parts.{bucket_place};
-ghost use Rattle.exec.specs.Owns.{Owned, Runs};
-ghost use Rattle.steps.specs.Plans.{mode_in};
+ghost use Rattle.exec.specs.Owns.{Owned};
+ghost use Rattle.steps.specs.Plans.{mode_in, RunsIn};
 ghost use Rattle.steps.specs.Helds.{HoldAsks, HoldDone, HeldAsks, HeldIs, OwnAsks, RanNow, Gave};
 
 use crate::plan::Plan;
+use exec::mode::mode_of;
 use exec::run::{Own, run};
 use layout::part::{BUCKET, BUCKETS, CELL, FILLED, LINK, RUNS_MORE};
 use lent::{copy_within, get16, get32, put16, put32};
@@ -23,10 +24,10 @@ pub struct StateAt {
 
 // Runs the block at `start` in the plan's mode, and stores its state in W's part for runs.
 fn run_block(code: &[u8], w: &mut [u8], plan: &Plan, start: usize) -> Own
-    requires { Runs code.now w.old plan.now.end }
+    requires { RunsIn code.now w.old plan.now }
     ensures { Owned (mode_in plan.now) code.now start w.old plan.now.end w.new result }
 {
-    run(plan.mode, code, start, w, plan.end)
+    run(mode_of(plan.mode), code, start, w, plan.end)
 }
 
 // Where the links begin: behind the buckets in use.

@@ -27,6 +27,23 @@ pub struct Taken {
     pub symbol: StackSym,
 }
 
+// Why a state was not taken: the room that is short, and what would have been taken.
+#[derive(Clone, Copy)]
+pub struct Untaken {
+    pub short: Shortage,
+    pub taken: Taken,
+}
+
+impl From<Untaken> for Shortage {
+    ghost use Rattle.std.specs.Prelude.{◌≡◌};
+
+    ghost from_gives = { λ untaken short. short ≡ untaken.short };
+
+    fn from(untaken: Untaken) -> Shortage {
+        untaken.short
+    }
+}
+
 // Takes the own state of a direct parent, which stands in W. `take_found` stays a function of its own, which is plainer: what the two share is `state`'s composing, and each
 // finds the state by numbers of its own and lends it from another buffer.
 fn take_direct(
@@ -38,7 +55,7 @@ fn take_direct(
     counts: Counts,
     level: Level,
     at: usize,
-) -> Result<Taken, Shortage>
+) -> Result<Taken, Untaken>
     requires composing { Composing code.now w.old s.old r.now plan.now counts level at }
     requires at_bound { at < 0x10000 }
     ensures { Took code.now w.old s.old plan.now counts level (stack_cursor (mode_in plan.now) code.now r.now s.old plan.now.rooms.s at)
@@ -54,7 +71,10 @@ fn take_direct(
     );
     let room = plan.rooms.s;
     if room < counts.kept + counts.used + cells {
-        return Err(Shortage::S);
+        return Err(Untaken {
+            short: Shortage::S,
+            taken: Taken { cells, symbol },
+        });
     }
     let made = compose_own(
         w,
@@ -81,7 +101,7 @@ fn take_found(
     counts: Counts,
     level: Level,
     at: usize,
-) -> Result<Taken, Shortage>
+) -> Result<Taken, Untaken>
     requires composing { Composing code.now w.old s.old r.now plan.now counts level at }
     requires le_at { 0x10000 ≤ at }
     ensures { Took code.now w.old s.old plan.now counts level (stack_cursor (mode_in plan.now) code.now r.now s.old plan.now.rooms.s at)
@@ -98,7 +118,10 @@ fn take_found(
         theirs,
     );
     if room < counts.kept + counts.used + cells {
-        return Err(Shortage::S);
+        return Err(Untaken {
+            short: Shortage::S,
+            taken: Taken { cells, symbol },
+        });
     }
     let made = compose_kept(
         s,
@@ -136,7 +159,7 @@ pub fn take_state(
     counts: Counts,
     level: Level,
     at: usize,
-) -> Result<Taken, Shortage>
+) -> Result<Taken, Untaken>
     requires { Composing code.now w.old s.old r.now plan.now counts level at }
     ensures { Took code.now w.old s.old plan.now counts level (stack_cursor (mode_in plan.now) code.now r.now s.old plan.now.rooms.s at)
         w.new s.new result }

@@ -2,7 +2,7 @@
 use mathlib.Core.Path.{◌∙◌}
 use mathlib.Core.List.{List}
 use Prim.Native.Nat.{ℕ}
-use Rattle.layout.specs.Rows.{read_at}
+use Rattle.layout.specs.Rows.{numbers_at}
 use Rattle.parents.specs.Writes.{link_sides}
 use Rattle.parents.specs.Promises.{Sides, Wrote, Settled, PreparesRow, PreparedRow}
 use Rattle.parents.proofs.prepare_row.Goals as goal
@@ -11,7 +11,7 @@ module _ {mode : ℕ} {code w : List ℕ} {end a many : ℕ} (p : PreparesRow mo
   row-sides : {v : List ℕ} {r : ℕ} → Settled mode code w end a many v r → Sides v a
   row-sides {v} {r} s = p.sides v r s
 
-  row-both : {v w' : List ℕ} {r : ℕ} → Settled mode code w end a many v r → Wrote v w' (link_sides v a (read_at v a)) → PreparedRow mode code w end a many w' r
+  row-both : {v w' : List ℕ} {r : ℕ} → Settled mode code w end a many v r → Wrote v w' (link_sides v a (numbers_at v a)) → PreparedRow mode code w end a many w' r
   row-both {v} s d = record { between = v; settled = s; linked = d; kept = d.kept ∙ s.kept }
 
 pub link_sides-requires : goal.link_sides-requires

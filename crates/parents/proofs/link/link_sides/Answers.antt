@@ -1,5 +1,8 @@
-use Rattle.parents.proofs.Leaves.{room-to, room-other, room-once, room-then, room-false, sides-empty, sides-jump, sides-once, sides-both, sides-false, sides-none}
+use Rattle.parents.proofs.Leaves.{room-to, room-other, room-once, room-then, room-false, sides-unknown, sides-empty, sides-jump, sides-once, sides-both, sides-false, sides-none}
 use Rattle.parents.proofs.link.link_sides.Goals as goal
+
+pub returns-then-not-is_known : goal.returns-then-not-is_known
+returns-then-not-is_known c = search sides-unknown
 
 pub returns-in_default : goal.returns-in_default
 returns-in_default c = search sides-empty

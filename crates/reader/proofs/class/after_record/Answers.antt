@@ -1,5 +1,5 @@
 -- `after_record` meets its contract: each way out is a law of the order. Assumes nothing.
-use Rattle.reader.proofs.Classing.{record-owed, record-met, record-same, record-other}
+use Rattle.reader.proofs.Classing.{record-owed, record-met}
 use Rattle.reader.proofs.class.after_record.Goals as goal
 
 pub returns-then-left-ne0 : goal.returns-then-left-ne0
@@ -7,9 +7,3 @@ returns-then-left-ne0 c = search record-owed
 
 pub returns-else-left-ne0 : goal.returns-else-left-ne0
 returns-else-left-ne0 c = search record-met
-
-pub returns-then-numbered-before : goal.returns-then-numbered-before
-returns-then-numbered-before c = search record-other
-
-pub returns-else-numbered-before : goal.returns-else-numbered-before
-returns-else-numbered-before c = search record-same

@@ -2,8 +2,8 @@
 use Rattle.entries.proofs.Listed.{listed-any, listed-led}
 use Rattle.entries.proofs.found.Found.is_listed.Goals as goal
 
-pub returns-then-not-drops_some : goal.returns-then-not-drops_some
-returns-then-not-drops_some c = search listed-any
+pub returns-then-kind-ne-DYNAMIC_JUMP : goal.returns-then-kind-ne-DYNAMIC_JUMP
+returns-then-kind-ne-DYNAMIC_JUMP c = search listed-any
 
 pub returns : goal.returns
 returns c = search listed-led

@@ -1,7 +1,7 @@
--- `type_of` meets its contract: each kind's byte, and every other, which is DynamicJumpi. Assumes nothing.
+-- `block` meets its contract: each kind's byte, and every other, which is DynamicJumpi. Assumes nothing.
 use native.Mathlib.Omega.{arith}
 use Rattle.layout.proofs.Types.{read-none, read-some, typed-failure, typed-success, typed-jump, typed-jumpi, typed-dynamic_jump, typed-dynamic_jumpi}
-use Rattle.layout.proofs.row.type_of.Goals as goal
+use Rattle.layout.proofs.row.RowType.block.Goals as goal
 
 pub returns-in-0 : goal.returns-in-0
 returns-in-0 c = search read-none
