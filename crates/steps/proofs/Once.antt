@@ -138,6 +138,11 @@ one-noted {p} {np} {start} {energy} {k} {m} {m'} {m''} {c} {x} {a} {e} b d f g =
         let y : e.code ≡ 0 → ⊥ = λ h. z (code ∙ h) in
         (one_answer code ((f.refused z).1 ∙ sym (g.refused y).1), (f.refused z).0 ∙ sym (g.refused y).0)
 
+-- `land` answers one result
+pub one-landed : {p : List ℕ} {np start energy : ℕ} {k : Plan} {m m' m'' : tables.Mem} {c : Counts} {x : Found} (a e : Result Counts Shortage) → AllBytes m' → AllBytes m''
+    → Noted p np k m c start energy x m' (reply_of c a) → Noted p np k m c start energy x m'' (reply_of c e) → (a ≡ e) × (m' ≡ m'')
+one-landed {c = c} a e b d f g = let one = one-noted b d f g in (reply-same c a e one.0, one.1)
+
 -- ---- what is met
 
 pub one-met : {t s u v : List ℕ} {k : Plan} {c : Counts} {x : Seen} {a e : Meeting} → Bytes u → Bytes v → Met t s k c x u a → Met t s k c x v e → (a ≡ e) × (u ≡ v)
